@@ -1,0 +1,5 @@
+pub mod Digits
+pub mod Blanks
+pub mod Count
+pub mod Shares
+pub mod Sums

@@ -1,0 +1,9 @@
+ghost use Rattle.std.specs.Prelude.{◌≡◌};
+ghost use Rattle.scan_core.specs.Blanks.{is_blank};
+
+/// True for the six blanks of ASCII, 0x09 to 0x0D and 0x20: `is_blank(b' ')` is true, `is_blank(b'x')` isn't.
+pub fn is_blank(byte: u8) -> bool
+    ensures { result ≡ is_blank byte }
+{
+    (9..=13).contains(&byte) || byte == b' '
+}

@@ -1,0 +1,18 @@
+//! Digits, exact decimals, shares of time units, exact sums and short texts: what the readers and writers
+//! of this repository have in common.
+//!
+//! A count such as `1.99 years` has a share: 23 whole months and the fraction of the next one, rounded half
+//! away from zero, for any number of digits. No float and no memory is used anywhere.
+#![tactic(auto)]
+
+mod blank;
+mod digits;
+mod share;
+mod text;
+mod totals;
+
+pub use blank::is_blank;
+pub use digits::{digits_u32, n_digits_in};
+pub use share::{Part, Share, Unit};
+pub use text::{Short, push_num, push_padded, push_text};
+pub use totals::Totals;
