@@ -1,0 +1,33 @@
+-- What a text denotes, for any style. A style is a shape: a relation between a whole text and the counts that it spells.
+use Rattle.std.specs.Prelude.{◌≡◌, ℕ, IsTrue, List, Option, Some}
+use Rattle.scan_core.specs.Count.{Count}
+use Rattle.scan_core.specs.Sums.{total, fits, misfit}
+use Rattle.scan_core.specs.declared.share.Part.{Part}
+use Rattle.scan_core.specs.declared.share.Part.TheVariants.{Months, Days, Micros}
+use Rattle.pg_interval_2.specs.declared.interval.Interval.{Interval}
+use Rattle.pg_interval_2.specs.declared.error.ParseError.{ParseError}
+use Rattle.pg_interval_2.specs.declared.error.ParseError.TheVariants.{InvalidInterval, InvalidYearMonth, InvalidDay, InvalidTime}
+use Rattle.pg_interval_2.specs.Messages.{year_month_overflow, day_overflow, time_overflow}
+
+-- the sums of the shares of all counts
+abbrev pub sum_of : List Count → Interval
+sum_of counts = record { months = total Months counts; days = total Days counts; microseconds = total Micros counts }
+
+-- the text spells counts that fit, and the interval is their sum
+abbrev pub Denotes : (List ℕ → List Count → Type 0) → List ℕ → Interval → Type 0
+Denotes Shape text t = (counts : List Count) × Shape text counts × IsTrue (fits counts) × (t ≡ sum_of counts)
+
+-- the text spells no counts
+abbrev pub HasNoShape : (List ℕ → List Count → Type 0) → List ℕ → Type 0
+HasNoShape Shape text = (counts : List Count) → Shape text counts → ⊥
+
+-- the text spells counts, and this is the first part of which a share or the sum leaves its type
+abbrev pub Misfits : (List ℕ → List Count → Type 0) → List ℕ → Part → Type 0
+Misfits Shape text part = (counts : List Count) × Shape text counts × (misfit counts ≡ Some part)
+
+-- Why a text is refused: it has no shape, or a part doesn't fit. Each refusal has one message.
+abbrev pub Refuses : (List ℕ → List Count → Type 0) → List ℕ → List ℕ → ParseError → Type 0
+Refuses Shape message text (InvalidInterval m) = HasNoShape Shape text × (m.now ≡ message)
+Refuses Shape message text (InvalidYearMonth m) = Misfits Shape text Months × (m.now ≡ year_month_overflow)
+Refuses Shape message text (InvalidDay m) = Misfits Shape text Days × (m.now ≡ day_overflow)
+Refuses Shape message text (InvalidTime m) = Misfits Shape text Micros × (m.now ≡ time_overflow)

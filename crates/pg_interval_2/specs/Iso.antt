@@ -1,0 +1,48 @@
+-- The ISO style, PostgreSQL's reading of ISO 8601 durations "with designators" (its manual, section 8.5.4), letters in any order:
+-- `P` and counts, then perhaps `T` and further counts. `P` alone is no interval.
+use Rattle.std.specs.Prelude.{◌≡◌, ◌≢◌, ◌⊎◌, ℕ, Bool, false, List, [], ◌∷◌, ◌++◌, codes, Option, Some, None, ◌==◌, if◌then◌else◌}
+use Rattle.scan_core.specs.Count.{Count}
+use Rattle.scan_core.specs.Join.{IsJoin}
+use Rattle.scan_core.specs.Number.{IsNumber}
+use Rattle.scan_core.specs.declared.share.Unit.{Unit as TimeUnit}
+use Rattle.scan_core.specs.declared.share.Unit.TheVariants.{Year, Month, Day, Hour, Minute, Second}
+
+-- the unit that a letter means: 89 is `Y`, 77 `M`, 68 `D`, 72 `H` and 83 `S`; behind the `T`, `M` is minutes, and `S` stands there alone
+abbrev pub date_unit : ℕ → Option TimeUnit
+date_unit letter =
+    if letter == 89 then Some Year else if letter == 77 then Some Month else if letter == 68 then Some Day else if letter == 72 then Some Hour else None
+
+abbrev pub time_unit : ℕ → Option TimeUnit
+time_unit letter =
+    if letter == 89 then Some Year else if letter == 77 then Some Minute else if letter == 68 then Some Day else if letter == 72 then Some Hour else if letter == 83 then Some Second else None
+
+-- a number, with no plus, and the letter of its unit
+pub record IsPair (unit_of : ℕ → Option TimeUnit) (piece : List ℕ) (c : Count) : Type 0 where
+  pub number : List ℕ
+  pub letter : ℕ
+  pub digits : IsNumber false c.negative c.whole c.fraction number
+  pub unit : unit_of letter ≡ Some c.unit
+  pub joined : piece ≡ number ++ letter ∷ []
+
+-- pairs in a row
+abbrev pub ArePairs : (ℕ → Option TimeUnit) → List ℕ → List Count → Type 0
+ArePairs unit_of = IsJoin (IsPair unit_of)
+
+-- `P` and pairs, at least one
+abbrev pub IsDateAlone : List ℕ → List Count → Type 0
+IsDateAlone text counts = (date : List ℕ) × ArePairs date_unit date counts × (date ≢ []) × (text ≡ codes "P" ++ date)
+
+-- `P` and pairs, then `T` and pairs
+pub record IsDateAndTime (text : List ℕ) (counts : List Count) : Type 0 where
+  pub date : List ℕ
+  pub time : List ℕ
+  pub date_counts : List Count
+  pub time_counts : List Count
+  pub dates : ArePairs date_unit date date_counts
+  pub times : ArePairs time_unit time time_counts
+  pub spelled : text ≡ codes "P" ++ (date ++ (codes "T" ++ time))
+  pub counted : counts ≡ date_counts ++ time_counts
+
+-- the text is in ISO style and spells these counts, in order
+abbrev pub IsIso : List ℕ → List Count → Type 0
+IsIso text counts = IsDateAlone text counts ⊎ IsDateAndTime text counts

@@ -1,0 +1,24 @@
+-- The one text that is written of an interval in ISO style: `P1Y2M3DT4H5M6.500000S`, and `PT0S` of zero.
+use Rattle.std.specs.Prelude.{ℕ, ℤ, pos, unsigned_abs, Bool, List, [], ◌∷◌, ◌++◌, codes, decimal, ◌==◌, ◌&&◌, if◌then◌else◌}
+use Rattle.std.specs.Ordering.{int_eq}
+use Rattle.std.specs.Int.{is_negative}
+use Rattle.scan_core.specs.Padded.{padded}
+use Rattle.pg_interval_2.specs.Parts.{minus, years_of, months_of, hours_of, minutes_of, seconds_of, subsecond_of}
+
+-- a number with its minus and its letter, or nothing where it is 0
+unfoldable pub iso_part : Bool → ℕ → List ℕ → List ℕ
+iso_part negative n letter = if n == 0 then [] else (minus negative ++ (decimal n ++ letter))
+
+-- the seconds: `6S` without microseconds, `6.500000S` with both, `.500000S` with microseconds alone
+unfoldable pub iso_seconds : Bool → ℕ → ℕ → List ℕ
+iso_seconds negative seconds micros =
+    if micros == 0 then iso_part negative seconds (codes "S") else (minus negative ++ ((if seconds == 0 then [] else decimal seconds) ++ (codes "." ++ (padded 6 micros ++ codes "S"))))
+
+-- the time, or nothing where it is 0
+unfoldable pub iso_time : ℤ → List ℕ
+iso_time micros =
+    if int_eq micros (pos 0) then [] else (codes "T" ++ (iso_part (is_negative micros) (hours_of micros) (codes "H") ++ (iso_part (is_negative micros) (minutes_of micros) (codes "M") ++ iso_seconds (is_negative micros) (seconds_of micros) (subsecond_of micros))))
+
+unfoldable pub iso_text : ℤ → ℤ → ℤ → List ℕ
+iso_text months days micros =
+    if int_eq months (pos 0) && (int_eq days (pos 0) && int_eq micros (pos 0)) then codes "PT0S" else (codes "P" ++ (iso_part (is_negative months) (years_of months) (codes "Y") ++ (iso_part (is_negative months) (months_of months) (codes "M") ++ (iso_part (is_negative days) (unsigned_abs days) (codes "D") ++ iso_time micros))))

@@ -1,0 +1,5 @@
+pub mod Denotes
+pub mod Iso
+pub mod Parts
+pub mod IsoText
+pub mod Messages

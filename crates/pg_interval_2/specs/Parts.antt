@@ -1,0 +1,26 @@
+-- The parts of an interval's numbers, by magnitude: all parts of one number have its sign.
+use Rattle.std.specs.Prelude.{ℕ, ◌/◌, ◌%◌, ℤ, unsigned_abs, Bool, List, [], codes, if◌then◌else◌}
+
+-- the minus of a negative number
+abbrev pub minus : Bool → List ℕ
+minus negative = if negative then codes "-" else []
+
+-- years and months of a number of months
+abbrev pub years_of : ℤ → ℕ
+years_of months = unsigned_abs months / 12
+
+abbrev pub months_of : ℤ → ℕ
+months_of months = unsigned_abs months % 12
+
+-- hours, minutes, seconds and microseconds of a number of microseconds
+abbrev pub hours_of : ℤ → ℕ
+hours_of micros = unsigned_abs micros / 3_600_000_000
+
+abbrev pub minutes_of : ℤ → ℕ
+minutes_of micros = unsigned_abs micros / 60_000_000 % 60
+
+abbrev pub seconds_of : ℤ → ℕ
+seconds_of micros = unsigned_abs micros / 1_000_000 % 60
+
+abbrev pub subsecond_of : ℤ → ℕ
+subsecond_of micros = unsigned_abs micros % 1_000_000

@@ -1,0 +1,13 @@
+//! PostgreSQL intervals: months, days and microseconds, read from and written in the server's output styles,
+//! exactly. A count such as `1.99 years` is rounded once, half away from zero, however many digits it has; each
+//! count and each sum must fit its type, and no sum on the way is tested.
+//!
+//! Ported from the crate `pg_interval_2` of Rust. Readers and `text` take no memory.
+#![tactic(auto)]
+
+mod error;
+mod interval;
+
+pub use error::ParseError;
+pub use interval::Interval;
+pub use scan_core::Short;
