@@ -3,3 +3,4 @@ pub mod Iso
 pub mod Parts
 pub mod IsoText
 pub mod Messages
+pub mod Styles

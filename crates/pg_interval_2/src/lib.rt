@@ -7,7 +7,9 @@
 
 mod error;
 mod interval;
+mod style;
 
 pub use error::ParseError;
 pub use interval::Interval;
 pub use scan_core::Short;
+pub use style::Style;

@@ -1,0 +1,6 @@
+/// An output style of PostgreSQL, as its setting `IntervalStyle` names them.
+#[derive(Clone, Copy, Debug, PartialEq, Eq)]
+pub enum Style {
+    /// `iso_8601`: `P1Y2M3DT4H5M6S`.
+    Iso,
+}
