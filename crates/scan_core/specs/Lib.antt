@@ -3,3 +3,4 @@ pub mod Blanks
 pub mod Count
 pub mod Shares
 pub mod Sums
+pub mod Bounds

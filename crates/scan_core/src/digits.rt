@@ -8,11 +8,20 @@ pub fn digits_u32(digits: &[u8]) -> Option<u32>
     ensures fits { IsSome result ↔ (number_of digits.now < 2 ^ 32) }
     ensures value { IfSome result (λ value. value ≡ number_of digits.now) }
 {
-    let mut value: u32 = 0;
+    u32::try_from(digits_u64(digits)?).ok()
+}
+
+/// The number that the digits write, which is 0 for none, or None exactly where it is above `u64::MAX`.
+pub(crate) fn digits_u64(digits: &[u8]) -> Option<u64>
+    requires { AreDigits digits.now }
+    ensures fits { IsSome result ↔ (number_of digits.now < 2 ^ 64) }
+    ensures value { IfSome result (λ value. value ≡ number_of digits.now) }
+{
+    let mut value: u64 = 0;
     for digit in digits {
         value = value
             .checked_mul(10)?
-            .checked_add(u32::from(*digit - b'0'))?;
+            .checked_add(u64::from(*digit - b'0'))?;
     }
     Some(value)
 }
