@@ -1,0 +1,49 @@
+-- Fractions cut and rounded: one more digit in front, no digits, six digits, and the greatest answer.
+use Rattle.std.proofs.Common.{◌≡◌, ℕ, suc, ◌+◌, ◌*◌, ◌/◌, ◌^◌, ◌<◌, ◌≤◌, List, [], ◌∷◌, length, refl, ap, sym, ◌∙◌, arith}
+use Rattle.std.proofs.Math.Nat.{add-mul-div_right, div-div-eq-div-mul, mul-div_cancel_left, mul-le-mul_right, one-le-pow, pow-suc}
+use Rattle.std.proofs.lemmas.Nat.{div-mul-add, div_below}
+use Rattle.std.specs.Char.{digit_value}
+use Rattle.scan_core.specs.Digits.{AreDigits, number_of}
+use Rattle.scan_core.specs.Shares.{rounded}
+use Rattle.scan_core.proofs.DigitFacts.{number_of-cons, number_of-lt}
+
+pub power-pos : (n : ℕ) → 0 < 10 ^ n
+power-pos n = one-le-pow n 10 (omega arith)
+
+-- a whole part d passes through a quotient, and then a quotient by ten is taken
+tenth : (d q p : ℕ) → 0 < p → (q + d * p) / (p * 10) ≡ (d + q / p) / 10
+tenth d q p h =
+    sym (div-div-eq-div-mul (q + d * p) p 10)
+    ∙ ap (λ (x : ℕ). x / 10) (add-mul-div_right q d h ∙ omega arith)
+
+-- the fraction below its digits in the next smaller unit, cut
+pub cut-cons : (scale d : ℕ) (ds : List ℕ) → number_of (d ∷ ds) * scale / 10 ^ length (d ∷ ds) ≡ (digit_value d * scale + number_of ds * scale / 10 ^ length ds) / 10
+cut-cons scale d ds =
+    let v = digit_value d in
+    let p = 10 ^ length ds in
+    let e : number_of (d ∷ ds) * scale ≡ number_of ds * scale + v * scale * p = rw (number_of-cons d ds) (omega arith) in
+    rw (e, pow-suc 10 (length ds)) (tenth (v * scale) (number_of ds * scale) p (power-pos (length ds)))
+
+pub cut-le : (scale : ℕ) (ds : List ℕ) → AreDigits ds → number_of ds * scale / 10 ^ length ds ≤ scale
+cut-le scale ds all =
+    let p = 10 ^ length ds in
+    let few = mul-le-mul_right scale (number_of-lt ds all) in
+    let below : number_of ds * scale / p < scale + 1 = div_below (number_of ds * scale) p (scale + 1) (power-pos (length ds)) (omega (arith, power-pos (length ds))) in
+    omega arith
+
+-- the same, rounded
+pub rounded-cons : (scale d : ℕ) (ds : List ℕ) → rounded scale (d ∷ ds) ≡ (digit_value d * scale + number_of ds * scale / 10 ^ length ds + 5) / 10
+unfolding rounded
+rounded-cons scale d ds = ?
+
+pub rounded-nil : (scale : ℕ) → rounded scale [] ≡ 0
+unfolding rounded
+rounded-nil scale = ?
+
+pub rounded-le : (scale : ℕ) (ds : List ℕ) → AreDigits ds → rounded scale ds ≤ scale
+unfolding rounded
+rounded-le scale ds all = ?
+
+pub rounded_six : (ds : List ℕ) → length ds ≡ 6 → rounded 1_000_000 ds ≡ number_of ds
+unfolding rounded
+rounded_six ds six = ?
