@@ -1,9 +1,10 @@
 -- Digits and the number that they write: one more digit, a front, a join, and the decimal text of a number.
-use Rattle.std.proofs.Common.{◌≡◌, ℕ, zero, suc, ◌+◌, ◌*◌, ◌^◌, ◌<◌, ◌≤◌, Bool, true, ◌&&◌, List, [], ◌∷◌, ◌++◌, length, get_or, take, drop, decimal, refl, ap, sym, ◌∙◌, arith, add-one}
+use Rattle.std.proofs.Common.{◌≡◌, ℕ, zero, suc, ◌+◌, ◌-◌, ◌*◌, ◌^◌, ◌<◌, ◌≤◌, Bool, true, ◌&&◌, List, [], ◌∷◌, ◌++◌, length, get_or, take, drop, decimal, append_assoc, refl, ap, sym, ◌∙◌, arith}
 use Rattle.std.proofs.Math.Nat.{pow-suc}
 use Rattle.std.proofs.lemmas.Bool.Decides.{nat_tests}
 use Rattle.std.proofs.lemmas.Fmt.{decimal_is_IsNumeral}
 use Rattle.std.proofs.lemmas.Int.Digits.{digits_value_more, digits_value-lt}
+use Rattle.std.proofs.lemmas.List.{drop_more, take_rest}
 use Rattle.std.proofs.lemmas.Str.{digit_value_digit}
 use Rattle.std.proofs.lemmas.Str.Parse.{digit_at, digit_from_value, digits_value-take-le}
 use Rattle.std.specs.Char.{digit_value, is_ascii_digit}
@@ -17,6 +18,9 @@ digit_is ds i all h = digit_value_digit (get_or ds i 0) (digit_at ds i all h)
 
 pub digit_value-lt : (ds : List ℕ) (i : ℕ) → AreDigits ds → i < length ds → digit_value (get_or ds i 0) < 10
 digit_value-lt ds i all h = let v = digit_value (get_or ds i 0) in omega (arith, digit_is ds i all h, (digit_at ds i all h).1)
+
+pub digit_is_alone : (d : ℕ) → digit_value d < 10 → digit_value d + 48 ≡ d
+digit_is_alone d h = digit_value_digit d (digit_from_value d h)
 
 -- ---- the number of some of the digits
 
@@ -87,6 +91,14 @@ digits_from_all (d ∷ ds) h =
 pub all_from_digits : (ds : List ℕ) → AreDigits ds → list_all is_ascii_digit ds ≡ true
 all_from_digits [] h = refl
 all_from_digits (d ∷ ds) h = rw (test_from_digit d h.0, all_from_digits ds h.1)
+
+-- the last of some digits goes over to those behind it
+pub moved : (front some passed all : List ℕ) (d : ℕ) → some ≡ front ++ (d ∷ []) → some ++ passed ≡ all → front ++ (d ∷ passed) ≡ all
+moved front some passed all d e h = sym (append_assoc front (d ∷ []) passed) ∙ ap (λ (xs : List ℕ). xs ++ passed) (sym e) ∙ h
+
+-- some digits are their first and the rest
+pub first_and_rest : (ds : List ℕ) → 1 ≤ length ds → ds ≡ get_or ds 0 0 ∷ take (length ds - 1) (drop 1 ds)
+first_and_rest ds h = drop_more ds 0 0 (omega arith) ∙ ap (λ (xs : List ℕ). get_or ds 0 0 ∷ xs) (sym (take_rest ds 1))
 
 -- ---- the decimal text of a number
 
