@@ -1,0 +1,9 @@
+use Rattle.std.proofs.Common.{◌≡◌, ◌+◌, ◌-◌, ◌≤◌, ◌++◌, length, decimal, replicate, max}
+use Rattle.arrayvec.specs.ArrayString.{array_string_len}
+use Rattle.scan_core.proofs.text.push_padded.Given as goal
+
+abbrev pub invariant-loop : goal.invariant-loop
+invariant-loop l = record {
+  zeros : l.out.bytes ≡ l.fn.out.bytes ++ replicate (l.counter - length l.digits) 48;
+  len : array_string_len l.out ≡ array_string_len l.fn.out + (l.counter - length l.digits);
+}
