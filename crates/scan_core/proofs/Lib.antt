@@ -1,2 +1,3 @@
 pub mod DigitFacts
 pub mod RoundingFacts
+pub mod ShareFacts
