@@ -1,4 +1,4 @@
-use Rattle.std.proofs.Common.{◌≡◌, ◌+◌, ◌*◌, ◌<◌, ap, arith, length, take}
+use Rattle.std.proofs.Common.{◌+◌, ap, arith}
 use Rattle.std.proofs.lemmas.List.{take_all}
 use Rattle.scan_core.specs.Digits.{number_of}
 use Rattle.scan_core.proofs.DigitFacts.{digit_is, number_of_more, number_of-take-le}
