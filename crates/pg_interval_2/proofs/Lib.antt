@@ -1,2 +1,5 @@
 pub mod Numbers
 pub mod IsoCounts
+pub mod TallyFacts
+pub mod IsoSteps
+pub mod Answering

@@ -5,3 +5,8 @@ pub mod IsoText
 pub mod Messages
 pub mod Styles
 pub mod Reading
+pub mod UnitNames
+pub mod Clock
+pub mod Postgres
+pub mod Tallies
+pub mod IsoTally

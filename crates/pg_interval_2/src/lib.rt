@@ -10,6 +10,7 @@ mod interval;
 mod iso;
 mod scan;
 mod style;
+mod tally;
 
 pub use error::ParseError;
 pub use interval::Interval;
