@@ -1,3 +1,4 @@
 pub mod DigitFacts
 pub mod RoundingFacts
 pub mod ShareFacts
+pub mod SumFacts
