@@ -83,3 +83,45 @@ impl Totals {
         }
     }
 }
+
+#[cfg(test)]
+mod tests {
+    use super::*;
+    use std::test::Fail;
+
+    /// The totals of shares of these months, days and microseconds.
+    fn totals_of(shares: &[(i32, i32, i64)]) -> Totals {
+        let mut totals = Totals::new();
+        for (months, days, micros) in shares {
+            totals.add(Share {
+                months: *months,
+                days: *days,
+                micros: *micros,
+            });
+        }
+        totals
+    }
+
+    #[test]
+    fn only_final_sums_are_tested(rt: HostRuntime) -> Result<(), Fail> {
+        let least = (i32::MIN, i32::MIN, i64::MIN);
+        let most = (i32::MAX, i32::MAX, i64::MAX);
+        for (shares, sums, out) in [
+            ([(0, 0, 0), (0, 0, 0), (0, 0, 0)], Some((0, 0, 0)), None),
+            ([least, (1, 1, 1), (-1, -1, -1)], Some(least), None),
+            (
+                [most, most, (-i32::MAX, -i32::MAX, -i64::MAX)],
+                Some(most),
+                None,
+            ),
+            ([most, (1, 1, 1), (0, 0, 0)], None, Some(Part::Months)),
+            ([least, (0, -1, -1), (0, 0, 0)], None, Some(Part::Days)),
+            ([least, (0, 0, -1), (0, 0, 0)], None, Some(Part::Micros)),
+        ] {
+            let totals = totals_of(&shares);
+            assert_eq!(rt; totals.fits(), sums, "at {shares:?}");
+            assert_eq!(rt; totals.first_out(), out, "at {shares:?}");
+        }
+        Ok(())
+    }
+}
