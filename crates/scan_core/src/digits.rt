@@ -31,7 +31,9 @@ pub(crate) fn digits_u64(digits: &[u8]) -> Option<u64>
 pub fn n_digits_in(text: &[u8], n: usize, lo: u32, hi: u32) -> Option<u32>
     requires least { 1 ≤ n }
     requires most { n ≤ 9 }
-    ensures found { IsSome result ↔ ((n ≤ length text.now) × AreDigits (take n text.now) × (lo ≤ number_of (take n text.now)) × (number_of (take n text.now) ≤ hi)) }
+    ensures found { IsSome result
+        ↔ ((n ≤ length text.now) × AreDigits (take n text.now)
+        × (lo ≤ number_of (take n text.now)) × (number_of (take n text.now) ≤ hi)) }
     ensures value { IfSome result (λ value. value ≡ number_of (take n text.now)) }
 {
     let digits = text.get(..n)?;

@@ -47,7 +47,8 @@ pub enum Part {
 pub fn count_share(whole: &[u8], fraction: &[u8], negative: bool, unit: Unit) -> Option<Share>
     requires whole { AreDigits whole.now }
     requires fraction { AreDigits fraction.now }
-    ensures fits { IsSome result ↔ IsTrue (fits_type (main_part unit) (share (main_part unit) (count_of negative whole.now fraction.now unit))) }
+    ensures fits { IsSome result
+        ↔ IsTrue (fits_type (main_part unit) (share (main_part unit) (count_of negative whole.now fraction.now unit))) }
     ensures months { IfSome result (λ given. given.months ≡ share Months (count_of negative whole.now fraction.now unit)) }
     ensures days { IfSome result (λ given. given.days ≡ share Days (count_of negative whole.now fraction.now unit)) }
     ensures micros { IfSome result (λ given. given.micros ≡ share Micros (count_of negative whole.now fraction.now unit)) }

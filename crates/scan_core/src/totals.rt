@@ -24,7 +24,9 @@ impl Model for Totals {
 
     ghost inverse = { λ sums. record { months = sums.months; days = sums.days; micros = sums.micros; adds = sums.adds } };
 
-    ghost invariant = { λ sums. IsBounded sums.adds sums.months × IsBounded sums.adds sums.days × IsBounded sums.adds sums.micros };
+    ghost invariant = { λ sums. IsBounded sums.adds sums.months
+        × IsBounded sums.adds sums.days
+        × IsBounded sums.adds sums.micros };
 }
 
 impl Totals {
@@ -56,7 +58,10 @@ impl Totals {
 
     /// The three sums, or None exactly where one leaves its type.
     pub fn fits(&self) -> Option<(i32, i32, i64)>
-        ensures fits { IsSome result ↔ (IsTrue (fits_type Months self.now.months) × IsTrue (fits_type Days self.now.days) × IsTrue (fits_type Micros self.now.micros)) }
+        ensures fits { IsSome result
+            ↔ (IsTrue (fits_type Months self.now.months)
+            × IsTrue (fits_type Days self.now.days)
+            × IsTrue (fits_type Micros self.now.micros)) }
         ensures months { IfSome result (λ sums. sums.0 ≡ self.now.months) }
         ensures days { IfSome result (λ sums. sums.1 ≡ self.now.days) }
         ensures micros { IfSome result (λ sums. sums.2 ≡ self.now.micros) }
@@ -70,7 +75,10 @@ impl Totals {
     /// The first of months, days and microseconds whose sum leaves its type, or None exactly where all three fit.
     pub fn first_out(&self) -> Option<Part>
         ensures part { result ≡ first_sum_out self.now }
-        ensures none { IsNone result ↔ (IsTrue (fits_type Months self.now.months) × IsTrue (fits_type Days self.now.days) × IsTrue (fits_type Micros self.now.micros)) }
+        ensures none { IsNone result
+            ↔ (IsTrue (fits_type Months self.now.months)
+            × IsTrue (fits_type Days self.now.days)
+            × IsTrue (fits_type Micros self.now.micros)) }
     {
         if i32::try_from(self.months).is_err() {
             Some(Part::Months)
