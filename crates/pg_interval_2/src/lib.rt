@@ -7,7 +7,10 @@
 
 mod error;
 mod interval;
+mod iso_text;
+mod parts;
 mod style;
+mod text;
 
 pub use error::ParseError;
 pub use interval::Interval;
