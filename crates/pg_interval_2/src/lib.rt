@@ -7,6 +7,7 @@
 
 mod error;
 mod interval;
+pub mod laws;
 mod iso_text;
 mod parts;
 mod style;
