@@ -12,7 +12,8 @@ use Rattle.pg_interval_2.specs.Denotes.{Denotes}
 use Rattle.pg_interval_2.specs.Iso.{IsIso}
 use Rattle.pg_interval_2.specs.IsoText.{iso_text}
 use Rattle.pg_interval_2.specs.Ranges.{IsInRange}
-use Rattle.pg_interval_2.proofs.WrittenDigits.{rounded-nil}
+use Rattle.scan_core.proofs.RoundingFacts.{rounded-nil}
+use Rattle.pg_interval_2.proofs.IsoCounts.{one_list}
 use Rattle.pg_interval_2.proofs.Signs.{fits_type-zero, abs_fits}
 use Rattle.pg_interval_2.proofs.AddsUp.{AddsUp, AddsUp-one, AddsUp-append, AddsUp-same}
 use Rattle.pg_interval_2.proofs.WrittenCounts.{magnitude-zero, zero_count, date_counts, time_counts, date_counts-months, date_counts-days, date_counts-micros, time_counts-months, time_counts-days, time_counts-micros}
@@ -45,9 +46,6 @@ iso_counts_sums t range = cond_both _ _ _ (λ counts. SumsTo counts t) (zero_sum
 
 spelled : (t : Interval) → IsInRange t → IsIso (iso_text t.months t.days t.microseconds) (iso_counts t.months t.days t.microseconds)
 spelled t range = iso_spelled t.months t.days t.microseconds (abs_fits Months t.months (fits_months t.months range.months)) (abs_fits Days t.days (fits_months t.days range.days)) (abs_fits Micros t.microseconds (fits_micros t.microseconds range.microseconds))
-
-one_list : (text : List ℕ) (a b : List Count) → IsIso text a → IsIso text b → a ≡ b
-one_list text a b = ?
 
 pub iso_denotes : (t : Interval) → IsInRange t → Denotes IsIso (iso_text t.months t.days t.microseconds) t
 iso_denotes t range = Denotes-SumsTo IsIso _ _ t range (spelled t range) (iso_counts_sums t range)

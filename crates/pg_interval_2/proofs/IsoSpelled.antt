@@ -2,6 +2,7 @@
 use Rattle.std.proofs.Common.{◌≡◌, ◌≢◌, ℕ, ◌+◌, ◌*◌, ◌/◌, ◌%◌, ◌<◌, ◌≤◌, ◌^◌, Bool, true, false, cond, ◌&&◌, IsTrue, List, [], ◌∷◌, ◌++◌, length, length-append, codes, decimal, if◌then◌else◌, ◌==◌, ℤ, pos, negsuc, unsigned_abs, Option, Some, refl, ap, sym, arith, inl, inr, append_assoc, append-nil, eqb-true, int_eq, true≢false, ⊎_elim, ◌∙◌}
 use Rattle.std.proofs.lemmas.Bool.{cond_both, cond-true, cond-false, cases_Bool}
 use Rattle.std.proofs.lemmas.Bool.Decides.{Decides-int_eq}
+use Rattle.std.proofs.lemmas.Fmt.{decimal_nonempty}
 use Rattle.std.specs.Int.{is_negative}
 use Rattle.scan_core.specs.Count.{Count}
 use Rattle.scan_core.specs.Digits.{AreDigits}
@@ -10,11 +11,12 @@ use Rattle.scan_core.specs.Number.{IsNumber}
 use Rattle.scan_core.specs.Padded.{padded}
 use Rattle.scan_core.specs.declared.share.Unit.{Unit as TimeUnit}
 use Rattle.scan_core.specs.declared.share.Unit.TheVariants.{Year, Month, Day, Hour, Minute, Second}
+use Rattle.scan_core.proofs.DigitFacts.{digits_decimal}
 use Rattle.pg_interval_2.specs.Iso.{IsPair, ArePairs, IsDateAlone, IsDateAndTime, IsIso, date_unit, time_unit}
 use Rattle.pg_interval_2.specs.IsoText.{iso_part, iso_seconds, iso_date, iso_time, iso_text}
 use Rattle.pg_interval_2.specs.Parts.{minus, years_of, months_of, hours_of, minutes_of, seconds_of, subsecond_of}
 use Rattle.pg_interval_2.proofs.JoinLemmas.{IsJoin-append, IsJoin-one}
-use Rattle.pg_interval_2.proofs.WrittenDigits.{AreDigits-decimal, decimal_some, AreDigits-padded, length-padded}
+use Rattle.pg_interval_2.proofs.WrittenDigits.{AreDigits-padded, length-padded}
 use Rattle.pg_interval_2.proofs.WrittenNumbers.{cond_two, IsNumber-whole, IsNumber-point}
 use Rattle.pg_interval_2.proofs.Signs.{abs_zero}
 use Rattle.pg_interval_2.proofs.WrittenCounts.{part_counts, seconds_counts, zero_count, date_counts, time_counts}
@@ -24,7 +26,7 @@ whole_pair : (unit_of : ℕ → Option TimeUnit) (negative : Bool) (n letter : �
 whole_pair unit_of negative n letter unit small means = record {
   number = minus negative ++ (decimal n ++ []);
   letter = letter;
-  digits = IsNumber-whole false negative (decimal n) (AreDigits-decimal n small) (decimal_some n small);
+  digits = IsNumber-whole false negative (decimal n) (digits_decimal n small) (decimal_nonempty n small);
   unit = means;
   joined = simp (append_assoc, append-nil);
 }
@@ -35,7 +37,7 @@ part_spelled unit_of negative n letter unit small means =
     cond_two (n == 0) (ArePairs unit_of) _ _ _ _ (λ _. refl) (λ _. IsJoin-one (IsPair unit_of) _ _ (whole_pair unit_of negative n letter unit small means))
 
 whole_digits : (n : ℕ) → n < 2 ^ 64 → AreDigits (if n == 0 then [] else decimal n)
-whole_digits n small = cond_both (n == 0) _ _ AreDigits (λ _. tt) (λ _. AreDigits-decimal n small)
+whole_digits n small = cond_both (n == 0) _ _ AreDigits (λ _. tt) (λ _. digits_decimal n small)
 
 -- seconds with microseconds that aren't 0
 point_pair : (negative : Bool) (seconds micros : ℕ) → seconds < 2 ^ 64 → micros < 1_000_000 → IsPair time_unit (minus negative ++ ((if seconds == 0 then [] else decimal seconds) ++ (codes "." ++ (padded 6 micros ++ codes "S")))) (record { negative = negative; whole = if seconds == 0 then [] else decimal seconds; fraction = padded 6 micros; unit = Second })

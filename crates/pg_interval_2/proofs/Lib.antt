@@ -9,3 +9,5 @@ pub mod IsoSpelled
 pub mod SumsTo
 pub mod IsoReadBack
 pub mod ReadBack
+pub mod Numbers
+pub mod IsoCounts

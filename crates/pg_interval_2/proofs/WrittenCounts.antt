@@ -12,7 +12,9 @@ use Rattle.scan_core.specs.declared.share.Unit.TheVariants.{Year, Month, Day, Ho
 use Rattle.scan_core.specs.declared.share.Part.{Part}
 use Rattle.scan_core.specs.declared.share.Part.TheVariants.{Months, Days, Micros}
 use Rattle.pg_interval_2.specs.Parts.{years_of, months_of, hours_of, minutes_of, seconds_of, subsecond_of}
-use Rattle.pg_interval_2.proofs.WrittenDigits.{number_of-decimal, rounded-nil, rounded-padded}
+use Rattle.scan_core.proofs.DigitFacts.{number_of-decimal}
+use Rattle.scan_core.proofs.RoundingFacts.{rounded-nil}
+use Rattle.pg_interval_2.proofs.WrittenDigits.{rounded-padded}
 use Rattle.pg_interval_2.proofs.Signs.{signed-zero, fits_type-smaller, fits_type-signed_zero, abs_fits, signed-abs, signed_two, signed_three}
 use Rattle.pg_interval_2.proofs.AddsUp.{AddsUp, AddsUp-nil, AddsUp-one, AddsUp-append, AddsUp-same}
 

@@ -1,20 +1,12 @@
 -- What written digits read back as: a number's digits, with leading zeros or not, and six digits behind a point.
 use Rattle.std.proofs.Common.{◌≡◌, ℕ, zero, suc, ◌+◌, ◌-◌, ◌*◌, ◌/◌, ◌^◌, ◌<◌, ◌≤◌, List, [], ◌∷◌, ◌++◌, length, decimal, replicate, arith, refl, ap, ◌∙◌, length-append, max}
 use Rattle.std.specs.Str.Parse.{digits_value_after, AllDigits}
-use Rattle.std.proofs.lemmas.Fmt.{decimal_is_IsNumeral}
 use Rattle.scan_core.specs.Digits.{AreDigits, number_of}
 use Rattle.scan_core.specs.Padded.{padded}
 use Rattle.scan_core.specs.Shares.{rounded}
+use Rattle.scan_core.proofs.DigitFacts.{digits_decimal, number_of-decimal}
+use Rattle.scan_core.proofs.RoundingFacts.{rounded_six}
 use Rattle.pg_interval_2.proofs.Widths.{length_decimal_micros}
-
-pub AreDigits-decimal : (n : ℕ) → n < 2 ^ 64 → AreDigits (decimal n)
-AreDigits-decimal n small = (decimal_is_IsNumeral n small).0.1
-
-pub decimal_some : (n : ℕ) → n < 2 ^ 64 → 0 < length (decimal n)
-decimal_some n small = (decimal_is_IsNumeral n small).0.0
-
-pub number_of-decimal : (n : ℕ) → n < 2 ^ 64 → number_of (decimal n) ≡ n
-number_of-decimal n small = (decimal_is_IsNumeral n small).1
 
 -- zeros in front of digits
 zeros_before : (k : ℕ) (digits : List ℕ) → AreDigits digits → AreDigits (replicate k 48 ++ digits)
@@ -30,7 +22,7 @@ length_zeros zero = refl
 length_zeros (suc k) = ap suc (length_zeros k)
 
 pub AreDigits-padded : (width n : ℕ) → n < 2 ^ 64 → AreDigits (padded width n)
-AreDigits-padded width n small = zeros_before (width - length (decimal n)) (decimal n) (AreDigits-decimal n small)
+AreDigits-padded width n small = zeros_before (width - length (decimal n)) (decimal n) (digits_decimal n small)
 
 pub number_of-padded : (width n : ℕ) → n < 2 ^ 64 → number_of (padded width n) ≡ n
 number_of-padded width n small = number_of-zeros (width - length (decimal n)) (decimal n) ∙ number_of-decimal n small
@@ -39,17 +31,7 @@ pub length-padded : (width n : ℕ) → length (padded width n) ≡ max width (l
 length-padded width n =
     omega (arith, length-append (replicate (width - length (decimal n)) 48) (decimal n), length_zeros (width - length (decimal n)))
 
--- no fraction digits are nothing of the next unit
-pub rounded-nil : (scale : ℕ) → rounded scale [] ≡ 0
-unfolding rounded
-rounded-nil scale = omega arith
-
 -- six fraction digits of a second are its microseconds
-rounded_six : (n : ℕ) → (2 * n * 1_000_000 + 10 ^ 6) / (2 * 10 ^ 6) ≡ n
-rounded_six n = omega arith
-
 pub rounded-padded : (n : ℕ) → n < 1_000_000 → rounded 1_000_000 (padded 6 n) ≡ n
-unfolding rounded
 rounded-padded n small =
-    let six : length (padded 6 n) ≡ 6 = omega (arith, length-padded 6 n, length_decimal_micros n small) in
-    rw (six, number_of-padded 6 n (omega arith)) (rounded_six n)
+    rounded_six (padded 6 n) (omega (arith, length-padded 6 n, length_decimal_micros n small)) ∙ number_of-padded 6 n (omega arith)

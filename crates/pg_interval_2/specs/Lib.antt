@@ -5,3 +5,4 @@ pub mod IsoText
 pub mod Ranges
 pub mod Messages
 pub mod Styles
+pub mod Reading

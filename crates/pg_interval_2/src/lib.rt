@@ -7,9 +7,11 @@
 
 mod error;
 mod interval;
-pub mod laws;
+mod iso;
 mod iso_text;
+pub mod laws;
 mod parts;
+mod scan;
 mod style;
 mod text;
 
