@@ -2,6 +2,7 @@ pub mod Denotes
 pub mod Iso
 pub mod Parts
 pub mod IsoText
+pub mod Ranges
 pub mod Messages
 pub mod Styles
 pub mod Reading
