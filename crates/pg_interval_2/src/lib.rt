@@ -8,6 +8,7 @@
 mod error;
 mod interval;
 mod iso;
+mod items;
 mod iso_text;
 pub mod laws;
 mod parts;
@@ -15,6 +16,7 @@ mod scan;
 mod style;
 mod tally;
 mod text;
+mod words;
 
 pub use error::ParseError;
 pub use interval::Interval;
