@@ -17,3 +17,7 @@ pub mod Answering
 pub mod ItemFacts
 pub mod ItemsInFront
 pub mod ItemsRead
+pub mod ItemWords
+pub mod Verdicts
+pub mod BadNames
+pub mod NoItems
