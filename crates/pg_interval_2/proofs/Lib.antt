@@ -21,3 +21,4 @@ pub mod ItemWords
 pub mod Verdicts
 pub mod BadNames
 pub mod NoItems
+pub mod PostgresCounts
