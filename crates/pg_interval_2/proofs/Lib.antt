@@ -22,3 +22,5 @@ pub mod Verdicts
 pub mod BadNames
 pub mod NoItems
 pub mod PostgresCounts
+pub mod UnitFacts
+pub mod CountedFacts

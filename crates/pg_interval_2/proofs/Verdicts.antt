@@ -51,7 +51,7 @@ number_kind negative whole fraction number h =
 
 -- ---- units
 
-counts_unit-append : (unit : TimeUnit) (xs ys : List Count) → counts_unit unit (xs ++ ys) ≡ (counts_unit unit xs || counts_unit unit ys)
+pub counts_unit-append : (unit : TimeUnit) (xs ys : List Count) → counts_unit unit (xs ++ ys) ≡ (counts_unit unit xs || counts_unit unit ys)
 counts_unit-append unit xs ys = list_any-append (λ c. place_of c.unit == place_of unit) xs ys
 
 neither : (x y : Bool) → (x || y) ≡ false → (x ≡ false) × (y ≡ false)
@@ -62,7 +62,7 @@ not_true : (x : Bool) → not x ≡ true → x ≡ false
 not_true true h = cc
 not_true false h = refl
 
-same_both : (a b : ℕ) → (a == b) ≡ false → (b == a) ≡ false
+pub same_both : (a b : ℕ) → (a == b) ≡ false → (b == a) ≡ false
 same_both a b h = grind (arith, nat_tests)
 
 -- the first of counts of which no unit is in two

@@ -13,3 +13,5 @@ pub mod Tallies
 pub mod IsoTally
 pub mod ItemReading
 pub mod ItemViews
+pub mod UnitSets
+pub mod CountedItems

@@ -5,6 +5,7 @@
 //! Ported from the crate `pg_interval_2` of Rust. Readers and `text` take no memory.
 #![tactic(auto)]
 
+mod counted;
 mod error;
 mod interval;
 mod iso;
@@ -17,6 +18,7 @@ mod style;
 mod tally;
 mod text;
 mod unit_name;
+mod units;
 mod words;
 
 pub use error::ParseError;
