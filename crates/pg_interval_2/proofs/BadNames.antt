@@ -23,7 +23,7 @@ use Rattle.pg_interval_2.proofs.Verdicts.{Names, AreNames, glued_kind, number_ki
 -- ---- a number and letters, judged
 
 named_split : (names : Names) (counts : List Count) (total : ℕ) (bytes : List ℕ) (n : Numeral) (letters rest : List ℕ) (h : StandsNamed bytes n letters rest) (blanks : List ℕ) → h.blanks ≡ blanks
-  → (next : List Count → Verdict) × (verdict names counts total (words bytes) ≡ judge_unit counts (total + length h.number) letters n (unit_named names letters) next)
+    → (next : List Count → Verdict) × (verdict names counts total (words bytes) ≡ judge_unit counts (total + length h.number) letters n (unit_named names letters) next)
 named_split names counts total bytes n letters rest h [] none =
     let word = h.number ++ letters in
     let split : bytes ≡ word ++ rest = h.split ∙ ap (λ (l : List ℕ). h.number ++ (l ++ (letters ++ rest))) none ∙ sym (append_assoc h.number letters rest) in
@@ -42,13 +42,14 @@ named_split names counts total bytes n letters rest h (b ∷ bs) some =
     let second = words-blanks (b ∷ bs) (letters ++ rest) blank ∙ words_in_front letters rest h.some (letters_no_blanks letters h.ascii) h.ends in
     let front : words bytes ≡ h.number ∷ letters ∷ words rest = ap words split ∙ first ∙ ap (λ (l : List (List ℕ)). h.number ∷ l) second in
     let kind = number_kind n.negative n.whole n.fraction h.number h.digits in
-    let name = is_name_of letters h.some h.ascii in
-    (λ cs. verdict names (counts ++ cs) (total + length h.number + length letters) (words rest),
-     ap (verdict names counts total) front ∙ verdict-word names counts total h.number (letters ∷ words rest) ∙ rw (kind, name) refl)
+    let name = is_name_of letters h.some h.ascii in (
+      λ cs. verdict names (counts ++ cs) (total + length h.number + length letters) (words rest),
+      ap (verdict names counts total) front ∙ verdict-word names counts total h.number (letters ∷ words rest) ∙ rw (kind, name) refl,
+    )
 
 -- a number with letters, behind blanks or none, in front of bytes
 pub named_words : (names : Names) (counts : List Count) (total : ℕ) (bytes : List ℕ) (n : Numeral) (letters rest : List ℕ) (h : StandsNamed bytes n letters rest)
-  → (next : List Count → Verdict) × (verdict names counts total (words bytes) ≡ judge_unit counts (total + length h.number) letters n (unit_named names letters) next)
+    → (next : List Count → Verdict) × (verdict names counts total (words bytes) ≡ judge_unit counts (total + length h.number) letters n (unit_named names letters) next)
 named_words names counts total bytes n letters rest h = named_split names counts total bytes n letters rest h h.blanks refl
 
 judge_if : (t : Bool) (total : ℕ) (letters : List ℕ) (other : Verdict) → (t ≡ false → ⊥) → cond t (BadLetters total letters) other ≡ BadLetters total letters
@@ -56,13 +57,13 @@ judge_if true total letters other h = refl
 judge_if false total letters other h = absurd (h refl)
 
 judge_bad : (names : Names) (counts : List Count) (total : ℕ) (letters : List ℕ) (n : Numeral) (found : Option TimeUnit) (next : List Count → Verdict) → unit_named names letters ≡ found
-  → ¬ (IsFreshName names counts letters) → judge_unit counts total letters n found next ≡ BadLetters total letters
+    → ¬ (IsFreshName names counts letters) → judge_unit counts total letters n found next ≡ BadLetters total letters
 judge_bad names counts total letters n None next is bad = refl
 judge_bad names counts total letters n (Some unit) next is bad = judge_if (counts_unit unit counts) total letters _ (λ fresh. bad (unit, is, fresh))
 
 -- a number with letters that are no fresh name, in front of bytes
 pub bad_in_front : (names : Names) (counts : List Count) (total : ℕ) (bytes : List ℕ) (n : Numeral) (letters rest : List ℕ) (h : StandsNamed bytes n letters rest)
-  → ¬ (IsFreshName names counts letters) → verdict names counts total (words bytes) ≡ BadLetters (total + length h.number) letters
+    → ¬ (IsFreshName names counts letters) → verdict names counts total (words bytes) ≡ BadLetters (total + length h.number) letters
 bad_in_front names counts total bytes n letters rest h bad =
     let judged = named_words names counts total bytes n letters rest h in
     judged.1 ∙ judge_bad names counts (total + length h.number) letters n (unit_named names letters) judged.0 refl bad
@@ -77,18 +78,18 @@ items_verdict names letters all counts (items, join, counted, distinct) =
 
 -- what the words before a bad name come to
 pub behind_items : (names : Names) → AreNames names → (lead rest : List ℕ) (counts : List Count) → AreItems names (words lead) counts → EndsInBlank lead
-  → verdict names [] 0 (words (lead ++ rest)) ≡ verdict names counts (total_length (words lead)) (words rest)
+    → verdict names [] 0 (words (lead ++ rest)) ≡ verdict names counts (total_length (words lead)) (words rest)
 behind_items names letters lead rest counts (items, join, counted, distinct) closed =
     let distinct' : has_distinct_units (all_counts items) ≡ true = ap has_distinct_units (sym counted) ∙ distinct in
     ap (verdict names [] 0) (words-closed lead rest closed) ∙ advance names letters (words lead) (words rest) items [] 0 join distinct'
     ∙ ap (λ (l : List Count). verdict names l (0 + total_length (words lead)) (words rest)) (sym counted) ∙ ap (λ (k : ℕ). verdict names counts k (words rest)) (omega arith)
 
 abbrev stands_at : (names : Names) (text : List ℕ) (start end : ℕ) (h : IsBadName names text start end)
-  → StandsNamed (h.number ++ (h.blanks ++ (h.letters ++ h.after))) (record { negative = h.c.negative; whole = h.c.whole; fraction = h.c.fraction }) h.letters h.after
+    → StandsNamed (h.number ++ (h.blanks ++ (h.letters ++ h.after))) (record { negative = h.c.negative; whole = h.c.whole; fraction = h.c.fraction }) h.letters h.after
 stands_at names text start end h = record { number = h.number; blanks = h.blanks; digits = h.digits; blank = h.blank; some = h.some; ascii = h.ascii; ends = h.ends; split = refl }
 
 pub bad_verdict : (names : Names) → AreNames names → (text : List ℕ) (start end : ℕ) (h : IsBadName names text start end)
-  → verdict names [] 0 (words text) ≡ BadLetters (total_length (words h.lead) + length h.number) h.letters
+    → verdict names [] 0 (words text) ≡ BadLetters (total_length (words h.lead) + length h.number) h.letters
 bad_verdict names letters text start end h =
     ap (λ (l : List ℕ). verdict names [] 0 (words l)) h.split
     ∙ behind_items names letters h.lead (h.number ++ (h.blanks ++ (h.letters ++ h.after))) h.counts h.items h.closed
@@ -141,11 +142,11 @@ same_before xs ys (c ∷ cs) more s t some l same count e =
 pub one_bad_name : (names : Names) → AreNames names → (text : List ℕ) (s e t f : ℕ) → IsBadName names text s e → IsBadName names text t f → (s ≡ t) × (e ≡ f)
 one_bad_name names letters text s e t f a b =
     let same : BadLetters (total_length (words a.lead) + length a.number) a.letters ≡ BadLetters (total_length (words b.lead) + length b.number) b.letters =
-        sym (bad_verdict names letters text s e a) ∙ bad_verdict names letters text t f b in
+    sym (bad_verdict names letters text s e a) ∙ bad_verdict names letters text t f b in
     let totals : total_length (words a.lead) + length a.number ≡ total_length (words b.lead) + length b.number = cc in
     let same_letters : a.letters ≡ b.letters = cc in
     let before = same_before (before_name names text s e a) (before_name names text t f b) a.letters b.letters a.after b.after a.some a.ascii same_letters
-        (before_ink names text s e a ∙ totals ∙ sym (before_ink names text t f b)) (sym (before_split names text s e a) ∙ before_split names text t f b) in
+    (before_ink names text s e a ∙ totals ∙ sym (before_ink names text t f b)) (sym (before_split names text s e a) ∙ before_split names text t f b) in
     let lengths = ap (λ (l : List ℕ). length l) before in
     let left = length-append a.lead (a.number ++ a.blanks) in
     let left' = length-append a.number a.blanks in

@@ -84,7 +84,7 @@ no_skip [] rest some l = absurd (omega arith)
 no_skip (c ∷ cs) rest some l = let first = letter_no_blank c (both _ _ l).0 in rw first refl
 
 blanks_if : (t : Bool) (b : ℕ) (bs rest : List ℕ) → (t ≡ true → is_blank b ≡ true) → ((blanks : List ℕ) × AreBlanks blanks × (bs ≡ blanks ++ rest))
-  → (blanks : List ℕ) × AreBlanks blanks × (b ∷ bs ≡ blanks ++ cond t rest (b ∷ bs))
+    → (blanks : List ℕ) × AreBlanks blanks × (b ∷ bs ≡ blanks ++ cond t rest (b ∷ bs))
 blanks_if true b bs rest is (blanks, all, split) = (b ∷ blanks, (let first = is refl in rw first all), ap (λ (l : List ℕ). b ∷ l) split)
 blanks_if false b bs rest is found = ([], refl, refl)
 

@@ -48,9 +48,11 @@ pub clock_no_blanks : (word : List ℕ) (counts : List Count) → IsClock word c
 clock_no_blanks word counts h =
     let joined = h.joined in
     rw joined (no_blanks-append h.sign _ (sign_no_blanks h.negative h.sign h.signed)
-      (no_blanks-append h.hours _ (digits_no_blanks h.hours h.hour_field.1)
-        (refl, no_blanks-append h.minutes _ (digits_no_blanks h.minutes h.minute_field.1)
-          (refl, no_blanks-append h.seconds _ (digits_no_blanks h.seconds h.second_field.1) (point_no_blanks h.fraction h.tail h.point)))))
+    (no_blanks-append h.hours _ (digits_no_blanks h.hours h.hour_field.1) (
+      refl,
+      no_blanks-append h.minutes _ (digits_no_blanks h.minutes h.minute_field.1)
+          (refl, no_blanks-append h.seconds _ (digits_no_blanks h.seconds h.second_field.1) (point_no_blanks h.fraction h.tail h.point)),
+    )))
 
 tail_some : (fraction tail : List ℕ) → IsFraction fraction tail → length fraction ≤ length tail
 tail_some fraction tail (inl none) = let f = ap (λ (l : List ℕ). length l) none.0 in omega (arith, f)

@@ -43,7 +43,7 @@ positive n h = grind (arith, nat_tests)
 
 -- a number in front of anything that closes it
 pub number_read : (negative : Bool) (whole fraction number rest : List ℕ) → IsNumber true negative whole fraction number → ClosesNumber rest
-  → read_item (number ++ rest) ≡ named_item (record { negative = negative; whole = whole; fraction = fraction }) (after_blanks rest)
+    → read_item (number ++ rest) ≡ named_item (record { negative = negative; whole = whole; fraction = fraction }) (after_blanks rest)
 unfolding read_item read_named
 number_read negative whole fraction number rest h closes =
     let body = whole ++ (h.tail ++ rest) in
@@ -64,8 +64,8 @@ number_alone negative whole fraction number h = ap read_item (sym (append-nil nu
 
 -- a number with letters, behind blanks or none
 pub named_read : (negative : Bool) (whole fraction number blanks letters rest : List ℕ) → IsNumber true negative whole fraction number → AreBlanks blanks
-  → 0 < length letters → AreLetters letters → EndsWord rest
-  → read_item (number ++ (blanks ++ (letters ++ rest))) ≡ NamedItem (record { negative = negative; whole = whole; fraction = fraction }) letters rest
+    → 0 < length letters → AreLetters letters → EndsWord rest
+    → read_item (number ++ (blanks ++ (letters ++ rest))) ≡ NamedItem (record { negative = negative; whole = whole; fraction = fraction }) letters rest
 named_read negative whole fraction number blanks letters rest h blank some l ends =
     let read = number_read negative whole fraction number (blanks ++ (letters ++ rest)) h (blanks_close blanks letters rest blank some l) in
     let skip = skipped blanks (letters ++ rest) blank ∙ no_skip letters rest some l in
@@ -82,7 +82,7 @@ field_no_sign field rest h = digits_no_sign field [] [] rest h.1 (inl (refl, ref
 
 -- the seconds behind the second colon
 seconds_read : (negative : Bool) (hours minutes seconds fraction tail rest : List ℕ) → IsField hours → IsField minutes → IsField seconds → IsFraction fraction tail → EndsWord rest
-  → read_seconds negative hours minutes (Some (seconds ++ (tail ++ rest)))
+    → read_seconds negative hours minutes (Some (seconds ++ (tail ++ rest)))
     ≡ ClockItem (record { negative = negative; hours = hours; minutes = minutes; seconds = seconds; fraction = fraction }) rest
 seconds_read negative hours minutes seconds fraction tail rest h m s point ends =
     let closes = end_closes rest ends in
@@ -98,16 +98,16 @@ seconds_read negative hours minutes seconds fraction tail rest h m s point ends 
 
 -- a clock in front, which ends
 pub clock_read : (word rest : List ℕ) (counts : List Count) (h : IsClock word counts) → EndsWord rest
-  → read_item (word ++ rest) ≡ ClockItem (record { negative = h.negative; hours = h.hours; minutes = h.minutes; seconds = h.seconds; fraction = h.fraction }) rest
+    → read_item (word ++ rest) ≡ ClockItem (record { negative = h.negative; hours = h.hours; minutes = h.minutes; seconds = h.seconds; fraction = h.fraction }) rest
 unfolding read_item read_clock
 clock_read word rest counts h ends =
     let last = h.seconds ++ (h.tail ++ rest) in
     let middle = codes ":" ++ (h.minutes ++ (codes ":" ++ last)) in
     let split : word ++ rest ≡ h.sign ++ (h.hours ++ middle) =
-        ap (λ (l : List ℕ). l ++ rest) h.joined ∙ append_assoc h.sign (h.hours ++ (codes ":" ++ (h.minutes ++ (codes ":" ++ (h.seconds ++ h.tail))))) rest
-        ∙ ap (λ (l : List ℕ). h.sign ++ l) (append_assoc h.hours (codes ":" ++ (h.minutes ++ (codes ":" ++ (h.seconds ++ h.tail)))) rest
-          ∙ ap (λ (l : List ℕ). h.hours ++ (codes ":" ++ l)) (append_assoc h.minutes (codes ":" ++ (h.seconds ++ h.tail)) rest
-            ∙ ap (λ (l : List ℕ). h.minutes ++ (codes ":" ++ l)) (append_assoc h.seconds h.tail rest))) in
+    ap (λ (l : List ℕ). l ++ rest) h.joined ∙ append_assoc h.sign (h.hours ++ (codes ":" ++ (h.minutes ++ (codes ":" ++ (h.seconds ++ h.tail))))) rest
+    ∙ ap (λ (l : List ℕ). h.sign ++ l) (append_assoc h.hours (codes ":" ++ (h.minutes ++ (codes ":" ++ (h.seconds ++ h.tail)))) rest
+    ∙ ap (λ (l : List ℕ). h.hours ++ (codes ":" ++ l)) (append_assoc h.minutes (codes ":" ++ (h.seconds ++ h.tail)) rest
+    ∙ ap (λ (l : List ℕ). h.minutes ++ (codes ":" ++ l)) (append_assoc h.seconds h.tail rest))) in
     let signed = sign_of true h.negative h.sign (h.hours ++ middle) h.signed (field_no_sign h.hours middle h.hour_field) in
     let sign : read_sign true (word ++ rest) ≡ (h.negative, h.hours ++ middle) = ap (read_sign true) split ∙ signed in
     let front = front_of h.hours middle h.hour_field.1 refl in

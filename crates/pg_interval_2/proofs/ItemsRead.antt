@@ -26,6 +26,10 @@ pub record StandsNamed (bytes : List ℕ) (n : Numeral) (letters rest : List ℕ
 -- a clock stands in front
 pub record StandsClock (bytes : List ℕ) (fields : ClockFields) (rest : List ℕ) : Type 0 where
   pub word : List ℕ
+  pub hours : AreDigits fields.hours
+  pub minutes : AreDigits fields.minutes
+  pub seconds : AreDigits fields.seconds
+  pub fraction : AreDigits fields.fraction
   pub clock : IsClock word (clock_counts fields.negative fields.hours fields.minutes fields.seconds fields.fraction)
   pub ends : EndsWord rest
   pub split : bytes ≡ word ++ rest
@@ -47,18 +51,18 @@ letters_stand : (bytes number rest : List ℕ) (n : Numeral) → IsNumber true n
 letters_stand bytes number rest n digits split =
     let name = after_blanks rest in
     chosen (nat_lt 0 (length (front_letters name)) && ends_word (after_letters name)) bytes (NamedItem n (front_letters name) (after_letters name)) (λ test.
-      let tests = both (nat_lt 0 (length (front_letters name))) (ends_word (after_letters name)) test in
-      let skip = are_skipped rest in
-      record {
-        number = number;
-        blanks = skip.0;
-        digits = digits;
-        blank = skip.1;
-        some = above_zero _ tests.0;
-        ascii = front_are_letters name;
-        ends = ends_from (after_letters name) tests.1;
-        split = split ∙ ap (λ (l : List ℕ). number ++ l) (skip.2 ∙ ap (λ (l : List ℕ). skip.0 ++ l) (sym (letters_and_after name)));
-      })
+    let tests = both (nat_lt 0 (length (front_letters name))) (ends_word (after_letters name)) test in
+    let skip = are_skipped rest in
+    record {
+      number = number;
+      blanks = skip.0;
+      digits = digits;
+      blank = skip.1;
+      some = above_zero _ tests.0;
+      ascii = front_are_letters name;
+      ends = ends_from (after_letters name) tests.1;
+      split = split ∙ ap (λ (l : List ℕ). number ++ l) (skip.2 ∙ ap (λ (l : List ℕ). skip.0 ++ l) (sym (letters_and_after name)));
+    })
 
 named_stands : (negative : Bool) (sign whole rest bytes : List ℕ) → IsSign true negative sign → AreDigits whole → bytes ≡ sign ++ (whole ++ rest) → Stands bytes (read_named negative whole rest)
 unfolding read_named
@@ -66,11 +70,11 @@ named_stands negative sign whole rest bytes signed digits split =
     let fraction = read_fraction rest in
     let n : Numeral = record { negative = negative; whole = whole; fraction = fraction.0 } in
     chosen (nat_lt 0 (length whole + length fraction.0)) bytes (named_item n (after_blanks fraction.1)) (λ test.
-      let point = is_fraction rest in
-      let number = sign ++ (whole ++ point.0) in
-      let joined : bytes ≡ number ++ fraction.1 =
-          split ∙ ap (λ (l : List ℕ). sign ++ l) (ap (λ (l : List ℕ). whole ++ l) point.2 ∙ sym (append_assoc whole point.0 fraction.1)) ∙ sym (append_assoc sign (whole ++ point.0) fraction.1) in
-      letters_stand bytes number fraction.1 n (record { sign = sign; tail = point.0; signed = signed; digits = digits; point = point.1; some = above_zero _ test; joined = refl }) joined)
+    let point = is_fraction rest in
+    let number = sign ++ (whole ++ point.0) in
+    let joined : bytes ≡ number ++ fraction.1 =
+    split ∙ ap (λ (l : List ℕ). sign ++ l) (ap (λ (l : List ℕ). whole ++ l) point.2 ∙ sym (append_assoc whole point.0 fraction.1)) ∙ sym (append_assoc sign (whole ++ point.0) fraction.1) in
+    letters_stand bytes number fraction.1 n (record { sign = sign; tail = point.0; signed = signed; digits = digits; point = point.1; some = above_zero _ test; joined = refl }) joined)
 
 -- ---- a clock
 
@@ -85,9 +89,13 @@ byte_in_front : (byte : ℕ) (bytes rest : List ℕ) → read_byte byte bytes �
 byte_in_front byte [] rest h = cc
 byte_in_front byte (b ∷ bs) rest h = byte_if (b == byte) b byte bs rest (is_byte b byte) h
 
+pub fraction_digits : (fraction tail : List ℕ) → IsFraction fraction tail → AreDigits fraction
+fraction_digits fraction tail (inl none) = rw none.0 tt
+fraction_digits fraction tail (inr some) = some.0
+
 -- behind the second colon, if there is one
 seconds_stand : (negative : Bool) (sign hours minutes after bytes : List ℕ) (o : Option (List ℕ)) → ((last : List ℕ) → o ≡ Some last → after ≡ 58 ∷ last)
-  → IsSign true negative sign → AreDigits hours → AreDigits minutes → bytes ≡ sign ++ (hours ++ (codes ":" ++ (minutes ++ after))) → Stands bytes (read_seconds negative hours minutes o)
+    → IsSign true negative sign → AreDigits hours → AreDigits minutes → bytes ≡ sign ++ (hours ++ (codes ":" ++ (minutes ++ after))) → Stands bytes (read_seconds negative hours minutes o)
 seconds_stand negative sign hours minutes after bytes None colon signed h m split = tt
 seconds_stand negative sign hours minutes after bytes (Some last) colon signed h m split =
     let seconds = front_digits last in
@@ -95,38 +103,42 @@ seconds_stand negative sign hours minutes after bytes (Some last) colon signed h
     let fraction = read_fraction behind in
     let fields : ClockFields = record { negative = negative; hours = hours; minutes = minutes; seconds = seconds; fraction = fraction.0 } in
     chosen (nat_lt 0 (length hours) && (nat_lt 0 (length minutes) && (nat_lt 0 (length seconds) && ends_word fraction.1))) bytes (ClockItem fields fraction.1) (λ test.
-      let first = both (nat_lt 0 (length hours)) (nat_lt 0 (length minutes) && (nat_lt 0 (length seconds) && ends_word fraction.1)) test in
-      let second = both (nat_lt 0 (length minutes)) (nat_lt 0 (length seconds) && ends_word fraction.1) first.1 in
-      let third = both (nat_lt 0 (length seconds)) (ends_word fraction.1) second.1 in
-      let point = is_fraction behind in
-      let tail = seconds ++ point.0 in
-      let word = sign ++ (hours ++ (codes ":" ++ (minutes ++ (codes ":" ++ tail)))) in
-      let last_split : last ≡ tail ++ fraction.1 = sym (front_and_after last) ∙ ap (λ (l : List ℕ). seconds ++ l) point.2 ∙ sym (append_assoc seconds point.0 fraction.1) in
-      let joined : word ++ fraction.1 ≡ sign ++ (hours ++ (codes ":" ++ (minutes ++ (codes ":" ++ (tail ++ fraction.1))))) =
-          append_assoc sign (hours ++ (codes ":" ++ (minutes ++ (codes ":" ++ tail)))) fraction.1
-          ∙ ap (λ (l : List ℕ). sign ++ l) (append_assoc hours (codes ":" ++ (minutes ++ (codes ":" ++ tail))) fraction.1
-            ∙ ap (λ (l : List ℕ). hours ++ (codes ":" ++ l)) (append_assoc minutes (codes ":" ++ tail) fraction.1)) in
-      record {
-        word = word;
-        clock = record {
-          negative = negative;
-          sign = sign;
-          hours = hours;
-          minutes = minutes;
-          seconds = seconds;
-          fraction = fraction.0;
-          tail = point.0;
-          signed = signed;
-          hour_field = (above_zero _ first.0, h);
-          minute_field = (above_zero _ second.0, m);
-          second_field = (above_zero _ third.0, front_are_digits last);
-          point = point.1;
-          joined = refl;
-          counted = refl;
-        };
-        ends = ends_from fraction.1 third.1;
-        split = split ∙ ap (λ (l : List ℕ). sign ++ (hours ++ (codes ":" ++ (minutes ++ l)))) (colon last refl ∙ ap (λ (l : List ℕ). codes ":" ++ l) last_split) ∙ sym joined;
-      })
+    let first = both (nat_lt 0 (length hours)) (nat_lt 0 (length minutes) && (nat_lt 0 (length seconds) && ends_word fraction.1)) test in
+    let second = both (nat_lt 0 (length minutes)) (nat_lt 0 (length seconds) && ends_word fraction.1) first.1 in
+    let third = both (nat_lt 0 (length seconds)) (ends_word fraction.1) second.1 in
+    let point = is_fraction behind in
+    let tail = seconds ++ point.0 in
+    let word = sign ++ (hours ++ (codes ":" ++ (minutes ++ (codes ":" ++ tail)))) in
+    let last_split : last ≡ tail ++ fraction.1 = sym (front_and_after last) ∙ ap (λ (l : List ℕ). seconds ++ l) point.2 ∙ sym (append_assoc seconds point.0 fraction.1) in
+    let joined : word ++ fraction.1 ≡ sign ++ (hours ++ (codes ":" ++ (minutes ++ (codes ":" ++ (tail ++ fraction.1))))) =
+    append_assoc sign (hours ++ (codes ":" ++ (minutes ++ (codes ":" ++ tail)))) fraction.1
+    ∙ ap (λ (l : List ℕ). sign ++ l) (append_assoc hours (codes ":" ++ (minutes ++ (codes ":" ++ tail))) fraction.1
+    ∙ ap (λ (l : List ℕ). hours ++ (codes ":" ++ l)) (append_assoc minutes (codes ":" ++ tail) fraction.1)) in
+    record {
+      word = word;
+      hours = h;
+      minutes = m;
+      seconds = front_are_digits last;
+      fraction = fraction_digits fraction.0 point.0 point.1;
+      clock = record {
+        negative = negative;
+        sign = sign;
+        hours = hours;
+        minutes = minutes;
+        seconds = seconds;
+        fraction = fraction.0;
+        tail = point.0;
+        signed = signed;
+        hour_field = (above_zero _ first.0, h);
+        minute_field = (above_zero _ second.0, m);
+        second_field = (above_zero _ third.0, front_are_digits last);
+        point = point.1;
+        joined = refl;
+        counted = refl;
+      };
+      ends = ends_from fraction.1 third.1;
+      split = split ∙ ap (λ (l : List ℕ). sign ++ (hours ++ (codes ":" ++ (minutes ++ l)))) (colon last refl ∙ ap (λ (l : List ℕ). codes ":" ++ l) last_split) ∙ sym joined;
+    })
 
 clock_stands : (negative : Bool) (sign hours rest bytes : List ℕ) → IsSign true negative sign → AreDigits hours → bytes ≡ sign ++ (hours ++ (codes ":" ++ rest)) → Stands bytes (read_clock negative hours rest)
 unfolding read_clock
@@ -136,7 +148,7 @@ clock_stands negative sign hours rest bytes signed digits split =
 
 -- behind a sign and digits
 behind_digits : (negative : Bool) (sign whole after bytes : List ℕ) (o : Option (List ℕ)) → ((last : List ℕ) → o ≡ Some last → after ≡ 58 ∷ last)
-  → IsSign true negative sign → AreDigits whole → bytes ≡ sign ++ (whole ++ after) → Stands bytes (read_behind_digits negative whole after o)
+    → IsSign true negative sign → AreDigits whole → bytes ≡ sign ++ (whole ++ after) → Stands bytes (read_behind_digits negative whole after o)
 behind_digits negative sign whole after bytes None colon signed digits split = named_stands negative sign whole after bytes signed digits split
 behind_digits negative sign whole after bytes (Some last) colon signed digits split =
     clock_stands negative sign whole last bytes signed digits (split ∙ ap (λ (l : List ℕ). sign ++ (whole ++ l)) (colon last refl))

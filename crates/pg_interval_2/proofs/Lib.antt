@@ -24,3 +24,5 @@ pub mod NoItems
 pub mod PostgresCounts
 pub mod UnitFacts
 pub mod CountedFacts
+pub mod PostgresSteps
+pub mod PostgresEnds

@@ -33,7 +33,7 @@ after_some : (n : ℕ) (digits : List ℕ) → 0 < n → (digits_value_after 10 
 after_some n digits h = let more = after-ge n digits in grind (arith, nat_tests)
 
 zero_step : (t : Bool) (c : ℕ) (cs : List ℕ) → digit_value c < 10 → (c == 48) ≡ t → list_all (λ digit. digit == 48) cs ≡ (number_of cs == 0)
-  → (t && list_all (λ digit. digit == 48) cs) ≡ (digits_value_after 10 (0 * 10 + digit_value c) cs == 0)
+    → (t && list_all (λ digit. digit == 48) cs) ≡ (digits_value_after 10 (0 * 10 + digit_value c) cs == 0)
 zero_step true c cs small is below = let zero : c ≡ 48 = grind (arith, nat_tests) in rw zero below
 zero_step false c cs small is below =
     let digit = digit_from_value c small in

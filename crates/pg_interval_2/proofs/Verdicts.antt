@@ -31,18 +31,18 @@ abbrev pub AreNames : Names → Type 0
 AreNames names = (word : List ℕ) (unit : TimeUnit) → unit_named names word ≡ Some unit → (0 < length word) × AreLetters word
 
 pub clock_kind : (word : List ℕ) (counts : List Count) (h : IsClock word counts)
-  → word_kind word ≡ ClockWord (record { negative = h.negative; hours = h.hours; minutes = h.minutes; seconds = h.seconds; fraction = h.fraction })
+    → word_kind word ≡ ClockWord (record { negative = h.negative; hours = h.hours; minutes = h.minutes; seconds = h.seconds; fraction = h.fraction })
 unfolding word_kind
 clock_kind word counts h = let read = ap read_item (sym (append-nil word)) ∙ clock_read word [] counts h tt in rw read refl
 
 pub glued_kind : (negative : Bool) (whole fraction number letters : List ℕ) → IsNumber true negative whole fraction number → 0 < length letters → AreLetters letters
-  → word_kind (number ++ letters) ≡ GluedWord (record { negative = negative; whole = whole; fraction = fraction }) letters
+    → word_kind (number ++ letters) ≡ GluedWord (record { negative = negative; whole = whole; fraction = fraction }) letters
 unfolding word_kind
 glued_kind negative whole fraction number letters h some l =
     let read = ap read_item (ap (λ (x : List ℕ). number ++ x) (sym (append-nil letters))) ∙ named_read negative whole fraction number [] letters [] h refl some l tt in rw read refl
 
 pub number_kind : (negative : Bool) (whole fraction number : List ℕ) → IsNumber true negative whole fraction number
-  → word_kind number ≡ NumberWord (record { negative = negative; whole = whole; fraction = fraction })
+    → word_kind number ≡ NumberWord (record { negative = negative; whole = whole; fraction = fraction })
 unfolding word_kind
 number_kind negative whole fraction number h =
     let none = number_alone negative whole fraction number h in
@@ -112,7 +112,7 @@ judge_pair names counts ink length_of (name ∷ more) n =
 
 -- a word and what follows it
 pub verdict-word : (names : Names) (counts : List Count) (ink : ℕ) (word : List ℕ) (more : List (List ℕ))
-  → verdict names counts ink (word ∷ more)
+    → verdict names counts ink (word ∷ more)
     ≡ judge_word names counts ink (length word) (word_kind word) (λ cs. verdict names (counts ++ cs) (ink + length word) more) (judge_pair names counts ink (length word) more)
 verdict-word names counts ink word [] = refl
 verdict-word names counts ink word (name ∷ more) = refl
@@ -125,7 +125,7 @@ pub is_name_of : (letters : List ℕ) → 0 < length letters → AreLetters lett
 is_name_of letters some l = let first = positive (length letters) some in rw (first, l) refl
 
 clock_item : (names : Names) (word : List ℕ) (more : List (List ℕ)) (cs counts : List Count) (ink : ℕ) → IsClock word cs → has_distinct_units (counts ++ cs) ≡ true
-  → verdict names counts ink (word ∷ more) ≡ verdict names (counts ++ cs) (ink + length word) more
+    → verdict names counts ink (word ∷ more) ≡ verdict names (counts ++ cs) (ink + length word) more
 clock_item names word more cs counts ink h distinct =
     let kind = clock_kind word cs h in
     let counted = h.counted in
@@ -133,15 +133,15 @@ clock_item names word more cs counts ink h distinct =
     verdict-word names counts ink word more ∙ rw (kind, distinct', counted) refl
 
 glued_item : (names : Names) (c : Count) (number name : List ℕ) (more : List (List ℕ)) (counts : List Count) (ink : ℕ) → IsNumber true c.negative c.whole c.fraction number
-  → unit_named names name ≡ Some c.unit → 0 < length name → AreLetters name → counts_unit c.unit counts ≡ false
-  → verdict names counts ink ((number ++ name) ∷ more) ≡ verdict names (counts ++ c ∷ []) (ink + length (number ++ name)) more
+    → unit_named names name ≡ Some c.unit → 0 < length name → AreLetters name → counts_unit c.unit counts ≡ false
+    → verdict names counts ink ((number ++ name) ∷ more) ≡ verdict names (counts ++ c ∷ []) (ink + length (number ++ name)) more
 glued_item names c number name more counts ink h unit some l fresh =
     let kind = glued_kind c.negative c.whole c.fraction number name h some l in
     verdict-word names counts ink (number ++ name) more ∙ rw (kind, unit, fresh) refl
 
 named_pair : (names : Names) (c : Count) (number name : List ℕ) (more : List (List ℕ)) (counts : List Count) (ink : ℕ) → IsNumber true c.negative c.whole c.fraction number
-  → unit_named names name ≡ Some c.unit → 0 < length name → AreLetters name → counts_unit c.unit counts ≡ false
-  → verdict names counts ink (number ∷ name ∷ more) ≡ verdict names (counts ++ c ∷ []) (ink + length number + length name) more
+    → unit_named names name ≡ Some c.unit → 0 < length name → AreLetters name → counts_unit c.unit counts ≡ false
+    → verdict names counts ink (number ∷ name ∷ more) ≡ verdict names (counts ++ c ∷ []) (ink + length number + length name) more
 named_pair names c number name more counts ink h unit some l fresh =
     let kind = number_kind c.negative c.whole c.fraction number h in
     let named = is_name_of name some l in
@@ -149,21 +149,21 @@ named_pair names c number name more counts ink h unit some l fresh =
 
 -- an item in front of words is gone over
 advance_item : (names : Names) → AreNames names → (item more : List (List ℕ)) (cs counts rest : List Count) (ink : ℕ) → IsItem names item cs
-  → has_distinct_units (counts ++ (cs ++ rest)) ≡ true → verdict names counts ink (item ++ more) ≡ verdict names (counts ++ cs) (ink + total_length item) more
+    → has_distinct_units (counts ++ (cs ++ rest)) ≡ true → verdict names counts ink (item ++ more) ≡ verdict names (counts ++ cs) (ink + total_length item) more
 advance_item names letters item more cs counts rest ink (inl (c, named, one)) distinct =
     let both_distinct : has_distinct_units (counts ++ (c ∷ rest)) ≡ true = ap (λ (l : List Count). has_distinct_units (counts ++ (l ++ rest))) (sym one) ∙ distinct in
     let fresh = fresh_behind counts c rest both_distinct in
     let name = letters named.name c.unit named.unit in
     elim named.spelled [
-      inl two ↦ rw (two, one) (named_pair names c named.number named.name more counts ink named.digits named.unit name.0 name.1 fresh ∙ elsewhere names (counts ++ c ∷ []) _ _ more (omega arith))
-    | inr glued ↦ rw (glued, one) (glued_item names c named.number named.name more counts ink named.digits named.unit name.0 name.1 fresh ∙ elsewhere names (counts ++ c ∷ []) _ _ more (omega arith))
+      | inl two ↦ rw (two, one) (named_pair names c named.number named.name more counts ink named.digits named.unit name.0 name.1 fresh ∙ elsewhere names (counts ++ c ∷ []) _ _ more (omega arith))
+      | inr glued ↦ rw (glued, one) (glued_item names c named.number named.name more counts ink named.digits named.unit name.0 name.1 fresh ∙ elsewhere names (counts ++ c ∷ []) _ _ more (omega arith))
     ]
 advance_item names letters item more cs counts rest ink (inr (word, clock, one)) distinct =
     let front = distinct_front (counts ++ cs) rest (ap has_distinct_units (append_assoc counts cs rest) ∙ distinct) in
     rw one (clock_item names word more cs counts ink clock front ∙ elsewhere names (counts ++ cs) _ _ more (omega arith))
 
 pub advance : (names : Names) → AreNames names → (front more : List (List ℕ)) (items : List (List Count)) (counts : List Count) (ink : ℕ) → IsJoin (IsItem names) front items
-  → has_distinct_units (counts ++ all_counts items) ≡ true → verdict names counts ink (front ++ more) ≡ verdict names (counts ++ all_counts items) (ink + total_length front) more
+    → has_distinct_units (counts ++ all_counts items) ≡ true → verdict names counts ink (front ++ more) ≡ verdict names (counts ++ all_counts items) (ink + total_length front) more
 advance names letters front more [] counts ink h distinct =
     rw h (ap (λ (l : List Count). verdict names l ink more) (sym (append-nil counts)) ∙ elsewhere names (counts ++ []) ink (ink + 0) more (omega arith))
 advance names letters front more (cs ∷ items) counts ink h distinct =

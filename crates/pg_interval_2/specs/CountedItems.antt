@@ -1,5 +1,5 @@
 -- Items counted, no unit twice: cited by private contracts alone.
-use Rattle.std.specs.Prelude.{◌≡◌, ◌⊎◌, ℕ, Bool, true, false, IsTrue, List, [], ◌∷◌, ◌++◌, Some, filter}
+use Rattle.std.specs.Prelude.{◌≡◌, ◌⊎◌, ℕ, ◌+◌, ◌≤◌, length, Bool, true, false, IsTrue, List, [], ◌∷◌, ◌++◌, Some, filter}
 use Rattle.scan_core.specs.Count.{Count}
 use Rattle.scan_core.specs.Digits.{AreDigits}
 use Rattle.scan_core.specs.declared.share.Unit.{Unit as TimeUnit}
@@ -30,10 +30,10 @@ abbrev pub CountsPerhaps : List Count → Count → Counted → Bool → Type 0
 CountsPerhaps counts c new true = IsCounted new (counts ++ filter is_nonzero (c ∷ []))
 CountsPerhaps counts c new false = (is_nonzero c ≡ true) × (counts_unit c.unit counts ≡ true)
 
--- the same of a clock's counts
-abbrev pub CountsClock : List Count → ClockFields → Counted → Bool → Type 0
-CountsClock counts fields new true = IsCounted new (counts ++ clock_of fields)
-CountsClock counts fields new false = has_distinct_units (counts ++ clock_of fields) ≡ false
+-- the same of several counts
+abbrev pub CountsAll : List Count → List Count → Counted → Bool → Type 0
+CountsAll counts more new true = IsCounted new (counts ++ more)
+CountsAll counts more new false = has_distinct_units (counts ++ more) ≡ false
 
 -- a clock's fields are digits
 pub record AreClockDigits (fields : ClockFields) : Type 0 where
@@ -52,3 +52,9 @@ abbrev pub Takes : List ℕ → List Count → Counted → Step → Type 0
 Takes bytes counts new (Taken rest) = TakesItem bytes rest.now counts new
 Takes bytes counts new (BadName letters rest) = (n : Numeral) × (read_item bytes ≡ NamedItem n letters.now rest.now) × ¬ (IsFreshName postgres_names counts letters.now)
 Takes bytes counts new Unread = (read_item bytes ≡ NoItem) ⊎ ((fields : ClockFields) × (rest : List ℕ) × (read_item bytes ≡ ClockItem fields rest) × (has_distinct_units (counts ++ clock_of fields) ≡ false))
+
+-- an item has no more counts than bytes
+abbrev pub LeavesRoom : ℕ → ℕ → Step → Type 0
+LeavesRoom room adds (Taken rest) = adds + length rest.now ≤ room
+LeavesRoom room adds (BadName letters rest) = Unit {0}
+LeavesRoom room adds Unread = Unit {0}

@@ -15,3 +15,4 @@ pub mod ItemReading
 pub mod ItemViews
 pub mod UnitSets
 pub mod CountedItems
+pub mod PostgresTally

@@ -42,7 +42,16 @@ fn clock_behind<'a>(negative: bool, hours: &'a [u8], bytes: &'a [u8]) -> Item<'a
     if hours.is_empty() || minutes.is_empty() || seconds.is_empty() || !ends_word(rest) {
         return Item::None;
     }
-    Item::Clock(Clock { negative, hours, minutes, seconds, fraction }, rest)
+    Item::Clock(
+        Clock {
+            negative,
+            hours,
+            minutes,
+            seconds,
+            fraction,
+        },
+        rest,
+    )
 }
 
 /// The number whose whole digits stand before these bytes, and its letters.
@@ -58,7 +67,15 @@ fn named_behind<'a>(negative: bool, whole: &'a [u8], bytes: &'a [u8]) -> Item<'a
     if letters.is_empty() || !ends_word(rest) {
         return Item::None;
     }
-    Item::Named(Number { negative, whole, fraction }, letters, rest)
+    Item::Named(
+        Number {
+            negative,
+            whole,
+            fraction,
+        },
+        letters,
+        rest,
+    )
 }
 
 /// The item in front: a sign and digits begin both kinds, and a colon behind them tells a clock.

@@ -17,6 +17,6 @@ pub returns-clause-others : goal.returns-clause-others
 unfolding holds_unit
 returns-clause-others c =
     λ other apart.
-      let place = c.place_of.ensures in
-      let same = bit_at_set_other w8 c.args.self.now.bits (place_of c.args.unit) (place_small c.args.unit) (place_of other) apart in
-      rw (place, same) refl
+    let place = c.place_of.ensures in
+    let same = bit_at_set_other w8 c.args.self.now.bits (place_of c.args.unit) (place_small c.args.unit) (place_of other) apart in
+    rw (place, same) refl
