@@ -9,5 +9,7 @@ pub mod IsoSpelled
 pub mod SumsTo
 pub mod IsoReadBack
 pub mod ReadBack
+pub mod Spaces
+pub mod PostgresWords
 pub mod Numbers
 pub mod IsoCounts

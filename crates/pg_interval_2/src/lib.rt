@@ -5,12 +5,14 @@
 //! Ported from the crate `pg_interval_2` of Rust. Readers and `text` take no memory.
 #![tactic(auto)]
 
+mod clock_text;
 mod error;
 mod interval;
 mod iso;
 mod iso_text;
 pub mod laws;
 mod parts;
+mod postgres_text;
 mod scan;
 mod style;
 mod text;
