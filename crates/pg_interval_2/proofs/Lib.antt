@@ -13,3 +13,6 @@ pub mod Spaces
 pub mod PostgresWords
 pub mod Numbers
 pub mod IsoCounts
+pub mod TallyFacts
+pub mod IsoSteps
+pub mod Answering

@@ -9,3 +9,8 @@ pub mod Ranges
 pub mod Messages
 pub mod Styles
 pub mod Reading
+pub mod UnitNames
+pub mod Clock
+pub mod Postgres
+pub mod Tallies
+pub mod IsoTally

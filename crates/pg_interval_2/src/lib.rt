@@ -15,6 +15,7 @@ mod parts;
 mod postgres_text;
 mod scan;
 mod style;
+mod tally;
 mod text;
 
 pub use error::ParseError;
