@@ -11,6 +11,10 @@ pub mod IsoReadBack
 pub mod ReadBack
 pub mod Spaces
 pub mod PostgresWords
+pub mod UnitOrder
+pub mod ClockCounts
+pub mod PostgresSpelled
+pub mod PostgresReadBack
 pub mod Numbers
 pub mod IsoCounts
 pub mod TallyFacts

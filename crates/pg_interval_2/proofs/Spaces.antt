@@ -1,7 +1,8 @@
 -- Words with one space between each two.
-use Rattle.std.proofs.Common.{◌≡◌, ℕ, ◌<◌, Bool, not, IsTrue, List, [], ◌∷◌, ◌++◌, length, length-append, refl, ap, sym, ◌∙◌, arith, append_assoc, append-nil}
+use Rattle.std.proofs.Common.{◌≡◌, ℕ, ◌<◌, Bool, false, not, IsTrue, List, [], ◌∷◌, ◌++◌, length, length-append, refl, ap, sym, ◌∙◌, arith, append_assoc, append-nil}
+use Rattle.std.proofs.lemmas.Bool.{and_parts, not-true}
 use Rattle.std.specs.List.{join_with_byte, list_all}
-use Rattle.scan_core.specs.Blanks.{is_blank}
+use Rattle.scan_core.specs.Blanks.{is_blank, words}
 use Rattle.pg_interval_2.specs.Writing.{spaced, with_words}
 
 -- no byte is blank
@@ -47,3 +48,32 @@ four_steps a b c d are_a are_b are_c =
     ∙ with_words-append (with_words [] a) b (c ++ d) are_b
     ∙ with_words-append [] a (b ++ (c ++ d)) are_a
     ∙ with_words-nil (a ++ (b ++ (c ++ d)))
+
+-- ---- the words of words with spaces between are these words
+
+no_blank_parts : (b : ℕ) (bs : List ℕ) → IsTrue (has_no_blank (b ∷ bs)) → (is_blank b ≡ false) × IsTrue (has_no_blank bs)
+no_blank_parts b bs clear = let parts = and_parts _ _ clear in (not-true _ parts.0, parts.1)
+
+one_word : (b : ℕ) (bs : List ℕ) → IsTrue (has_no_blank (b ∷ bs)) → words (b ∷ bs) ≡ (b ∷ bs) ∷ []
+one_word b [] clear = rw (no_blank_parts b [] clear).0 refl
+one_word b (c ∷ cs) clear =
+    let parts = no_blank_parts b (c ∷ cs) clear in
+    rw (parts.0, (no_blank_parts c cs parts.1).0, one_word c cs parts.1) refl
+
+-- a space in front of a text changes no word
+behind_space : (text : List ℕ) → words (32 ∷ text) ≡ words text
+behind_space [] = refl
+behind_space (b ∷ bs) = refl
+
+first_word : (b : ℕ) (bs rest : List ℕ) → IsTrue (has_no_blank (b ∷ bs)) → words ((b ∷ bs) ++ (32 ∷ rest)) ≡ (b ∷ bs) ∷ words rest
+first_word b [] rest clear = rw (no_blank_parts b [] clear).0 (ap (λ (more : List (List ℕ)). (b ∷ []) ∷ more) (behind_space rest))
+first_word b (c ∷ cs) rest clear =
+    let parts = no_blank_parts b (c ∷ cs) clear in
+    rw (parts.0, (no_blank_parts c cs parts.1).0, first_word c cs rest parts.1) refl
+
+pub words-join : (all : List (List ℕ)) → AreWords all → words (join_with_byte 32 all) ≡ all
+words-join [] are = refl
+words-join ([] ∷ more) are = absurd (omega arith)
+words-join ((b ∷ bs) ∷ []) are = one_word b bs are.1
+words-join ((b ∷ bs) ∷ next ∷ more) are =
+    first_word b bs (join_with_byte 32 (next ∷ more)) are.1 ∙ ap (λ (rest : List (List ℕ)). (b ∷ bs) ∷ rest) (words-join (next ∷ more) are.2)

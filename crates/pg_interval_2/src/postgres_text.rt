@@ -97,3 +97,48 @@ pub fn postgres_text(months: i32, days: i32, micros: i64) -> Short
         nonzero_text(months, days, micros)
     }
 }
+
+#[cfg(test)]
+mod tests {
+    use super::*;
+    use std::test::Fail;
+
+    #[test]
+    fn written_texts(rt: HostRuntime) -> Result<(), Fail> {
+        for (months, days, micros, want) in [
+            (0, 0, 0, "00:00:00"),
+            (13, 1, 3_600_000_000, "1 year 1 mon 1 day 01:00:00"),
+            (24, 2, 0, "2 years 2 days"),
+            (
+                -13,
+                -1,
+                -3_600_000_000,
+                "-1 years -1 mons -1 days -01:00:00",
+            ),
+            (0, -1, 3_600_000_000, "-1 days 01:00:00"),
+            (
+                14,
+                3,
+                14_706_500_000,
+                "1 year 2 mons 3 days 04:05:06.500000",
+            ),
+            (0, 0, -1, "-00:00:00.000001"),
+            (0, 0, 360_000_000_000, "100:00:00"),
+            (
+                i32::MAX,
+                i32::MAX,
+                i64::MAX,
+                "178956970 years 7 mons 2147483647 days 2562047788:00:54.775807",
+            ),
+            (
+                i32::MIN,
+                i32::MIN,
+                i64::MIN,
+                "-178956970 years -8 mons -2147483648 days -2562047788:00:54.775808",
+            ),
+        ] {
+            assert_eq!(rt; postgres_text(months, days, micros).as_str(), want);
+        }
+        Ok(())
+    }
+}
