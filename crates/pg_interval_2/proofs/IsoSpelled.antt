@@ -133,7 +133,7 @@ some_time micros zero_is = cond-false _ _ _ zero_is
 date_alone : (months days micros : ℤ) → unsigned_abs months ≤ 2 ^ 63 → unsigned_abs days ≤ 2 ^ 63 → int_eq micros (pos 0) ≡ true → int_eq months (pos 0) && (int_eq days (pos 0) && int_eq micros (pos 0)) ≡ false → IsIso (codes "P" ++ (iso_date months days ++ iso_time micros)) (date_counts months days ++ time_counts micros)
 date_alone months days micros small_months small_days no_micros some =
     let none = no_time micros no_micros in
-    rw (none.0, none.1, append-nil, append-nil)
+    rw (none.0, none.1, append-nil (iso_date months days), append-nil (date_counts months days))
     (inl (iso_date months days, date_spelled months days small_months small_days, written, refl))
   where
     written : iso_date months days ≢ []

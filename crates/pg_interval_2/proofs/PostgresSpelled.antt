@@ -171,6 +171,9 @@ zero_clock = record {
   counted = refl;
 }
 
+zero_items : AreItems postgres_names (codes "00:00:00" ∷ []) []
+zero_items = ([] ∷ [], IsJoin-one (IsItem postgres_names) (codes "00:00:00" ∷ []) [] (inr (codes "00:00:00", zero_clock, refl)), refl, refl)
+
 zero_spelled : (months days micros : ℤ) → int_eq months (pos 0) && (int_eq days (pos 0) && int_eq micros (pos 0)) ≡ true → IsPostgres (codes "00:00:00") (postgres_counts months days micros)
 zero_spelled months days micros zero_is =
     let outer = and_parts _ _ zero_is in
@@ -178,7 +181,7 @@ zero_spelled months days micros zero_is =
     let no_months : months ≡ pos 0 = (Decides-int_eq months (pos 0)).0 outer.0 in
     let no_days : days ≡ pos 0 = (Decides-int_eq days (pos 0)).0 inner.0 in
     let no_micros : micros ≡ pos 0 = (Decides-int_eq micros (pos 0)).0 inner.1 in
-    rw (no_months, no_days, no_micros) ([] ∷ [], IsJoin-one (IsItem postgres_names) _ _ (inr (codes "00:00:00", zero_clock, refl)), refl, refl)
+    rw (no_months, no_days, no_micros) zero_items
 
 -- the written text spells these counts
 pub postgres_spelled : (months days micros : ℤ) → unsigned_abs months ≤ 2 ^ 63 → unsigned_abs days ≤ 2 ^ 63 → unsigned_abs micros ≤ 2 ^ 63 → IsPostgres (postgres_text months days micros) (postgres_counts months days micros)
