@@ -1,5 +1,5 @@
 -- The counts of a written clock, and what they add up to.
-use Rattle.std.proofs.Common.{◌≡◌, ℕ, ◌+◌, ◌*◌, ◌/◌, ◌^◌, ◌<◌, ◌≤◌, Bool, true, false, cond, not, ◌==◌, ◌&&◌, IsTrue, List, [], ◌∷◌, ◌++◌, length, take, filter, if◌then◌else◌, ℤ, pos, ◌+ℤ◌, unsigned_abs, refl, sym, ap, ◌∙◌, arith, eqb-true}
+use Rattle.std.proofs.Common.{◌≡◌, ℕ, ◌+◌, ◌*◌, ◌/◌, ◌^◌, ◌<◌, ◌≤◌, Bool, false, ◌==◌, IsTrue, List, [], ◌∷◌, length, take, filter, if◌then◌else◌, ℤ, pos, unsigned_abs, refl, sym, ap, ◌∙◌, arith, eqb-true}
 use Rattle.std.proofs.lemmas.Bool.{and_from, and_parts, not-false, cond_both}
 use Rattle.std.proofs.Math.Nat.{div-eq_of_lt}
 use Rattle.std.proofs.lemmas.Int.{ints}
@@ -15,7 +15,7 @@ use Rattle.scan_core.specs.declared.share.Unit.TheVariants.{Hour, Minute, Second
 use Rattle.scan_core.specs.declared.share.Part.{Part}
 use Rattle.scan_core.specs.declared.share.Part.TheVariants.{Months, Days, Micros}
 use Rattle.scan_core.proofs.RoundingFacts.{rounded-nil, power-pos}
-use Rattle.pg_interval_2.specs.Clock.{is_nonzero, clock_counts}
+use Rattle.pg_interval_2.specs.Clock.{is_nonzero}
 use Rattle.pg_interval_2.specs.declared.interval.Interval.{Interval}
 use Rattle.pg_interval_2.specs.Ranges.{IsInRange}
 use Rattle.pg_interval_2.specs.Parts.{hours_of, minutes_of, seconds_of, subsecond_of}

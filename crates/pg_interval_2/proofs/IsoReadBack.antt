@@ -1,10 +1,7 @@
 -- A text written in ISO style is read back as its interval, and as no other.
-use Rattle.std.proofs.Common.{◌≡◌, ℕ, Bool, true, false, ◌&&◌, List, [], ◌∷◌, ◌++◌, ℤ, pos, ◌+ℤ◌, refl, sym, arith, int_eq, IsTrue}
+use Rattle.std.proofs.Common.{◌≡◌, true, ◌&&◌, [], ◌∷◌, ℤ, pos, refl, sym, int_eq}
 use Rattle.std.proofs.lemmas.Bool.{cond_both, and_parts}
 use Rattle.std.proofs.lemmas.Bool.Decides.{Decides-int_eq}
-use Rattle.std.proofs.lemmas.Int.{ints}
-use Rattle.scan_core.specs.Count.{Count}
-use Rattle.scan_core.specs.Shares.{fits_type}
 use Rattle.scan_core.specs.declared.share.Part.{Part}
 use Rattle.scan_core.specs.declared.share.Part.TheVariants.{Months, Days, Micros}
 use Rattle.pg_interval_2.specs.declared.interval.Interval.{Interval}
@@ -15,7 +12,7 @@ use Rattle.pg_interval_2.specs.Ranges.{IsInRange}
 use Rattle.scan_core.proofs.RoundingFacts.{rounded-nil}
 use Rattle.pg_interval_2.proofs.IsoCounts.{one_list}
 use Rattle.pg_interval_2.proofs.Signs.{fits_type-zero, abs_fits}
-use Rattle.pg_interval_2.proofs.AddsUp.{AddsUp, AddsUp-one, AddsUp-append, AddsUp-same}
+use Rattle.pg_interval_2.proofs.AddsUp.{AddsUp, AddsUp-one, AddsUp-same}
 use Rattle.pg_interval_2.proofs.WrittenCounts.{magnitude-zero, zero_count, date_counts-sum, time_counts-sum}
 use Rattle.pg_interval_2.proofs.IsoSpelled.{iso_counts, iso_spelled}
 use Rattle.pg_interval_2.proofs.SumsTo.{SumsTo, SumsTo-date_time, fits_months, fits_micros, Denotes-SumsTo, alone-SumsTo}

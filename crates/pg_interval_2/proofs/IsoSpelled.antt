@@ -1,18 +1,16 @@
 -- A text written in ISO style spells the counts of its interval.
-use Rattle.std.proofs.Common.{◌≡◌, ◌≢◌, ℕ, ◌+◌, ◌*◌, ◌/◌, ◌%◌, ◌<◌, ◌≤◌, ◌^◌, Bool, true, false, cond, ◌&&◌, IsTrue, List, [], ◌∷◌, ◌++◌, length, length-append, codes, decimal, if◌then◌else◌, ◌==◌, ℤ, pos, negsuc, unsigned_abs, Option, Some, refl, ap, sym, arith, inl, inr, append_assoc, append-nil, eqb-true, int_eq, true≢false, ⊎_elim, ◌∙◌}
+use Rattle.std.proofs.Common.{◌≡◌, ◌≢◌, ℕ, ◌+◌, ◌<◌, ◌≤◌, ◌^◌, Bool, true, false, ◌&&◌, List, [], ◌∷◌, ◌++◌, length, length-append, codes, decimal, if◌then◌else◌, ◌==◌, ℤ, pos, unsigned_abs, Option, Some, refl, ap, sym, arith, inl, inr, append_assoc, append-nil, eqb-true, int_eq, true≢false, ⊎_elim, ◌∙◌}
 use Rattle.std.proofs.lemmas.Bool.{cond_both, cond-true, cond-false, cases_Bool}
 use Rattle.std.proofs.lemmas.Bool.Decides.{Decides-int_eq}
 use Rattle.std.proofs.lemmas.Fmt.{decimal_nonempty}
 use Rattle.std.specs.Int.{is_negative}
 use Rattle.scan_core.specs.Count.{Count}
 use Rattle.scan_core.specs.Digits.{AreDigits}
-use Rattle.scan_core.specs.Join.{IsJoin}
-use Rattle.scan_core.specs.Number.{IsNumber}
 use Rattle.scan_core.specs.Padded.{padded}
 use Rattle.scan_core.specs.declared.share.Unit.{Unit as TimeUnit}
 use Rattle.scan_core.specs.declared.share.Unit.TheVariants.{Year, Month, Day, Hour, Minute, Second}
 use Rattle.scan_core.proofs.DigitFacts.{digits_decimal}
-use Rattle.pg_interval_2.specs.Iso.{IsPair, ArePairs, IsDateAlone, IsDateAndTime, IsIso, date_unit, time_unit}
+use Rattle.pg_interval_2.specs.Iso.{IsPair, ArePairs, IsIso, date_unit, time_unit}
 use Rattle.pg_interval_2.specs.IsoText.{iso_part, iso_seconds, iso_date, iso_time, iso_text}
 use Rattle.pg_interval_2.specs.Parts.{minus, years_of, months_of, hours_of, minutes_of, seconds_of, subsecond_of}
 use Rattle.pg_interval_2.proofs.JoinLemmas.{IsJoin-append, IsJoin-one}

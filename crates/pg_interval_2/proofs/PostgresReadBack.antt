@@ -1,8 +1,7 @@
 -- A text written in `postgres` style is read back as its interval.
-use Rattle.std.proofs.Common.{◌≡◌, Bool, true, List, [], filter, ℤ, pos, refl, int_eq}
+use Rattle.std.proofs.Common.{pos, refl, int_eq}
 use Rattle.std.proofs.lemmas.Bool.{cond_both}
 use Rattle.std.proofs.lemmas.Bool.Decides.{Decides-int_eq}
-use Rattle.scan_core.specs.Count.{Count}
 use Rattle.scan_core.specs.declared.share.Part.TheVariants.{Months, Days, Micros}
 use Rattle.pg_interval_2.specs.declared.interval.Interval.{Interval}
 use Rattle.pg_interval_2.specs.Denotes.{Denotes}

@@ -1,23 +1,20 @@
 -- A text written in `postgres` style spells the counts of its interval.
-use Rattle.std.proofs.Common.{◌≡◌, ℕ, zero, suc, ◌+◌, ◌<◌, ◌≤◌, ◌^◌, Bool, true, false, cond, not, ◌&&◌, ◌==◌, IsTrue, List, [], ◌∷◌, ◌++◌, length, length-append, codes, decimal, filter, if◌then◌else◌, ℤ, pos, unsigned_abs, int_eq, Option, Some, refl, sym, ap, ◌∙◌, arith, inl, inr, append_assoc, append-nil}
+use Rattle.std.proofs.Common.{◌≡◌, ℕ, ◌<◌, ◌≤◌, ◌^◌, Bool, true, false, not, ◌&&◌, ◌==◌, IsTrue, List, [], ◌∷◌, ◌++◌, codes, decimal, filter, if◌then◌else◌, ℤ, pos, unsigned_abs, int_eq, Some, refl, sym, arith, inl, inr, append_assoc, append-nil}
 use Rattle.std.proofs.lemmas.Bool.{cond_both, and_parts}
 use Rattle.std.proofs.lemmas.Bool.Decides.{Decides-int_eq}
 use Rattle.std.proofs.lemmas.Fmt.{decimal_nonempty}
 use Rattle.std.specs.Int.{is_negative}
-use Rattle.std.specs.List.{join_with_byte}
-use Rattle.scan_core.specs.Blanks.{words}
 use Rattle.scan_core.specs.Count.{Count, count_of}
-use Rattle.scan_core.specs.Digits.{AreDigits}
 use Rattle.scan_core.specs.Join.{IsJoin}
-use Rattle.scan_core.specs.Number.{IsNumber, IsFraction}
+use Rattle.scan_core.specs.Number.{IsFraction}
 use Rattle.scan_core.specs.Padded.{padded}
 use Rattle.scan_core.specs.declared.share.Unit.{Unit as TimeUnit}
-use Rattle.scan_core.specs.declared.share.Unit.TheVariants.{Year, Month, Day, Hour, Minute, Second}
+use Rattle.scan_core.specs.declared.share.Unit.TheVariants.{Year, Month, Day}
 use Rattle.scan_core.proofs.DigitFacts.{digits_decimal}
-use Rattle.pg_interval_2.specs.Clock.{IsClock, IsField, is_nonzero, clock_counts}
+use Rattle.pg_interval_2.specs.Clock.{IsClock, IsField, is_nonzero}
 use Rattle.pg_interval_2.specs.ClockText.{hours_text, field_text, fraction_text, clock_text}
 use Rattle.pg_interval_2.specs.Parts.{minus, years_of, months_of, hours_of, minutes_of, seconds_of, subsecond_of}
-use Rattle.pg_interval_2.specs.Postgres.{IsNamed, IsItem, AreItems, IsPostgres, all_counts, has_distinct_units, place_of}
+use Rattle.pg_interval_2.specs.Postgres.{IsNamed, IsItem, AreItems, IsPostgres, all_counts, has_distinct_units}
 use Rattle.pg_interval_2.specs.PostgresText.{counted_name, part_words, clock_words, postgres_words, postgres_text}
 use Rattle.pg_interval_2.specs.UnitNames.{postgres_names, unit_named}
 use Rattle.pg_interval_2.proofs.ClockCounts.{micros_digits, three_counts}

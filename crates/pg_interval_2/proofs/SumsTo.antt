@@ -1,13 +1,12 @@
 -- Counts whose sum is an interval: a text that spells them denotes it.
-use Rattle.std.proofs.Common.{◌≡◌, ℕ, List, [], ◌++◌, IsTrue, ℤ, pos, negsuc, unsigned_abs, refl, ◌∙◌, sym, arith, lt-ltb}
+use Rattle.std.proofs.Common.{◌≡◌, ℕ, List, [], ◌++◌, IsTrue, ℤ, pos, negsuc, refl, ◌∙◌, sym, arith, lt-ltb}
 use Rattle.std.proofs.lemmas.Int.{ints}
 use Rattle.std.proofs.lemmas.Bool.{and_from}
 use Rattle.std.specs.Int.{w32, w64}
 use Rattle.std.specs.Prelude.{FitsSigned}
 use Rattle.scan_core.specs.Count.{Count}
 use Rattle.scan_core.specs.Shares.{fits_type}
-use Rattle.scan_core.specs.Sums.{total, part_fits, fits}
-use Rattle.scan_core.specs.declared.share.Part.{Part}
+use Rattle.scan_core.specs.Sums.{fits}
 use Rattle.scan_core.specs.declared.share.Part.TheVariants.{Months, Days, Micros}
 use Rattle.pg_interval_2.specs.declared.interval.Interval.{Interval}
 use Rattle.pg_interval_2.specs.Denotes.{Denotes, sum_of}

@@ -1,7 +1,6 @@
 -- Counts whose units go from the greater to the smaller count no unit twice.
-use Rattle.std.proofs.Common.{◌≡◌, ℕ, suc, ◌<◌, ◌≤◌, Bool, true, false, cond, not, ◌==◌, ◌&&◌, IsTrue, List, [], ◌∷◌, ◌++◌, filter, refl, ap, arith}
-use Rattle.std.proofs.lemmas.Bool.{and_from, ne_eqb, or_left}
-use Rattle.std.proofs.lemmas.Bool.Decides.{nat_tests}
+use Rattle.std.proofs.Common.{◌≡◌, ℕ, suc, ◌<◌, ◌≤◌, Bool, true, false, cond, not, ◌==◌, IsTrue, List, [], ◌∷◌, ◌++◌, filter, refl, ap, arith}
+use Rattle.std.proofs.lemmas.Bool.{and_from, ne_eqb}
 use Rattle.std.specs.List.{list_any}
 use Rattle.scan_core.specs.Count.{Count}
 use Rattle.pg_interval_2.specs.Postgres.{place_of, has_distinct_units}

@@ -1,10 +1,10 @@
 -- The counts of written texts, and what they add up to.
-use Rattle.std.proofs.Common.{◌≡◌, ℕ, ◌+◌, ◌*◌, ◌<◌, ◌≤◌, ◌^◌, Bool, true, false, IsTrue, List, [], ◌∷◌, ◌++◌, length, decimal, codes, if◌then◌else◌, ◌==◌, ℤ, pos, unsigned_abs, refl, arith, eqb-true, sym}
+use Rattle.std.proofs.Common.{◌≡◌, ℕ, ◌+◌, ◌*◌, ◌<◌, ◌≤◌, ◌^◌, Bool, false, IsTrue, List, [], ◌∷◌, ◌++◌, decimal, codes, if◌then◌else◌, ◌==◌, ℤ, pos, unsigned_abs, refl, arith, eqb-true, sym}
 use Rattle.std.proofs.lemmas.Bool.{cond_both}
 use Rattle.std.proofs.lemmas.Int.{ints}
 use Rattle.std.specs.Int.{is_negative}
 use Rattle.scan_core.specs.Count.{Count}
-use Rattle.scan_core.specs.Digits.{AreDigits, number_of}
+use Rattle.scan_core.specs.Digits.{number_of}
 use Rattle.scan_core.specs.Padded.{padded}
 use Rattle.scan_core.specs.Shares.{signed, magnitude, fits_type}
 use Rattle.scan_core.specs.declared.share.Unit.{Unit as TimeUnit}
