@@ -20,3 +20,6 @@ pub mod IsoCounts
 pub mod TallyFacts
 pub mod IsoSteps
 pub mod Answering
+pub mod ItemFacts
+pub mod ItemsInFront
+pub mod ItemsRead

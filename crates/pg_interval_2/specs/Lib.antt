@@ -14,3 +14,5 @@ pub mod Clock
 pub mod Postgres
 pub mod Tallies
 pub mod IsoTally
+pub mod ItemReading
+pub mod ItemViews

@@ -9,6 +9,7 @@ mod clock_text;
 mod error;
 mod interval;
 mod iso;
+mod items;
 mod iso_text;
 pub mod laws;
 mod parts;
@@ -17,6 +18,7 @@ mod scan;
 mod style;
 mod tally;
 mod text;
+mod words;
 
 pub use error::ParseError;
 pub use interval::Interval;
