@@ -1,18 +1,14 @@
 -- Words with one space between each two.
-use Rattle.std.proofs.Common.{◌≡◌, ℕ, ◌<◌, Bool, false, not, IsTrue, List, [], ◌∷◌, ◌++◌, length, length-append, refl, ap, sym, ◌∙◌, arith, append_assoc, append-nil}
-use Rattle.std.proofs.lemmas.Bool.{and_parts, not-true}
-use Rattle.std.specs.List.{join_with_byte, list_all}
-use Rattle.scan_core.specs.Blanks.{is_blank, words}
+use Rattle.std.proofs.Common.{◌≡◌, ℕ, ◌<◌, List, [], ◌∷◌, ◌++◌, length, length-append, refl, ap, sym, ◌∙◌, arith, append_assoc, append-nil}
+use Rattle.std.specs.List.{join_with_byte}
+use Rattle.scan_core.specs.Blanks.{words}
+use Rattle.scan_core.proofs.WordFacts.{NoBlanks, words-blank, words-first}
 use Rattle.pg_interval_2.specs.Writing.{spaced, with_words}
-
--- no byte is blank
-abbrev pub has_no_blank : List ℕ → Bool
-has_no_blank bytes = list_all (λ b. not (is_blank b)) bytes
 
 -- each word has a byte, and no blank
 abbrev pub AreWords : List (List ℕ) → Type 0
 AreWords [] = Unit {0}
-AreWords (word ∷ words) = (0 < length word) × IsTrue (has_no_blank word) × AreWords words
+AreWords (word ∷ words) = (0 < length word) × NoBlanks word × AreWords words
 
 pub join-append : (x y : List ℕ) (xs ys : List (List ℕ)) → join_with_byte 32 ((x ∷ xs) ++ (y ∷ ys)) ≡ join_with_byte 32 (x ∷ xs) ++ (32 ∷ join_with_byte 32 (y ∷ ys))
 join-append x y [] ys = refl
@@ -20,7 +16,7 @@ join-append x y (z ∷ zs) ys = rw (join-append z y zs ys) (sym (append_assoc x 
 
 length-join : (x : List ℕ) (xs : List (List ℕ)) → 0 < length x → 0 < length (join_with_byte 32 (x ∷ xs))
 length-join x [] some = some
-length-join x (y ∷ ys) are = omega (arith, length-append x (32 ∷ join_with_byte 32 (y ∷ ys)))
+length-join x (y ∷ ys) some = omega (arith, length-append x (32 ∷ join_with_byte 32 (y ∷ ys)))
 
 spaced_some : (text : List ℕ) → 0 < length text → spaced text ≡ text ++ (32 ∷ [])
 spaced_some [] some = absurd (omega arith)
@@ -51,29 +47,10 @@ four_steps a b c d are_a are_b are_c =
 
 -- ---- the words of words with spaces between are these words
 
-no_blank_parts : (b : ℕ) (bs : List ℕ) → IsTrue (has_no_blank (b ∷ bs)) → (is_blank b ≡ false) × IsTrue (has_no_blank bs)
-no_blank_parts b bs clear = let parts = and_parts _ _ clear in (not-true _ parts.0, parts.1)
-
-one_word : (b : ℕ) (bs : List ℕ) → IsTrue (has_no_blank (b ∷ bs)) → words (b ∷ bs) ≡ (b ∷ bs) ∷ []
-one_word b [] clear = rw (no_blank_parts b [] clear).0 refl
-one_word b (c ∷ cs) clear =
-    let parts = no_blank_parts b (c ∷ cs) clear in
-    rw (parts.0, (no_blank_parts c cs parts.1).0, one_word c cs parts.1) refl
-
--- a space in front of a text changes no word
-behind_space : (text : List ℕ) → words (32 ∷ text) ≡ words text
-behind_space [] = refl
-behind_space (b ∷ bs) = refl
-
-first_word : (b : ℕ) (bs rest : List ℕ) → IsTrue (has_no_blank (b ∷ bs)) → words ((b ∷ bs) ++ (32 ∷ rest)) ≡ (b ∷ bs) ∷ words rest
-first_word b [] rest clear = rw (no_blank_parts b [] clear).0 (ap (λ (more : List (List ℕ)). (b ∷ []) ∷ more) (behind_space rest))
-first_word b (c ∷ cs) rest clear =
-    let parts = no_blank_parts b (c ∷ cs) clear in
-    rw (parts.0, (no_blank_parts c cs parts.1).0, first_word c cs rest parts.1) refl
-
 pub words-join : (all : List (List ℕ)) → AreWords all → words (join_with_byte 32 all) ≡ all
 words-join [] are = refl
 words-join ([] ∷ more) are = absurd (omega arith)
-words-join ((b ∷ bs) ∷ []) are = one_word b bs are.1
+words-join ((b ∷ bs) ∷ []) are = ap words (sym (append-nil (b ∷ bs))) ∙ words-first b bs [] are.1 tt
 words-join ((b ∷ bs) ∷ next ∷ more) are =
-    first_word b bs (join_with_byte 32 (next ∷ more)) are.1 ∙ ap (λ (rest : List (List ℕ)). (b ∷ bs) ∷ rest) (words-join (next ∷ more) are.2)
+    words-first b bs (32 ∷ join_with_byte 32 (next ∷ more)) are.1 refl
+    ∙ ap (λ (rest : List (List ℕ)). (b ∷ bs) ∷ rest) (words-blank 32 (join_with_byte 32 (next ∷ more)) refl ∙ words-join (next ∷ more) are.2)

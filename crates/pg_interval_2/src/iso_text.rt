@@ -8,7 +8,7 @@ use crate::parts::{
     hours_of, minutes_of, months_of, push_digits, push_fraction, push_minus, seconds_of,
     subsecond_of, years_of,
 };
-use scan_core::{Short, push_padded, push_text};
+use scan_core::{Short, push_text};
 
 /// Appends a number with its minus and its letter, or nothing where it is 0.
 #[tactic(auto, unfolding(crate::specs::IsoText::iso_part))]
