@@ -38,7 +38,7 @@ tail_no_colon : (fraction tail rest : List ℕ) → IsFraction fraction tail →
 tail_no_colon fraction tail rest (inl none) colon = rw none.1 colon
 tail_no_colon fraction tail rest (inr point) colon = rw point.1 refl
 
-positive : (n : ℕ) → 0 < n → nat_lt 0 n ≡ true
+pub positive : (n : ℕ) → 0 < n → nat_lt 0 n ≡ true
 positive n h = grind (arith, nat_tests)
 
 -- a number in front of anything that closes it

@@ -23,3 +23,8 @@ pub mod Answering
 pub mod ItemFacts
 pub mod ItemsInFront
 pub mod ItemsRead
+pub mod ItemWords
+pub mod Verdicts
+pub mod BadNames
+pub mod NoItems
+pub mod PostgresCounts

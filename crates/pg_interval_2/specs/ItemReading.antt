@@ -80,3 +80,52 @@ unfoldable pub read_item : List ℕ → NextItem
 read_item bytes =
     let sign = read_sign true bytes in
     read_behind_digits sign.0 (front_digits sign.1) (after_digits sign.1) (read_byte 58 (after_digits sign.1))
+
+-- ---- words
+
+-- what a whole word is
+pub data WordKind : Type 0 where
+  ClockWord : ClockFields → WordKind
+  GluedWord : Numeral → List ℕ → WordKind
+  NumberWord : Numeral → WordKind
+  OtherWord : WordKind
+
+abbrev pub kind_from : NextItem → Option (Numeral × List ℕ) → WordKind
+kind_from (ClockItem fields rest) number = ClockWord fields
+kind_from (NamedItem n letters rest) number = GluedWord n letters
+kind_from NoItem None = OtherWord
+kind_from NoItem (Some number) = if length number.1 == 0 then NumberWord number.0 else OtherWord
+
+unfoldable pub word_kind : List ℕ → WordKind
+word_kind word = kind_from (read_item word) (read_number true word)
+
+-- what words spell behind counts: all counts, or letters behind so many bytes that are no fresh name, or nothing
+pub data Verdict : Type 0 where
+  Spelled : List Count → Verdict
+  BadLetters : ℕ → List ℕ → Verdict
+  Unspelled : Verdict
+
+-- letters behind a number
+abbrev pub judge_unit : List Count → ℕ → List ℕ → Numeral → Option TimeUnit → (List Count → Verdict) → Verdict
+judge_unit counts ink letters n None next = BadLetters ink letters
+judge_unit counts ink letters n (Some unit) next = if counts_unit unit counts then BadLetters ink letters else next (count_of n unit ∷ [])
+
+abbrev pub is_name : List ℕ → Bool
+is_name word = nat_lt 0 (length word) && list_all is_ascii_alphabetic word
+
+abbrev pub clock_of : ClockFields → List Count
+clock_of f = clock_counts f.negative f.hours f.minutes f.seconds f.fraction
+
+-- a word of a kind, with what follows it, and what follows a number
+abbrev pub judge_word : (TimeUnit → List (List ℕ)) → List Count → ℕ → ℕ → WordKind → (List Count → Verdict) → (Numeral → Verdict) → Verdict
+judge_word names counts ink length_of (ClockWord fields) next pair = if has_distinct_units (counts ++ clock_of fields) then next (clock_of fields) else Unspelled
+judge_word names counts ink length_of (GluedWord n letters) next pair = judge_unit counts (ink + (length_of - length letters)) letters n (unit_named names letters) next
+judge_word names counts ink length_of (NumberWord n) next pair = pair n
+judge_word names counts ink length_of OtherWord next pair = Unspelled
+
+abbrev pub verdict : (TimeUnit → List (List ℕ)) → List Count → ℕ → List (List ℕ) → Verdict
+verdict names counts ink [] = Spelled counts
+verdict names counts ink (word ∷ []) = judge_word names counts ink (length word) (word_kind word) (λ more. Spelled (counts ++ more)) (λ n. Unspelled)
+verdict names counts ink (word ∷ name ∷ more) =
+    judge_word names counts ink (length word) (word_kind word) (λ cs. verdict names (counts ++ cs) (ink + length word) (name ∷ more))
+    (λ n. if is_name name then judge_unit counts (ink + length word) name n (unit_named names name) (λ cs. verdict names (counts ++ cs) (ink + length word + length name) more) else Unspelled)

@@ -3,7 +3,7 @@
 use Rattle.std.specs.Prelude.{◌≡◌, ◌⊎◌, ℕ, ◌+◌, ◌<◌, length, Bool, true, false, ◌&&◌, not, ◌==◌, IsTrue, List, [], ◌∷◌, ◌++◌, Option, Some}
 use Rattle.std.specs.List.{list_any, list_all}
 use Rattle.std.specs.Char.{is_ascii_alphabetic}
-use Rattle.scan_core.specs.Blanks.{words, EndsWord}
+use Rattle.scan_core.specs.Blanks.{is_blank, words, EndsWord, EndsInBlank}
 use Rattle.scan_core.specs.Count.{Count}
 use Rattle.scan_core.specs.Join.{IsJoin}
 use Rattle.scan_core.specs.Number.{IsNumber}
@@ -60,25 +60,27 @@ IsPostgres text counts = AreItems postgres_names (words text) counts
 abbrev pub IsFreshName : (TimeUnit → List (List ℕ)) → List Count → List ℕ → Type 0
 IsFreshName names counts letters = (unit : TimeUnit) × (unit_named names letters ≡ Some unit) × (counts_unit unit counts ≡ false)
 
--- Letters of a text that name no unit, or one that was counted before: behind items, in which no unit is counted twice, and a number.
+-- Letters of a text, from start to end, that name no unit or one that was counted before: they stand behind a number, with
+-- blanks between or none, and before these stand items, in which no unit is counted twice.
 pub record IsBadName (names : TimeUnit → List (List ℕ)) (text : List ℕ) (start end : ℕ) : Type 0 where
-  pub before : List ℕ
+  pub lead : List ℕ
+  pub number : List ℕ
+  pub blanks : List ℕ
   pub letters : List ℕ
   pub after : List ℕ
-  pub front : List (List ℕ)
   pub counts : List Count
-  pub number : List ℕ
   pub c : Count
-  pub items : AreItems names front counts
+  pub items : AreItems names (words lead) counts
+  pub closed : EndsInBlank lead
   pub digits : IsNumber true c.negative c.whole c.fraction number
-  pub counted : words before ≡ front ++ number ∷ []
+  pub blank : IsTrue (list_all is_blank blanks)
   pub some : 0 < length letters
   pub ascii : IsTrue (list_all is_ascii_alphabetic letters)
   pub ends : EndsWord after
   pub bad : ¬ (IsFreshName names counts letters)
-  pub split : text ≡ before ++ (letters ++ after)
-  pub starts : start ≡ length before
-  pub stops : end ≡ length before + length letters
+  pub split : text ≡ lead ++ (number ++ (blanks ++ (letters ++ after)))
+  pub starts : start ≡ length lead + (length number + length blanks)
+  pub stops : end ≡ start + length letters
 
 abbrev pub IsPostgresBadName : List ℕ → ℕ → ℕ → Type 0
 IsPostgresBadName = IsBadName postgres_names

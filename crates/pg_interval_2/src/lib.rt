@@ -18,6 +18,7 @@ mod scan;
 mod style;
 mod tally;
 mod text;
+mod unit_name;
 mod words;
 
 pub use error::ParseError;

@@ -1,7 +1,7 @@
 -- Words: blanks before them don't count, and a word that ends is the first.
-use Rattle.std.proofs.Common.{◌≡◌, ◌≢◌, ℕ, ◌+◌, ◌<◌, ◌≤◌, Bool, true, false, cond, IsTrue, List, [], ◌∷◌, ◌++◌, length, refl, sym, ◌∙◌, ap, subst, append_assoc, length-append, arith}
+use Rattle.std.proofs.Common.{◌≡◌, ◌≢◌, ℕ, ◌+◌, ◌<◌, ◌≤◌, Bool, true, false, cond, IsTrue, List, [], ◌∷◌, ◌++◌, length, refl, sym, ◌∙◌, ap, subst, append_assoc, append-nil, length-append, arith, inl, inr}
 use Rattle.std.specs.Prelude.{if◌then◌else◌}
-use Rattle.scan_core.specs.Blanks.{is_blank, onto_first, words, EndsWord}
+use Rattle.scan_core.specs.Blanks.{is_blank, onto_first, words, EndsWord, EndsInBlank}
 
 -- no byte is a blank
 abbrev pub NoBlanks : List ℕ → Type 0
@@ -82,3 +82,45 @@ same_place (x ∷ xs) (y ∷ ys) s t b c hb hc count e =
     let same : weight x ≡ weight y = ap weight heads in
     let below : xs ≡ ys = same_place xs ys s t b c hb hc (omega (arith, count, same)) tails in
     cc
+
+-- ---- words behind a blank
+
+onto_some : (b : ℕ) (ws : List (List ℕ)) → (w : List ℕ) × (more : List (List ℕ)) × (onto_first b ws ≡ w ∷ more)
+onto_some b [] = (b ∷ [], [], refl)
+onto_some b (w ∷ more) = (b ∷ w, more, refl)
+
+begins_if : (t : Bool) (b : ℕ) (ws : List (List ℕ)) → (w : List ℕ) × (more : List (List ℕ)) × (cond t ((b ∷ []) ∷ ws) (onto_first b ws) ≡ w ∷ more)
+begins_if true b ws = (b ∷ [], ws, refl)
+begins_if false b ws = onto_some b ws
+
+-- a byte that isn't blank begins a word
+word_begins : (b : ℕ) (bs : List ℕ) → is_blank b ≡ false → (w : List ℕ) × (more : List (List ℕ)) × (words (b ∷ bs) ≡ w ∷ more)
+word_begins b [] h = (b ∷ [], [], rw h refl)
+word_begins b (c ∷ bs) h = let some = begins_if (is_blank c) b (words (c ∷ bs)) in (some.0, some.1, rw h some.2)
+
+onto_join : (b : ℕ) (w : List ℕ) (xs more ys : List (List ℕ)) → xs ≡ w ∷ more → onto_first b (xs ++ ys) ≡ onto_first b xs ++ ys
+onto_join b w xs more ys h = rw h refl
+
+behind_one : (t : Bool) (x : ℕ) (all rest : List (List ℕ)) → all ≡ rest → cond t all ((x ∷ []) ∷ all) ≡ cond t [] ((x ∷ []) ∷ []) ++ rest
+behind_one true x all rest h = h
+behind_one false x all rest h = ap (λ (l : List (List ℕ)). (x ∷ []) ∷ l) h
+
+behind_two : (t u : Bool) (x : ℕ) (all front rest : List (List ℕ)) → all ≡ front ++ rest → (u ≡ false → onto_first x (front ++ rest) ≡ onto_first x front ++ rest)
+  → cond t all (cond u ((x ∷ []) ∷ all) (onto_first x all)) ≡ cond t front (cond u ((x ∷ []) ∷ front) (onto_first x front)) ++ rest
+behind_two true u x all front rest h onto = h
+behind_two false true x all front rest h onto = ap (λ (l : List (List ℕ)). (x ∷ []) ∷ l) h
+behind_two false false x all front rest h onto = ap (onto_first x) h ∙ onto refl
+
+pub words-behind : (front : List ℕ) (b : ℕ) (rest : List ℕ) → is_blank b ≡ true → words (front ++ (b ∷ rest)) ≡ words front ++ words rest
+words-behind [] b rest h = words-blank b rest h
+words-behind (x ∷ []) b rest h = let blank = h in rw blank (behind_one (is_blank x) x (words (b ∷ rest)) (words rest) (words-blank b rest h))
+words-behind (x ∷ y ∷ front) b rest h =
+    behind_two (is_blank x) (is_blank y) x (words (y ∷ (front ++ (b ∷ rest)))) (words (y ∷ front)) (words rest) (words-behind (y ∷ front) b rest h)
+    (λ solid. let some = word_begins y front solid in onto_join x some.0 (words (y ∷ front)) some.1 (words rest) some.2)
+
+-- words on both sides of a place where a word may begin
+pub words-closed : (front rest : List ℕ) → EndsInBlank front → words (front ++ rest) ≡ words front ++ words rest
+words-closed front rest (inl none) = rw none refl
+words-closed front rest (inr (before, b, blank, split)) =
+    let alone : words front ≡ words before = ap words split ∙ words-behind before b [] blank ∙ append-nil (words before) in
+    ap words (ap (λ (l : List ℕ). l ++ rest) split ∙ append_assoc before (b ∷ []) rest) ∙ words-behind before b rest blank ∙ ap (λ (l : List (List ℕ)). l ++ words rest) (sym alone)
