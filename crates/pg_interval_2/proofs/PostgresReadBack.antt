@@ -1,5 +1,5 @@
--- A text written in `postgres` style is read back as its interval.
-use Rattle.std.proofs.Common.{pos, refl, int_eq}
+-- A text written in `postgres` style is read back as its interval, and as no other.
+use Rattle.std.proofs.Common.{◌≡◌, pos, refl, int_eq}
 use Rattle.std.proofs.lemmas.Bool.{cond_both}
 use Rattle.std.proofs.lemmas.Bool.Decides.{Decides-int_eq}
 use Rattle.scan_core.specs.declared.share.Part.TheVariants.{Months, Days, Micros}
@@ -11,8 +11,9 @@ use Rattle.pg_interval_2.specs.Ranges.{IsInRange}
 use Rattle.pg_interval_2.proofs.Signs.{abs_fits}
 use Rattle.pg_interval_2.proofs.WrittenCounts.{date_counts-sum}
 use Rattle.pg_interval_2.proofs.ClockCounts.{kept_counts-sum}
+use Rattle.pg_interval_2.proofs.PostgresCounts.{one_list}
 use Rattle.pg_interval_2.proofs.PostgresSpelled.{postgres_counts, clock_part, postgres_spelled}
-use Rattle.pg_interval_2.proofs.SumsTo.{SumsTo, SumsTo-nil, SumsTo-date_time, time_of, fits_months, fits_micros, Denotes-SumsTo}
+use Rattle.pg_interval_2.proofs.SumsTo.{SumsTo, SumsTo-nil, SumsTo-date_time, time_of, fits_months, fits_micros, Denotes-SumsTo, alone-SumsTo}
 
 clock_part-sum : (t : Interval) → IsInRange t → SumsTo (clock_part t.microseconds) (time_of t)
 clock_part-sum t range =
@@ -27,3 +28,8 @@ spelled t range = postgres_spelled t.months t.days t.microseconds (abs_fits Mont
 
 pub postgres_denotes : (t : Interval) → IsInRange t → Denotes IsPostgres (postgres_text t.months t.days t.microseconds) t
 postgres_denotes t range = Denotes-SumsTo IsPostgres (postgres_text t.months t.days t.microseconds) (postgres_counts t.months t.days t.microseconds) t range (spelled t range) (sums t range)
+
+pub postgres_alone : (t u : Interval) → IsInRange t → Denotes IsPostgres (postgres_text t.months t.days t.microseconds) u → u ≡ t
+postgres_alone t u range =
+    alone-SumsTo IsPostgres (postgres_text t.months t.days t.microseconds) (postgres_counts t.months t.days t.microseconds) t u
+    (λ others is. one_list (postgres_text t.months t.days t.microseconds) others _ is (spelled t range)) (sums t range)
