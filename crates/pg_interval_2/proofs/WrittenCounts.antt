@@ -13,6 +13,7 @@ use Rattle.scan_core.specs.declared.share.Part.{Part}
 use Rattle.scan_core.specs.declared.share.Part.TheVariants.{Months, Days, Micros}
 use Rattle.pg_interval_2.specs.declared.interval.Interval.{Interval}
 use Rattle.pg_interval_2.specs.Ranges.{IsInRange}
+use Rattle.pg_interval_2.specs.IsoText.{nonzero_digits}
 use Rattle.pg_interval_2.specs.Parts.{years_of, months_of, hours_of, minutes_of, seconds_of, subsecond_of}
 use Rattle.scan_core.proofs.DigitFacts.{number_of-decimal}
 use Rattle.scan_core.proofs.RoundingFacts.{rounded-nil}
@@ -28,7 +29,7 @@ part_counts negative n unit = if n == 0 then [] else (record { negative = negati
 -- the count of seconds and microseconds, or none where they are 0
 abbrev pub seconds_counts : Bool → ℕ → ℕ → List Count
 seconds_counts negative seconds micros =
-    if micros == 0 then part_counts negative seconds Second else (record { negative = negative; whole = if seconds == 0 then [] else decimal seconds; fraction = padded 6 micros; unit = Second } ∷ [])
+    if micros == 0 then part_counts negative seconds Second else (record { negative = negative; whole = nonzero_digits seconds; fraction = padded 6 micros; unit = Second } ∷ [])
 
 -- no seconds, as they are written of zero
 abbrev pub zero_count : Count
@@ -54,7 +55,8 @@ part_counts-sum part negative n unit small fits =
     (λ _. AddsUp-one part _ n 0 (number_of-decimal n small) (rounded-nil _) fits)
 
 -- the whole seconds are the digits of their number, or none where it is 0
-whole_seconds : (n : ℕ) → n < 2 ^ 64 → number_of (if n == 0 then [] else decimal n) ≡ n
+whole_seconds : (n : ℕ) → n < 2 ^ 64 → number_of (nonzero_digits n) ≡ n
+unfolding nonzero_digits
 whole_seconds n small =
     cond_both (n == 0) _ _ (λ digits. number_of digits ≡ n) (λ zero_is. sym (eqb-true n 0 zero_is)) (λ _. number_of-decimal n small)
 

@@ -64,6 +64,7 @@ fn push_time(out: &mut Short, micros: i64)
     }
 }
 
+/// The text of zero.
 fn zero_text() -> Short
     ensures bytes { result.bytes ≡ codes "00:00:00" }
     ensures len { array_string_len result ≤ 96 }
@@ -73,6 +74,7 @@ fn zero_text() -> Short
     out
 }
 
+/// The text of an interval that isn't zero.
 fn nonzero_text(months: i32, days: i32, micros: i64) -> Short
     ensures bytes { result.bytes ≡ join_with_byte 32 (postgres_words months days micros) }
     ensures len { array_string_len result ≤ 96 }

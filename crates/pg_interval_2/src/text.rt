@@ -9,8 +9,9 @@ impl Interval {
     ghost use Rattle.arrayvec.specs.ArrayString.{array_string_len};
     ghost use Rattle.pg_interval_2.specs.Styles.{written};
 
-    /// The interval's written text in the style, which denotes this interval and no other: `P1Y1M1DT1H` of a year, a
-    /// month, a day and an hour.
+    /// The interval's written text in the style, at most 96 bytes: `P1Y1M1DT1H` or `1 year 1 mon 1 day 01:00:00` of a
+    /// year, a month, a day and an hour. Every interval has one, the least values of its parts included. Read in the same
+    /// style, it denotes this interval and no other.
     pub fn text(&self, style: Style) -> Short
         ensures bytes { result.bytes ≡ written style self.now }
         ensures len { array_string_len result ≤ 96 }
