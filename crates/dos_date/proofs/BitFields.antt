@@ -1,5 +1,5 @@
 -- Bits beside each other make the sum of their fields.
-use Rattle.std.proofs.Common.{◌≡◌, ℕ, ◌+◌, ◌*◌, ◌^◌, ◌<◌, ◌%◌, bit_or, ◌∙◌, ap, arith}
+use Rattle.std.proofs.Common.{◌≡◌, ℕ, ◌+◌, ◌*◌, ◌^◌, ◌<◌, bit_or, arith}
 use Rattle.std.proofs.lemmas.Nat.{or_shifted}
 
 -- three fields, the lowest of 5 bits, and a middle one that stays below bit k

@@ -1,4 +1,5 @@
-use crate::{Date, DateTime, DosRangeErrorKind, Time};
+use crate::DosRangeErrorKind::{Negative, Overflow};
+use crate::{Date, DateTime, Time};
 use jiff::civil;
 use std::test::Fail;
 
@@ -84,37 +85,21 @@ fn texts(rt: HostRuntime) -> Result<(), Fail> {
 
 #[test]
 fn years_out_of_range(rt: HostRuntime) -> Result<(), Fail> {
-    let last_of = |year| civil::DateTime::new(year, 12, 31, 23, 59, 59, 999_999_999);
+    let before = "date and time is before 1980";
+    let after = "date and time is after 2107";
     for (year, kind, text) in [
-        (
-            -9999,
-            DosRangeErrorKind::Negative,
-            "date and time is before 1980",
-        ),
-        (
-            1979,
-            DosRangeErrorKind::Negative,
-            "date and time is before 1980",
-        ),
-        (
-            2108,
-            DosRangeErrorKind::Overflow,
-            "date and time is after 2107",
-        ),
-        (
-            9999,
-            DosRangeErrorKind::Overflow,
-            "date and time is after 2107",
-        ),
+        (-9999, Negative, before),
+        (1979, Negative, before),
+        (2108, Overflow, after),
+        (9999, Overflow, after),
     ] {
-        let Err(error) = DateTime::from_civil(last_of(year)?) else {
-            return Err(Fail::new("a year out of range"));
+        let last = civil::DateTime::new(year, 12, 31, 23, 59, 59, 999_999_999)?;
+        let Err(error) = DateTime::from_civil(last) else {
+            return Err(Fail::new("the year is out of range"));
         };
         assert_eq!(rt; error.kind(), kind);
-        assert_eq!(rt;
-            format!(in rt.alloc(); "{error} and {kind}")?.as_str(),
-            text
-        );
+        assert_eq!(rt; format!(in rt.alloc(); "{error}")?.as_str(), text);
+        assert_eq!(rt; format!(in rt.alloc(); "{kind}")?.as_str(), text);
     }
     Ok(())
 }
