@@ -1,13 +1,19 @@
-// A library with one function.
+//! Windows file times: 64-bit counts of ticks of 100 nanoseconds since 1601-01-01 00:00:00 UTC.
+//!
+//! NTFS, the registry and the Windows event logs keep their moments so. A [`FileTime`] turns exactly
+//! into Unix time, into civil time and into the date words of MS-DOS, and each way back says where
+//! there is no such file time.
 #![tactic(auto)]
 
-ghost use Rattle.std.specs.Prelude.{◌≡◌};
-ghost use Rattle.nt_time.specs.Echo.{echo_of};
+mod bytes;
+mod convert;
+pub mod error;
+mod file_time;
+pub mod laws;
+mod sums;
+mod text;
+mod unix_time;
+mod utc_date_time;
 
-// The `ensures` clause is the contract: what `echo` returns is `echo_of` of its argument, a definition
-// in `specs/Echo.antt`, which a caller's clause can cite too.
-pub fn echo(x: usize) -> usize
-    ensures { result ≡ echo_of x }
-{
-    x
-}
+pub use file_time::FileTime;
+pub use utc_date_time::UtcDateTime;
