@@ -90,10 +90,10 @@ impl DateTime {
         ensures { IsFromCivil civil result }
     {
         if civil.year() < 1980 {
-            return Err(DosRangeError::new(DosRangeErrorKind::Negative));
+            return Err(DosRangeErrorKind::Negative.into());
         }
         if civil.year() > 2107 {
-            return Err(DosRangeError::new(DosRangeErrorKind::Overflow));
+            return Err(DosRangeErrorKind::Overflow.into());
         }
         Ok(DateTime {
             date: Date::from_civil(civil.date()),

@@ -32,16 +32,19 @@ impl Model for DosRangeError {
 }
 
 impl DosRangeError {
-    pub(crate) fn new(kind: DosRangeErrorKind) -> DosRangeError
-        ensures { result ≡ kind }
-    {
-        DosRangeError { kind }
-    }
-
     /// Which bound was passed.
     pub fn kind(self) -> DosRangeErrorKind
         ensures { result ≡ self }
     {
         self.kind
+    }
+}
+
+/// The error of that kind.
+impl From<DosRangeErrorKind> for DosRangeError {
+    ghost from_gives = { λ kind error. error ≡ kind };
+
+    fn from(kind: DosRangeErrorKind) -> DosRangeError {
+        DosRangeError { kind }
     }
 }

@@ -31,3 +31,28 @@ impl TryFrom<FileTime> for Timestamp {
         }
     }
 }
+
+/// The DOS date-time of the moment in UTC, as [`DateTime::from_civil`] gives it: the seconds are cut
+/// to even. `Negative` exactly before 1980, `Overflow` exactly after 2107, also after the year 9999.
+impl TryFrom<FileTime> for DateTime {
+    type Error = DosRangeError;
+
+    ghost try_from_gives = { IsDosFrom };
+
+    fn try_from(ft: FileTime) -> Result<DateTime, DosRangeError> {
+        match UtcDateTime::try_from(ft) {
+            Ok(utc) => DateTime::from_civil(utc.civil()),
+            Err(OutOfCivil) => Err(DosRangeErrorKind::Overflow.into()),
+        }
+    }
+}
+
+/// The same moment, where the DOS date-time is taken to be in UTC.
+impl From<DateTime> for FileTime {
+    ghost from_gives = { IsTickOf };
+
+    fn from(dos: DateTime) -> FileTime {
+        let seconds = dos.to_civil().to_plain().to_second();
+        FileTime::from_unix_time_secs(seconds).unwrap()
+    }
+}

@@ -11,6 +11,8 @@ pub mod error;
 mod file_time;
 pub mod laws;
 mod sums;
+#[cfg(test)]
+mod tests;
 mod text;
 mod unix_time;
 mod utc_date_time;
