@@ -1,5 +1,5 @@
 -- Where the DOS years begin and end.
-use Rattle.std.proofs.Common.{◌≡◌, ℕ, ◌<◌, ◌≤◌, ℤ, pos, neg_ℤ, ◌+ℤ◌, ◌-ℤ◌, ◌*ℤ◌, ◌<ℤ◌, ◌≤ℤ◌, ◌↔◌, refl, inl, inr, ⊎_elim, Result, Ok, Err, IsOk, IsErrOf, arith}
+use Rattle.std.proofs.Common.{◌≡◌, ℕ, ◌<◌, ◌≤◌, pos, ◌*ℤ◌, ◌<ℤ◌, ◌≤ℤ◌, ◌↔◌, refl, inl, inr, ⊎_elim, Result, Ok, Err, IsOk, IsErrOf, arith}
 use Rattle.std.proofs.lemmas.Bool.{cases_lt}
 use Rattle.std.proofs.lemmas.Int.{ints, by_lt_z}
 use Rattle.jiff.proofs.Family.{epoch_day-lt, epoch_day_same, civil_nanos-parts, time_nanos_bound}

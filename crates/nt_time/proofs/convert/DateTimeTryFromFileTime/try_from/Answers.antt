@@ -1,4 +1,4 @@
-use Rattle.std.proofs.Common.{◌<◌, arith, ⊎_elim}
+use Rattle.std.proofs.Common.{◌<◌, ⊎_elim}
 use Rattle.std.proofs.lemmas.Bool.{cases_lt}
 use Rattle.nt_time.specs.Civil.{past_civil}
 use Rattle.nt_time.proofs.CivilLemmas.{dos_from}

@@ -1,4 +1,4 @@
-use Rattle.std.proofs.Common.{arith, ◌∙◌, ◌^◌, ◌≤◌, ⊎_elim}
+use Rattle.std.proofs.Common.{◌∙◌, ◌^◌, ◌≤◌, ⊎_elim}
 use Rattle.std.proofs.lemmas.Bool.{cases_lt}
 use Rattle.std.specs.Str.Parse.{digits_value, without_leading_plus}
 use Rattle.nt_time.proofs.TextLemmas.{read_ok, read_overflow}
