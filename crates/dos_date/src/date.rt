@@ -37,6 +37,8 @@ impl Date {
     pub(crate) const MAX: Date = Date { word: 0xff9f };
 
     /// The date over this word. `None` exactly where the word is no real day.
+    ///
+    /// `Date::from_raw(0x2d7a)` is 2002-11-26, and `Date::from_raw(0)` is `None`.
     pub fn from_raw(word: u16) -> Option<Date>
         ensures some { IsSome result ↔ IsRealDay word }
         ensures value { IfSome result (λ date. date ≡ word) }

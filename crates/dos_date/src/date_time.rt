@@ -1,4 +1,4 @@
-ghost use Rattle.std.specs.Prelude.{◌≡◌, ◌↔◌, IsSome, IfSome, IfOk, IsErrOf, pos, ◌<ℤ◌, ◌++◌, Some, codes};
+ghost use Rattle.std.specs.Prelude.{◌≡◌, ◌↔◌, IsSome, IfSome, ◌++◌, Some, codes};
 ghost use Rattle.dos_date.specs.DateWord.{IsRealDay};
 ghost use Rattle.dos_date.specs.TimeWord.{IsRealTime};
 ghost use Rattle.dos_date.specs.DateTime.{IsMomentOf, IsFromCivil};
@@ -43,6 +43,8 @@ impl DateTime {
     };
 
     /// The date-time over these words. `None` exactly where one of them is no date or no time.
+    ///
+    /// `DateTime::from_raw(0x2d7a, 0x9b20)` is 2002-11-26 19:25:00.
     pub fn from_raw(date: u16, time: u16) -> Option<DateTime>
         ensures some { IsSome result ↔ (IsRealDay date × IsRealTime time) }
         ensures value { IfSome result (λ d. (d.date ≡ date) × (d.time ≡ time)) }
@@ -85,7 +87,8 @@ impl DateTime {
 
     /// The DOS date-time of a civil one, with the seconds cut to even and anything less cut off.
     ///
-    /// `Negative` exactly before 1980, `Overflow` exactly after 2107.
+    /// `Negative` exactly before 1980, `Overflow` exactly after 2107. 2018-11-17 10:38:31.5 becomes
+    /// 2018-11-17 10:38:30.
     pub fn from_civil(civil: civil::DateTime) -> Result<DateTime, DosRangeError>
         ensures { IsFromCivil civil result }
     {

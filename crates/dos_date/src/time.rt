@@ -37,6 +37,8 @@ impl Time {
 
     /// The time over this word. `None` exactly where the hour is above 23, the minute above 59 or
     /// the halved second above 29.
+    ///
+    /// `Time::from_raw(0x9b20)` is 19:25:00, and `Time::from_raw(30)` is `None`.
     pub fn from_raw(word: u16) -> Option<Time>
         ensures some { IsSome result ↔ IsRealTime word }
         ensures value { IfSome result (λ time. time ≡ word) }

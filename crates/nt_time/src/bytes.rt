@@ -1,5 +1,5 @@
 //! File times as eight bytes and as two halves, as `FILETIME` stores them.
-ghost use Rattle.std.specs.Prelude.{◌≡◌, ◌+◌, ◌*◌, ◌^◌};
+ghost use Rattle.std.specs.Prelude.{◌≡◌};
 ghost use Rattle.std.specs.Int.{w64, to_be_bytes, to_le_bytes, from_be_bytes, from_le_bytes};
 ghost use Rattle.nt_time.specs.FileTime.{HasParts};
 
@@ -8,7 +8,8 @@ use crate::FileTime;
 impl FileTime {
     /// The eight bytes of the raw count, the highest first.
     ///
-    /// In this form file times sort as their bytes do.
+    /// In this form file times sort as their bytes do. Those of [`FileTime::UNIX_EPOCH`] are
+    /// `01 9d b1 de d5 3e 80 00`.
     pub fn to_be_bytes(self) -> [u8; 8]
         ensures { result ≡ to_be_bytes w64 self }
     {
@@ -37,6 +38,8 @@ impl FileTime {
     }
 
     /// The high and the low 32 bits of the raw count: `dwHighDateTime` and `dwLowDateTime`.
+    ///
+    /// Those of [`FileTime::UNIX_EPOCH`] are `0x019d_b1de` and `0xd53e_8000`.
     pub fn to_high_low(self) -> (u32, u32)
         ensures { HasParts self result.0 result.1 }
     {

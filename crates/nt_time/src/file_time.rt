@@ -37,7 +37,7 @@ impl FileTime {
     /// +60056-05-28 05:36:10.9551615 UTC, the last tick.
     pub const MAX: FileTime = FileTime { raw: u64::MAX };
 
-    /// The file time of that raw count.
+    /// The file time of that raw count: 0 is [`FileTime::NT_TIME_EPOCH`].
     pub fn new(ft: u64) -> FileTime
         ensures { result ≡ ft }
     {

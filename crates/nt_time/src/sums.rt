@@ -36,6 +36,8 @@ impl FileTime {
     }
 
     /// The file time that is the whole ticks of `rhs` later. `None` exactly where it leaves `u64`.
+    ///
+    /// 99 nanoseconds add no tick, and 199 add one.
     pub fn checked_add(self, rhs: Duration) -> Option<FileTime>
         ensures some { IsSome result ↔ CanAddTicks self (as_nanos rhs) }
         ensures value { IfSome result (IsAfterBy (as_nanos rhs) self) }
@@ -71,6 +73,8 @@ impl FileTime {
 
     /// The file time that is the whole ticks of `rhs` later, or earlier where `rhs` is negative. The
     /// magnitude is cut to whole ticks. `None` exactly where it leaves `u64`.
+    ///
+    /// Raw count 5 and -199 nanoseconds give raw count 4.
     pub fn checked_add_signed(self, rhs: SignedDuration) -> Option<FileTime>
         ensures some { IsSome result ↔ CanMoveTicks self (signed_nanos rhs) }
         ensures value { IfSome result (IsMovedBy (signed_nanos rhs) self) }

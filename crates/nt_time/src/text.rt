@@ -23,7 +23,7 @@ impl Display for FileTime {
 /// Reads a raw count: decimal digits, as many as there are, with a `+` before them or without.
 ///
 /// `Empty` exactly for the empty text, `InvalidDigit` exactly for another text that is not so, and
-/// `Overflow` exactly for a number above `u64::MAX`.
+/// `Overflow` exactly for a number above `u64::MAX`. `+5` is raw count 5.
 impl FromStr for FileTime {
     type Err = ParseFileTimeError;
 

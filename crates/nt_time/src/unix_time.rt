@@ -26,6 +26,8 @@ const LAST_SECOND: i64 = 1_833_029_933_770;
 
 impl FileTime {
     /// Whole seconds since 1970, rounded down, and the nanoseconds beyond them, below 10^9.
+    ///
+    /// The tick before 1970 is -1 and 999_999_900.
     pub fn to_unix_time(self) -> (i64, u32)
         ensures nanos { result.0 *ℤ pos 1_000_000_000 +ℤ pos result.1 ≡ unix_nanos self }
         ensures beyond { result.1 < 1_000_000_000 }
@@ -34,7 +36,7 @@ impl FileTime {
         (self.to_unix_time_secs(), nanos as u32)
     }
 
-    /// Whole seconds since 1970, rounded down.
+    /// Whole seconds since 1970, rounded down: -1 for the tick before 1970.
     pub fn to_unix_time_secs(self) -> i64
         ensures { IsFloor 1_000_000_000 (unix_nanos self) result }
     {
@@ -67,7 +69,7 @@ impl FileTime {
     ///
     /// The seconds are judged first: `Negative` exactly where they are before the first tick, as in
     /// [`FileTime::from_unix_time_secs`]. Then `Overflow` exactly where the sum of the whole ticks
-    /// passes the last one.
+    /// passes the last one. `from_unix_time(0, 199)` is one tick after [`FileTime::UNIX_EPOCH`].
     pub fn from_unix_time(secs: i64, nanos: u32) -> Result<FileTime, FileTimeRangeError>
         ensures ok { IfOk result (IsLatestNotAfter (secs *ℤ pos 1_000_000_000 +ℤ pos nanos)) }
         ensures negative { IsErrOf result FileTimeRangeErrorKind.Negative
@@ -119,7 +121,8 @@ impl FileTime {
     /// The greatest file time not after that many nanoseconds since 1970.
     ///
     /// `Negative` exactly below -11_644_473_600_000_000_000, the first tick, and `Overflow` exactly
-    /// above 1_833_029_933_770_955_161_500, the last one.
+    /// above 1_833_029_933_770_955_161_500, the last one. `from_unix_time_nanos(-1)` is one tick before
+    /// [`FileTime::UNIX_EPOCH`].
     pub fn from_unix_time_nanos(nanos: i128) -> Result<FileTime, FileTimeRangeError>
         ensures { IsFromUnixNanos nanos result }
     {

@@ -43,7 +43,8 @@ impl UtcDateTime {
 }
 
 /// The same moment, exact to the tick. `OutOfCivil` exactly from raw count
-/// 2_650_467_744_000_000_000 on, the first tick after the year 9999.
+/// 2_650_467_744_000_000_000 on, the first tick after the year 9999. Raw count 0 is 1601-01-01
+/// 00:00:00.
 impl TryFrom<FileTime> for UtcDateTime {
     type Error = OutOfCivil;
 
