@@ -1,0 +1,5 @@
+pub mod Caps
+pub mod Fronts
+pub mod Units
+pub mod ItemLists
+pub mod Totals
