@@ -3,3 +3,5 @@ pub mod Fronts
 pub mod Units
 pub mod ItemLists
 pub mod Totals
+pub mod Breakdowns
+pub mod Writers

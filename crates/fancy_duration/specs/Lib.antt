@@ -1,4 +1,10 @@
 pub mod Parts
 pub mod Items
+pub mod Times
 pub mod Sums
+pub mod Strict
+pub mod Breakdown
+pub mod Written
+pub mod Durations
 pub mod Reading
+pub mod Writing

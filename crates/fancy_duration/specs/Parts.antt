@@ -1,5 +1,5 @@
 -- The ten parts of a duration, as the crate `fancy-duration` reckons them: a year is 360 days and a month 30.
-use Rattle.std.specs.Prelude.{ℕ, ◌*◌, List, [], ◌∷◌, codes}
+use Rattle.std.specs.Prelude.{ℕ, ◌*◌, Bool, ◌==◌, List, [], ◌∷◌, codes}
 use Rattle.fancy_duration.specs.declared.part.DurationPart.{DurationPart}
 use Rattle.fancy_duration.specs.declared.part.DurationPart.TheVariants.{Years, Months, Weeks, Days, Hours, Minutes, Seconds, Milliseconds, Microseconds, Nanoseconds}
 
@@ -32,3 +32,20 @@ unit_of Seconds = codes "s"
 unit_of Milliseconds = codes "ms"
 unit_of Microseconds = codes "us"
 unit_of Nanoseconds = codes "ns"
+
+-- places in the order of the parts
+abbrev pub rank_of : DurationPart → ℕ
+rank_of Years = 0
+rank_of Months = 1
+rank_of Weeks = 2
+rank_of Days = 3
+rank_of Hours = 4
+rank_of Minutes = 5
+rank_of Seconds = 6
+rank_of Milliseconds = 7
+rank_of Microseconds = 8
+rank_of Nanoseconds = 9
+
+-- two parts are one
+abbrev pub is_part : DurationPart → DurationPart → Bool
+is_part a b = rank_of a == rank_of b

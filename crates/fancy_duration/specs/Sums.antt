@@ -1,12 +1,15 @@
 -- What a text of counts and units adds up to, in nanoseconds.
-use Rattle.std.specs.Prelude.{◌≡◌, ◌≢◌, ℕ, ◌+◌, ◌*◌, ◌/◌, ◌<◌, ◌≤◌, ◌^◌, Bool, true, false, not, ◌&&◌, List, [], ◌∷◌, codes, find, nat_eq}
+use Rattle.std.specs.Prelude.{◌≡◌, ◌≢◌, ℕ, ◌+◌, ◌*◌, ◌/◌, ◌<◌, ◌≤◌, ◌^◌, Bool, true, false, not, ◌&&◌, List, [], ◌∷◌, codes, find, nat_eq, Result, IfOk, IsErrOf, ◌↔◌}
 use Rattle.std.specs.List.{list_any}
 use Rattle.std.specs.Option.{option_map_or}
 use Rattle.std.specs.Prelude.{Option}
+use Rattle.fancy_duration.specs.declared.error.FancyError.{FancyError}
+use Rattle.fancy_duration.specs.declared.error.FancyError.TheVariants.{TooBig, NotHeld}
 use Rattle.scan_core.specs.Digits.{number_of}
 use Rattle.fancy_duration.specs.declared.part.DurationPart.{DurationPart}
 use Rattle.fancy_duration.specs.declared.part.DurationPart.TheVariants.{Years, Months, Weeks, Days, Hours, Minutes, Seconds, Milliseconds, Microseconds, Nanoseconds}
 use Rattle.fancy_duration.specs.Parts.{all_parts, weight_of, unit_of}
+use Rattle.fancy_duration.specs.Times.{nanos_of}
 use Rattle.fancy_duration.specs.Items.{Item, HasItems}
 
 -- two units are the same letters
@@ -49,7 +52,7 @@ pub record SumsTo (text : List ℕ) (nanos : ℕ) : Type 0 where
 
 -- the text's sum is these seconds and nanoseconds, and the seconds are no more than 64 bits hold
 pub record Denotes (text : List ℕ) (times : ℕ × ℕ) : Type 0 where
-  pub sums : SumsTo text (times.0 * 1_000_000_000 + times.1)
+  pub sums : SumsTo text (nanos_of times)
   pub seconds : times.0 < 2 ^ 64
   pub nanoseconds : times.1 < 1_000_000_000
 
@@ -58,3 +61,16 @@ pub record IsTooBig (text : List ℕ) : Type 0 where
   pub nanos : ℕ
   pub sums : SumsTo text nanos
   pub beyond : 2 ^ 64 ≤ nanos / 1_000_000_000
+
+-- the text denotes a pair that a type doesn't hold
+pub record IsNotHeld (holds : ℕ → ℕ → Type 0) (text : List ℕ) : Type 0 where
+  pub times : ℕ × ℕ
+  pub denoted : Denotes text times
+  pub refused : ¬ (holds times.0 times.1)
+
+-- what a parser of a type answers, where the type's values have these times and it holds these pairs
+pub record Parses {T : Type 0} (times : T → ℕ × ℕ) (holds : ℕ → ℕ → Type 0) (text : List ℕ) (result : Result T FancyError) : Type 0 where
+  pub ok : IfOk result (λ d. Denotes text (times d))
+  pub held : IfOk result (λ d. holds (times d).0 (times d).1)
+  pub too_big : IsErrOf result TooBig ↔ IsTooBig text
+  pub not_held : IsErrOf result NotHeld ↔ IsNotHeld holds text

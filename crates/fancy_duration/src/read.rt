@@ -12,6 +12,7 @@ use crate::{DurationPart, FancyError};
 /// The seconds and nanoseconds of a text's sum, or `TooBig` exactly where the seconds pass `u64::MAX`.
 pub(crate) fn times_of(text: &str) -> Result<(u64, u64), FancyError>
     ensures ok { IfOk result (Denotes text.now) }
+    ensures all { (times : ℕ × ℕ) → Denotes text.now times → result ≡ Ok times }
     ensures big { IsErrOf result FancyError.TooBig ↔ IsTooBig text.now }
     ensures held { result ≢ Err FancyError.NotHeld }
 {
@@ -60,7 +61,7 @@ fn next_item(text: &[u8]) -> Option<(u128, &[u8], &[u8])>
 }
 
 /// The number that the digits at a text's front write, as `u128` holds it or `u128::MAX`, and what follows them.
-fn split_number(text: &[u8]) -> (u128, &[u8])
+pub(crate) fn split_number(text: &[u8]) -> (u128, &[u8])
     ensures number { result.0 ≡ capped (number_of (front is_digit text.now)) }
     ensures rest { result.1.now ≡ behind is_digit text.now }
 {
@@ -79,7 +80,7 @@ fn split_number(text: &[u8]) -> (u128, &[u8])
 }
 
 /// The one or two letters at a text's front, or none, and what follows them.
-fn split_unit(text: &[u8]) -> (&[u8], &[u8])
+pub(crate) fn split_unit(text: &[u8]) -> (&[u8], &[u8])
     ensures unit { result.0.now ≡ unit_front text.now }
     ensures rest { result.1.now ≡ unit_behind text.now }
 {
