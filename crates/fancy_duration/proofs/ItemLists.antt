@@ -58,7 +58,7 @@ begins_no_digit : (rest : List ℕ) → begins_by is_letter rest ≡ true → (b
 begins_no_digit [] h = (refl, refl)
 begins_no_digit (b ∷ bs) h = let e = letter_not_digit b h in (simp e, simp e)
 
-front_digits : (digits rest : List ℕ) → AreDigits digits → begins_by is_letter rest ≡ true → (front is_digit (digits ++ rest) ≡ digits) × (behind is_digit (digits ++ rest) ≡ rest)
+pub front_digits : (digits rest : List ℕ) → AreDigits digits → begins_by is_letter rest ≡ true → (front is_digit (digits ++ rest) ≡ digits) × (behind is_digit (digits ++ rest) ≡ rest)
 front_digits [] rest h letter = let none = begins_no_digit rest letter in (none.1, none.0)
 front_digits (d ∷ ds) rest h letter =
     let digit : is_digit d ≡ true = is_digit-from d h.0 in
@@ -66,13 +66,13 @@ front_digits (d ∷ ds) rest h letter =
     (simp digit (ap (λ xs. d ∷ xs) more.0), simp digit more.1)
 
 -- a unit and what follows it
-unit_begins : (unit rest : List ℕ) → is_unit unit rest ≡ true → begins_by is_letter (unit ++ rest) ≡ true
+pub unit_begins : (unit rest : List ℕ) → is_unit unit rest ≡ true → begins_by is_letter (unit ++ rest) ≡ true
 unit_begins [] rest h = absurd (true≢false (sym h))
 unit_begins (a ∷ []) rest h = (and_parts (is_letter a) _ h).0
 unit_begins (a ∷ b ∷ []) rest h = (and_parts (is_letter a) _ h).0
 unit_begins (a ∷ b ∷ c ∷ cs) rest h = absurd (true≢false (sym h))
 
-unit_splits : (unit rest : List ℕ) → is_unit unit rest ≡ true → (unit_front (unit ++ rest) ≡ unit) × (unit_behind (unit ++ rest) ≡ rest)
+pub unit_splits : (unit rest : List ℕ) → is_unit unit rest ≡ true → (unit_front (unit ++ rest) ≡ unit) × (unit_behind (unit ++ rest) ≡ rest)
 unit_splits [] rest h = absurd (true≢false (sym h))
 unit_splits (a ∷ []) [] h =
     let first = (and_parts (is_letter a) _ h).0 in
@@ -115,12 +115,12 @@ items_unique (item ∷ items) text h =
     ∙ ap (λ xs. item ∷ xs) (items_unique items h.0 h.2)
 
 -- each text has a list of items
-front_behind : (test : ℕ → Bool) (bs : List ℕ) → front test bs ++ behind test bs ≡ bs
+pub front_behind : (test : ℕ → Bool) (bs : List ℕ) → front test bs ++ behind test bs ≡ bs
 front_behind test [] = refl
 front_behind test (b ∷ bs) =
     elim (test b) as (λ t. test b ≡ t → front test (b ∷ bs) ++ behind test (b ∷ bs) ≡ b ∷ bs) [ true ↦ λ e. simp e (ap (λ xs. b ∷ xs) (front_behind test bs)) | false ↦ λ e. simp e ] refl
 
-begins-behind : (test : ℕ → Bool) (bs : List ℕ) → begins_by test (behind test bs) ≡ false
+pub begins-behind : (test : ℕ → Bool) (bs : List ℕ) → begins_by test (behind test bs) ≡ false
 begins-behind test [] = refl
 begins-behind test (b ∷ bs) =
     elim (test b) as (λ t. test b ≡ t → begins_by test (behind test (b ∷ bs)) ≡ false) [ true ↦ λ e. simp e (begins-behind test bs) | false ↦ λ e. simp e ] refl
@@ -131,7 +131,7 @@ digit_value-lt b e = grind (arith, nat_tests)
 digit_not_letter : (b : ℕ) → digit_value b < 10 → is_letter b ≡ false
 digit_not_letter b h = grind (arith, nat_tests)
 
-are_digits-front : (bs : List ℕ) → AreDigits (front is_digit bs)
+pub are_digits-front : (bs : List ℕ) → AreDigits (front is_digit bs)
 are_digits-front [] = tt
 are_digits-front (b ∷ bs) =
     elim (is_digit b) as (λ t. is_digit b ≡ t → AreDigits (front is_digit (b ∷ bs))) [ true ↦ λ e. simp e (digit_value-lt b e, are_digits-front bs) | false ↦ λ e. simp e tt ] refl
@@ -198,7 +198,7 @@ add_digits ds rest (item ∷ items) digits letter digit h =
       joined = ap (λ xs. ds ++ xs) joined ∙ sym (append_assoc ds (c ∷ cs) _);
     }
 
-unit_joins : (bs : List ℕ) → begins_by is_letter bs ≡ true → is_unit (unit_front bs) (unit_behind bs) ≡ true × (unit_front bs ++ unit_behind bs ≡ bs)
+pub unit_joins : (bs : List ℕ) → begins_by is_letter bs ≡ true → is_unit (unit_front bs) (unit_behind bs) ≡ true × (unit_front bs ++ unit_behind bs ≡ bs)
 unit_joins [] h = absurd (true≢false (sym h))
 unit_joins (a ∷ []) h = (simp h, simp h)
 unit_joins (a ∷ b ∷ bs) h =

@@ -5,3 +5,5 @@ pub mod ItemLists
 pub mod Totals
 pub mod Breakdowns
 pub mod Writers
+pub mod Counts
+pub mod Spaces

@@ -91,7 +91,7 @@ with_counts_some : (out : List ℕ) (counts : List PartCount) → 0 < length out
 with_counts_some [] counts h = absurd (omega arith)
 with_counts_some (b ∷ bs) counts h = with_counts_more b bs counts
 
-unit_some : (part : DurationPart) → 0 < length (unit_of part)
+pub unit_some : (part : DurationPart) → 0 < length (unit_of part)
 unit_some Years = omega arith
 unit_some Months = omega arith
 unit_some Weeks = omega arith

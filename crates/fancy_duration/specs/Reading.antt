@@ -2,6 +2,7 @@
 use Rattle.std.specs.Prelude.{ℕ, ◌+◌, ◌*◌, ◌-◌, ◌^◌, min, Bool, true, false, not, ◌&&◌, List, [], ◌∷◌, ◌++◌, length, take, drop, if◌then◌else◌}
 use Rattle.fancy_duration.specs.Items.{Item, begins_by}
 use Rattle.std.specs.Char.{is_ascii_digit as is_digit, is_ascii_alphabetic as is_letter}
+use Rattle.fancy_duration.specs.Strict.{AreCounts}
 use Rattle.fancy_duration.specs.Parts.{weight_of}
 use Rattle.fancy_duration.specs.declared.part.DurationPart.{DurationPart}
 use Rattle.fancy_duration.specs.declared.part.DurationPart.TheVariants.{Years, Months, Weeks, Days, Hours, Minutes}
@@ -56,3 +57,7 @@ is_long_part _ = false
 -- what a sum comes to with a pending `m`, a later part that may be long, and the sum of all later items
 abbrev pub sum_with : ℕ → ℕ → Bool → ℕ → ℕ
 sum_with nanos pending long later = nanos + pending * weight_if Minutes long + later
+
+-- a text is a join of counts
+abbrev pub HasCounts : List ℕ → Type 0
+HasCounts text = (counts : List (List ℕ)) × AreCounts text counts

@@ -16,7 +16,7 @@ use scan_core::Short;
 use crate::breakdown::{kept_nanos, leading_nanos};
 use crate::read::times_of;
 use crate::strict::is_strict;
-use crate::written::written_text;
+use crate::written::{without_spaces, written_text};
 use crate::{AsTimes, DurationPart, FancyError};
 
 /// A duration that is read and written as a short text such as `1h 20m 30s`.
@@ -95,12 +95,7 @@ impl<D: AsTimes + Copy> FancyDuration<D> {
     pub fn format_compact(&self, alloc: Global) -> Result<String, AllocError>
         ensures { IfOk result (λ text. string_bytes text ≡ compact (nanos_of (D.times self.now.0))) }
     {
-        let text = self.text();
-        let mut out = String::new(alloc);
-        for piece in text.as_str().split(' ') {
-            out.push_str(piece)?;
-        }
-        Ok(out)
+        without_spaces(alloc, self.text().as_str())
     }
 
     /// True exactly for the strict texts, which have nothing but counts, units and blanks: `1h 5m`, not `1h 5x`.

@@ -1,5 +1,7 @@
-ghost use Rattle.std.specs.Prelude.{◌≡◌, ◌↔◌, IsTrue, List, ℕ};
+ghost use Rattle.std.specs.Prelude.{◌≡◌, ◌<◌, ◌↔◌, ℕ, List, [], length, IsTrue, IfSome, IfNone};
+ghost use Rattle.scan_core.specs.Blanks.{is_blank};
 ghost use Rattle.fancy_duration.specs.Strict.{IsStrict};
+ghost use Rattle.fancy_duration.specs.Reading.{behind, HasCounts};
 
 use scan_core::is_blank;
 
@@ -10,11 +12,13 @@ use crate::read::{split_number, split_unit};
 pub(crate) fn is_strict(text: &str) -> bool
     ensures { IsTrue result ↔ IsStrict text.now }
 {
-    text == "0" || (!text.is_empty() && has_counts_alone(text.as_bytes()))
+    text == "0" || (!text.is_empty() && has_counts(text.as_bytes()))
 }
 
 /// True exactly where the text is a join of counts.
-fn has_counts_alone(text: &[u8]) -> bool {
+fn has_counts(text: &[u8]) -> bool
+    ensures { IsTrue result ↔ HasCounts text.now }
+{
     let mut rest = text;
     while !rest.is_empty() {
         match strip_count(rest) {
@@ -26,7 +30,11 @@ fn has_counts_alone(text: &[u8]) -> bool {
 }
 
 /// What follows the count at a text's front, with the blanks behind it.
-fn strip_count(text: &[u8]) -> Option<&[u8]> {
+fn strip_count(text: &[u8]) -> Option<&[u8]>
+    ensures found { IfSome result (λ rest. HasCounts rest.now ↔ HasCounts text.now) }
+    ensures shorter { IfSome result (λ rest. length rest.now < length text.now) }
+    ensures none { IfNone result (HasCounts text.now → text.now ≡ []) }
+{
     let (_, behind) = split_number(text);
     if behind.len() == text.len() {
         return None;
@@ -39,7 +47,9 @@ fn strip_count(text: &[u8]) -> Option<&[u8]> {
 }
 
 /// A text without the blanks at its front.
-fn without_blanks(text: &[u8]) -> &[u8] {
+fn without_blanks(text: &[u8]) -> &[u8]
+    ensures { result.now ≡ behind is_blank text.now }
+{
     let mut rest = text;
     while let Some((first, tail)) = rest.split_first() {
         if !is_blank(*first) {

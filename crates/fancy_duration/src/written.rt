@@ -1,7 +1,10 @@
-ghost use Rattle.std.specs.Prelude.{◌≡◌, ℕ, ◌+◌, ◌*◌, ◌^◌, ◌<◌, ◌≤◌, length, decimal};
+ghost use Rattle.std.specs.Prelude.{◌≡◌, ℕ, ◌+◌, ◌*◌, ◌^◌, ◌<◌, ◌≤◌, length, decimal, IfOk, filter, not, ◌==◌};
+ghost use Rattle.std.specs.String.{string_bytes};
 ghost use Rattle.arrayvec.specs.ArrayString.{array_string_len};
 ghost use Rattle.fancy_duration.specs.Written.{written};
 ghost use Rattle.fancy_duration.specs.Writing.{with_count};
+
+use std::alloc::{AllocError, Global};
 
 use scan_core::{Short, push_num, push_text};
 
@@ -24,6 +27,13 @@ pub(crate) fn written_text(nanos: u128) -> Short
         push_text(&mut out, "0");
     }
     out
+}
+
+/// A text without its spaces.
+pub(crate) fn without_spaces(alloc: Global, text: &str) -> Result<String, AllocError>
+    ensures { IfOk result (λ out. string_bytes out ≡ filter (λ b. not (b == 32)) text.now) }
+{
+    text.split(' ').collect(alloc)
 }
 
 #[tactic(auto, unfolding(crate::specs::Writing::with_count))]
