@@ -7,3 +7,4 @@ pub mod Breakdowns
 pub mod Writers
 pub mod Counts
 pub mod Spaces
+pub mod Twice

@@ -36,3 +36,11 @@ from_first (c ∷ counts) = if c.count == 0 then from_first counts else c ∷ co
 -- the length that is left where, from the first count above 0 on, `limit` counts stay and all later ones are 0
 unfoldable pub truncated : ℕ → ℕ → ℕ
 truncated limit nanos = nanos_in (take limit (from_first (breakdown nanos)))
+
+-- how many of a part a length has
+abbrev pub count_in : DurationPart → List PartCount → ℕ
+count_in part [] = 0
+count_in part (c ∷ counts) = if is_part c.part part then c.count else count_in part counts
+
+unfoldable pub count_of : DurationPart → ℕ → ℕ
+count_of part nanos = count_in part (breakdown nanos)

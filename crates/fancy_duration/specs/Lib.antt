@@ -5,6 +5,7 @@ pub mod Sums
 pub mod Strict
 pub mod Breakdown
 pub mod Written
+pub mod Collisions
 pub mod Durations
 pub mod Reading
 pub mod Writing

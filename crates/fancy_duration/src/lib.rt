@@ -5,6 +5,7 @@ mod as_times;
 mod breakdown;
 mod error;
 mod fancy;
+pub mod laws;
 mod part;
 mod read;
 mod strict;

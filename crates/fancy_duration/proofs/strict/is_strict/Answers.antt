@@ -1,7 +1,7 @@
 use Rattle.std.proofs.Common.{◌≡◌, ◌≢◌, length, arith, sym, ◌∙◌, ap, not}
 use Rattle.std.proofs.lemmas.Bool.{true≢false}
 use Rattle.std.proofs.lemmas.Bool.Decides.{nat_tests}
-use Rattle.fancy_duration.proofs.Counts.{strict_empty, strict_counts}
+use Rattle.fancy_duration.proofs.Counts.{strict_empty}
 use Rattle.fancy_duration.proofs.strict.is_strict.Goals as goal
 
 pub returns-else-not-is_empty : goal.returns-else-not-is_empty
