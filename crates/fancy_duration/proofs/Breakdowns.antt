@@ -57,7 +57,7 @@ take-counts_of (suc limit) [] left = refl
 take-counts_of (suc limit) (part ∷ parts) left = ap (λ counts. record { part = part; count = left / weight_of part } ∷ counts) (take-counts_of limit parts (left % weight_of part))
 
 -- counts are what isn't left
-nanos_in-counts_of : (parts : List DurationPart) (left : ℕ) → nanos_in (counts_of parts left) + left_after parts left ≡ left
+pub nanos_in-counts_of : (parts : List DurationPart) (left : ℕ) → nanos_in (counts_of parts left) + left_after parts left ≡ left
 nanos_in-counts_of [] left = omega arith
 nanos_in-counts_of (part ∷ parts) left = omega (arith, nanos_in-counts_of parts (left % weight_of part), div-add-mod' left (weight_of part))
 

@@ -38,7 +38,7 @@ counts_begin (count ∷ counts) text h =
     let split : text ≡ h.1.digits ++ tail = h.3 ∙ ap (λ xs. xs ++ h.0) h.1.joined ∙ append_assoc h.1.digits (unit_of h.1.part ++ h.1.blanks) h.0 in
     (ap (begins_by is_letter) split ∙ begin.0, ap (begins_by is_blank) split ∙ begin.1)
 
-is_unit-unit_of : (part : DurationPart) (rest : List ℕ) → begins_by is_letter rest ≡ false → is_unit (unit_of part) rest ≡ true
+pub is_unit-unit_of : (part : DurationPart) (rest : List ℕ) → begins_by is_letter rest ≡ false → is_unit (unit_of part) rest ≡ true
 is_unit-unit_of Years rest h = simp h
 is_unit-unit_of Months rest h = simp h
 is_unit-unit_of Weeks rest h = simp h

@@ -140,7 +140,7 @@ ends_more : (b : ℕ) (bs : List ℕ) → is_digit b ≡ false → not (ends_by 
 ends_more b [] e h = simp e
 ends_more b (c ∷ cs) e h = h
 
-add_other : (b : ℕ) (bs : List ℕ) (items : List Item) → is_digit b ≡ false → HasItems bs items → HasItems (b ∷ bs) items
+pub add_other : (b : ℕ) (bs : List ℕ) (items : List Item) → is_digit b ≡ false → HasItems bs items → HasItems (b ∷ bs) items
 add_other b bs [] e h = simp e h
 add_other b bs (item ∷ items) e h =
     let first = h.1 in

@@ -8,3 +8,5 @@ pub mod Writers
 pub mod Counts
 pub mod Spaces
 pub mod Twice
+pub mod Texts
+pub mod ReadBack
