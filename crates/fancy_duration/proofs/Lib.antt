@@ -10,3 +10,4 @@ pub mod Spaces
 pub mod Twice
 pub mod Texts
 pub mod ReadBack
+pub mod SharedTexts

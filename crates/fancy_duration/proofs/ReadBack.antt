@@ -19,14 +19,14 @@ use Rattle.fancy_duration.proofs.Totals.{sum_unique, sum_exists}
 use Rattle.fancy_duration.proofs.Texts.{items_in, item_of, written_items, total-cons, long-cons}
 
 -- a part's count alone
-abbrev of : DurationPart → ℕ → PartCount
+abbrev pub of : DurationPart → ℕ → PartCount
 of part count = record { part = part; count = count }
 
 -- the counts from weeks and from seconds on
-abbrev below_minutes : ℕ → ℕ → ℕ → ℕ → List PartCount
+abbrev pub below_minutes : ℕ → ℕ → ℕ → ℕ → List PartCount
 below_minutes s ms us ns = of Seconds s ∷ of Milliseconds ms ∷ of Microseconds us ∷ of Nanoseconds ns ∷ []
 
-abbrev below_months : ℕ → ℕ → ℕ → ℕ → ℕ → ℕ → ℕ → ℕ → List PartCount
+abbrev pub below_months : ℕ → ℕ → ℕ → ℕ → ℕ → ℕ → ℕ → ℕ → List PartCount
 below_months w d h mi s ms us ns = of Weeks w ∷ of Days d ∷ of Hours h ∷ of Minutes mi ∷ below_minutes s ms us ns
 
 long-short : (c : PartCount) (counts : List PartCount) → is_long (unit_of c.part) ≡ false → long_follows (items_in (c ∷ counts)) ≡ long_follows (items_in counts)

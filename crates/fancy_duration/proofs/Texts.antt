@@ -59,7 +59,7 @@ pub written_items : (nanos : ℕ) → counts_fit (breakdown nanos) ≡ true → 
 unfolding written breakdown
 written_items nanos fits =
     elim (nat_eq nanos 0) as (λ t. nat_eq nanos 0 ≡ t → HasItems (written nanos) (map item_of (above_zero (breakdown nanos)))) [
-        true ↦ λ e. let z : nanos ≡ 0 = eqb-true nanos 0 e in rw z refl
+        true ↦ λ e. let z : nanos ≡ 0 = eqb-true nanos 0 e in rw z (refl {a = true})
         | false ↦ λ e. simp e (items_joined (above_zero (counts_of all_parts nanos)) (above_fits (counts_of all_parts nanos) fits)) ] refl
 
 -- the sum goes by the counts, those of 0 too
