@@ -1,14 +1,12 @@
 -- The loops over the ten parts of a breakdown.
-use Rattle.std.proofs.Common.{◌≡◌, ℕ, ◌+◌, ◌-◌, ◌*◌, ◌/◌, ◌%◌, ◌<◌, ◌≤◌, Bool, true, false, List, [], ◌∷◌, length, get_or, take, drop, filter, zero, suc, refl, sym, ◌∙◌, ap, subst, arith, add-one, drop-cons, min, ⊎_elim, if◌then◌else◌, nat_eq}
-use Rattle.std.proofs.lemmas.Bool.Decides.{nat_tests}
+use Rattle.std.proofs.Common.{◌≡◌, ℕ, ◌+◌, ◌-◌, ◌*◌, ◌/◌, ◌%◌, ◌<◌, ◌≤◌, true, false, List, [], ◌∷◌, length, get_or, take, drop, zero, suc, refl, sym, ◌∙◌, ap, arith, add-one, drop-cons, min, ⊎_elim, if◌then◌else◌}
 use Rattle.std.proofs.lemmas.Nat.{div-add-mod'}
 use Rattle.std.proofs.lemmas.List.{drop_all, take_all}
 use Rattle.std.proofs.lemmas.Bool.{cases_lt}
 use Rattle.std.specs.List.{list_any}
 use Rattle.fancy_duration.specs.declared.part.DurationPart.{DurationPart}
-use Rattle.fancy_duration.specs.declared.part.DurationPart.TheVariants.{Years, Months, Weeks, Days, Hours, Minutes, Seconds, Milliseconds, Microseconds, Nanoseconds}
 use Rattle.fancy_duration.specs.Parts.{all_parts, weight_of, is_part}
-use Rattle.fancy_duration.specs.Breakdown.{PartCount, counts_of, breakdown, nanos_in, from_first, filtered, truncated}
+use Rattle.fancy_duration.specs.Breakdown.{counts_of, breakdown, nanos_in, from_first, filtered, truncated}
 use Rattle.fancy_duration.specs.Writing.{kept_in, left_after}
 
 pub filtered_all : (kept : List DurationPart) (nanos : ℕ) → kept_in kept all_parts nanos ≡ filtered kept nanos
@@ -27,8 +25,9 @@ pub kept_in-cons : (kept : List DurationPart) (part : DurationPart) (parts : Lis
 unfolding kept_in
 kept_in-cons kept part parts left =
     elim (list_any (λ p. is_part p part) kept) as (λ t. list_any (λ p. is_part p part) kept ≡ t → kept_in kept (part ∷ parts) left ≡ (if list_any (λ p. is_part p part) kept then left - left % weight_of part else 0) + kept_in kept parts (left % weight_of part)) [
-        true ↦ λ e. simp (e, quotient_part left (weight_of part))
-        | false ↦ λ e. simp e (omega arith) ] refl
+      | true ↦ λ e. simp (e, quotient_part left (weight_of part))
+      | false ↦ λ e. simp e (omega arith)
+    ] refl
 
 pub parts_end : (i : ℕ) → 10 ≤ i → drop i all_parts ≡ []
 parts_end i h = drop_all i all_parts h

@@ -1,5 +1,5 @@
 -- Numbers that are held at a greatest one: a sum and a product may be held at each step.
-use Rattle.std.proofs.Common.{◌≡◌, ℕ, ◌+◌, ◌*◌, ◌≤◌, min, List, [], ◌∷◌, sym, ◌∙◌, ap, refl, ⊎_elim, arith, zero, suc, ◌<◌, mul-zero}
+use Rattle.std.proofs.Common.{◌≡◌, ℕ, ◌+◌, ◌*◌, ◌≤◌, min, List, [], ◌∷◌, sym, ◌∙◌, ap, ⊎_elim, arith, zero, suc, ◌<◌, mul-zero}
 use Rattle.std.proofs.lemmas.Bool.{cases_lt}
 use Rattle.std.proofs.Math.Nat.{mul-le-mul_left}
 use Rattle.std.specs.Str.Parse.{digits_value_after}
@@ -13,7 +13,7 @@ min_add a b m = omega arith
 
 pub min_mul : (a b m : ℕ) → min (min a m * b) m ≡ min (a * b) m
 min_mul a b m = ⊎_elim (above b) (λ (low : a ≤ m). let e : min a m ≡ a = omega arith in rw e) (cases_lt m a)
-    where
+  where
     above : (b : ℕ) → m < a → min (min a m * b) m ≡ min (a * b) m
     above zero high = simp mul-zero
     above (suc k) high =
@@ -27,7 +27,7 @@ pub min_digits : (ds : List ℕ) (n m : ℕ) → min (digits_value_after 10 (min
 min_digits [] n m = omega arith
 min_digits (d ∷ ds) n m =
     sym (min_digits ds (min n m * 10 + digit_value d) m) ∙ ap (λ k. min (digits_value_after 10 k ds) m) (same_push n m (digit_value d)) ∙ min_digits ds (n * 10 + digit_value d) m
-    where
+  where
     same_push : (n m d : ℕ) → min (min n m * 10 + d) m ≡ min (n * 10 + d) m
     same_push n m d = omega arith
 

@@ -1,8 +1,8 @@
 -- A text that is a join of counts has one count at its front.
-use Rattle.std.proofs.Common.{◌≡◌, ◌≢◌, ◌↔◌, ℕ, ◌+◌, ◌<◌, ◌≤◌, Bool, true, false, not, ◌&&◌, List, [], ◌∷◌, ◌++◌, length, refl, sym, ◌∙◌, ap, subst, arith, append_assoc, length-append, inl, inr}
+use Rattle.std.proofs.Common.{◌≡◌, ◌≢◌, ◌↔◌, ℕ, ◌+◌, ◌<◌, true, false, List, [], ◌∷◌, ◌++◌, length, refl, sym, ◌∙◌, ap, subst, arith, append_assoc, length-append, inl, inr}
 use Rattle.std.specs.List.{list_all}
 use Rattle.std.specs.Char.{is_ascii_digit as is_digit, is_ascii_alphabetic as is_letter}
-use Rattle.std.proofs.lemmas.Bool.{and_parts, and_from, true≢false}
+use Rattle.std.proofs.lemmas.Bool.{and_parts}
 use Rattle.std.proofs.lemmas.Bool.Decides.{nat_tests}
 use Rattle.scan_core.specs.Digits.{AreDigits}
 use Rattle.scan_core.specs.Blanks.{is_blank}
@@ -14,7 +14,7 @@ use Rattle.fancy_duration.specs.Strict.{IsCount, AreCounts, IsStrict}
 use Rattle.fancy_duration.specs.Reading.{front, behind, unit_front, unit_behind, HasCounts}
 use Rattle.fancy_duration.proofs.Fronts.{length-behind, length-unit_behind, unit_front_some}
 use Rattle.fancy_duration.proofs.Writers.{unit_some}
-use Rattle.fancy_duration.proofs.ItemLists.{unit_joins, front_digits, front_behind, begins-behind, are_digits-front, unit_splits, unit_begins, is_digit-from}
+use Rattle.fancy_duration.proofs.ItemLists.{unit_joins, front_digits, front_behind, are_digits-front, unit_splits, unit_begins, is_digit-from}
 
 digit_not_letter : (d : ℕ) → is_digit d ≡ true → is_letter d ≡ false
 digit_not_letter d e = grind (arith, nat_tests)
@@ -52,7 +52,7 @@ is_unit-unit_of Nanoseconds rest h = refl
 
 behind_blanks : (blanks rest : List ℕ) → list_all is_blank blanks ≡ true → begins_by is_blank rest ≡ false → behind is_blank (blanks ++ rest) ≡ rest
 behind_blanks [] rest h e = behind_other rest e
-    where
+  where
     behind_other : (rest : List ℕ) → begins_by is_blank rest ≡ false → behind is_blank rest ≡ rest
     behind_other [] e = refl
     behind_other (b ∷ bs) e = simp e
@@ -115,9 +115,9 @@ count_added text tail unit after rest part t some u a r named (counts, h) =
     let after_split : after ≡ blanks ++ rest = sym (front_behind is_blank after) ∙ ap (λ xs. blanks ++ xs) (sym r) in
     let lengths : length digits + length tail ≡ length text = sym (length-append digits tail) ∙ ap length text_split in
     let whole : text ≡ (digits ++ (unit_of part ++ blanks)) ++ rest =
-        sym text_split
-        ∙ ap (λ xs. digits ++ xs) (tail_split ∙ ap (λ xs. unit_of part ++ xs) after_split ∙ sym (append_assoc (unit_of part) blanks rest))
-        ∙ sym (append_assoc digits (unit_of part ++ blanks) rest) in
+    sym text_split
+    ∙ ap (λ xs. digits ++ xs) (tail_split ∙ ap (λ xs. unit_of part ++ xs) after_split ∙ sym (append_assoc (unit_of part) blanks rest))
+    ∙ sym (append_assoc digits (unit_of part ++ blanks) rest) in
     let count : IsCount (digits ++ (unit_of part ++ blanks)) = record {
       digits = digits;
       part = part;

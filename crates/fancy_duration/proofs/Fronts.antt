@@ -1,8 +1,8 @@
 -- The readers' fronts of a text, and the items that follow them.
-use Rattle.std.proofs.Common.{◌≡◌, ℕ, ◌+◌, ◌-◌, ◌≤◌, ◌<◌, Bool, true, false, List, [], ◌∷◌, length, drop, refl, arith, ◌≢◌, sym, ◌∙◌, ap, length-drop}
+use Rattle.std.proofs.Common.{◌≡◌, ℕ, ◌-◌, ◌≤◌, ◌<◌, Bool, true, false, List, [], ◌∷◌, length, refl, arith, ◌≢◌, ◌∙◌, ap, length-drop}
 use Rattle.std.proofs.lemmas.Bool.Decides.{nat_tests}
 use Rattle.std.specs.Char.{is_ascii_digit as is_digit, is_ascii_alphabetic as is_letter, digit_value}
-use Rattle.fancy_duration.specs.Items.{Item, begins_by}
+use Rattle.fancy_duration.specs.Items.{begins_by}
 use Rattle.fancy_duration.specs.Reading.{front, behind, unit_front, unit_behind, item_at, items_behind, items_of}
 
 pub length-behind : (test : ℕ → Bool) (bs : List ℕ) → length (behind test bs) ≤ length bs
@@ -52,12 +52,13 @@ items_of-unit (a ∷ []) =
     elim (is_letter a) as (λ t. is_letter a ≡ t → items_of (a ∷ []) ≡ items_of (unit_behind (a ∷ []))) [ true ↦ λ e. simp e (items_of-other a [] (letter_not_digit a e)) | false ↦ λ e. simp e ] refl
 items_of-unit (a ∷ b ∷ bs) =
     elim (is_letter a) as (λ t. is_letter a ≡ t → items_of (a ∷ b ∷ bs) ≡ items_of (unit_behind (a ∷ b ∷ bs))) [ true ↦ λ e. after_first e | false ↦ λ e. simp e ] refl
-    where
+  where
     after_first : is_letter a ≡ true → items_of (a ∷ b ∷ bs) ≡ items_of (unit_behind (a ∷ b ∷ bs))
     after_first e =
         elim (is_letter b) as (λ t. is_letter b ≡ t → items_of (a ∷ b ∷ bs) ≡ items_of (unit_behind (a ∷ b ∷ bs))) [
-            true ↦ λ f. simp (e, f) (items_of-other a (b ∷ bs) (letter_not_digit a e) ∙ items_of-other b bs (letter_not_digit b f))
-            | false ↦ λ f. simp (e, f) (items_of-other a (b ∷ bs) (letter_not_digit a e)) ] refl
+          | true ↦ λ f. simp (e, f) (items_of-other a (b ∷ bs) (letter_not_digit a e) ∙ items_of-other b bs (letter_not_digit b f))
+          | false ↦ λ f. simp (e, f) (items_of-other a (b ∷ bs) (letter_not_digit a e))
+        ] refl
 
 pub length-unit_behind : (bs : List ℕ) → length (unit_behind bs) ≤ length bs
 length-unit_behind bs = omega (arith, length-drop (length (unit_front bs)) bs)

@@ -1,7 +1,7 @@
 -- A text has one list of items, and the readers' `items_of` is that list.
-use Rattle.std.proofs.Common.{◌≡◌, ◌≢◌, ℕ, ◌+◌, ◌-◌, ◌≤◌, ◌<◌, Bool, true, false, not, ◌&&◌, ◌||◌, List, [], ◌∷◌, ◌++◌, length, take, drop, refl, arith, sym, ◌∙◌, ap, zero, suc, append_assoc, subst}
+use Rattle.std.proofs.Common.{◌≡◌, ℕ, ◌≤◌, ◌<◌, Bool, true, false, not, ◌&&◌, List, [], ◌∷◌, ◌++◌, length, refl, arith, sym, ◌∙◌, ap, zero, suc, append_assoc, subst}
 use Rattle.std.specs.Char.{is_ascii_digit as is_digit, is_ascii_alphabetic as is_letter, digit_value}
-use Rattle.std.proofs.lemmas.Bool.{and_parts, and_from, not-true, false_from_ne_true, cases_Bool, true≢false}
+use Rattle.std.proofs.lemmas.Bool.{and_parts, not-true, true≢false}
 use Rattle.std.proofs.lemmas.Bool.Decides.{nat_tests}
 use Rattle.scan_core.specs.Digits.{AreDigits}
 use Rattle.fancy_duration.specs.Items.{Item, begins_by, ends_by, has_no_item, is_unit, IsFirstItem, HasItems}
@@ -14,8 +14,9 @@ no_letter b [] digit none = refl
 no_letter b (c ∷ cs) digit none =
     let parts = and_parts (not (is_digit b && is_letter c)) (has_no_item (c ∷ cs)) none in
     elim (is_digit c) as (λ t. is_digit c ≡ t → begins_by is_letter (behind is_digit (c ∷ cs)) ≡ false) [
-        true ↦ λ e. simp e (no_letter c cs e parts.1)
-        | false ↦ λ e. simp e (let f = simp digit at (not-true _ parts.0) in f) ] refl
+      | true ↦ λ e. simp e (no_letter c cs e parts.1)
+      | false ↦ λ e. simp e (let f = simp digit at (not-true _ parts.0) in f)
+    ] refl
 
 -- no item begins at a byte where no letter stands behind its digits
 skips : (digit : Bool) (b : ℕ) (bs : List ℕ) → (is_digit b ≡ true → begins_by is_letter (behind is_digit bs) ≡ false) → items_behind digit (b ∷ bs) ≡ items_behind (is_digit b) bs
@@ -35,8 +36,9 @@ no_letter_within b [] rest digit none maximal = absurd (true≢false (sym digit 
 no_letter_within b (c ∷ cs) rest digit none maximal =
     let parts = and_parts (not (is_digit b && is_letter c)) (has_no_item (c ∷ cs)) none in
     elim (is_digit c) as (λ t. is_digit c ≡ t → begins_by is_letter (behind is_digit (c ∷ (cs ++ rest))) ≡ false) [
-        true ↦ λ e. simp e (no_letter_within c cs rest e parts.1 maximal)
-        | false ↦ λ e. simp e (let f = simp digit at (not-true _ parts.0) in f) ] refl
+      | true ↦ λ e. simp e (no_letter_within c cs rest e parts.1 maximal)
+      | false ↦ λ e. simp e (let f = simp digit at (not-true _ parts.0) in f)
+    ] refl
 
 items_within : (b : ℕ) (bs rest : List ℕ) (digit : Bool) → has_no_item (b ∷ bs) ≡ true → ends_by is_digit (b ∷ bs) ≡ false → items_behind digit ((b ∷ bs) ++ rest) ≡ items_behind false rest
 items_within b [] rest digit none maximal =
@@ -143,9 +145,9 @@ ends_more b (c ∷ cs) e h = h
 pub add_other : (b : ℕ) (bs : List ℕ) (items : List Item) → is_digit b ≡ false → HasItems bs items → HasItems (b ∷ bs) items
 add_other b bs [] e h = simp e h
 add_other b bs (item ∷ items) e h =
-    let first = h.1 in
-    ( h.0
-    , record {
+    let first = h.1 in (
+      h.0,
+      record {
         before = b ∷ first.before;
         passed_over = simp e first.passed_over;
         maximal = ends_more b first.before e first.maximal;
@@ -153,21 +155,22 @@ add_other b bs (item ∷ items) e h =
         are_digits = first.are_digits;
         has_unit = first.has_unit;
         joined = ap (λ xs. b ∷ xs) first.joined;
-      }
-    , h.2 )
+      },
+      h.2,
+    )
 
 -- digits before a part that begins by no letter
 has_no_item-digits : (ds rest : List ℕ) → AreDigits ds → begins_by is_letter rest ≡ false → has_no_item rest ≡ true → has_no_item (ds ++ rest) ≡ true
 has_no_item-digits [] rest digits other none = none
 has_no_item-digits (d ∷ []) rest digits other none = simp other (and_right_from (is_digit d) none)
-    where
+  where
     and_right_from : (t : Bool) → has_no_item rest ≡ true → (not (t && false) && has_no_item rest) ≡ true
     and_right_from true h = h
     and_right_from false h = h
 has_no_item-digits (d ∷ c ∷ ds) rest digits other none =
     let letter : is_letter c ≡ false = digit_not_letter c digits.1.0 in
     simp letter (and_right_from (is_digit d) (has_no_item-digits (c ∷ ds) rest digits.1 other none))
-    where
+  where
     and_right_from : (t : Bool) → has_no_item (c ∷ (ds ++ rest)) ≡ true → (not (t && false) && has_no_item (c ∷ (ds ++ rest))) ≡ true
     and_right_from true h = h
     and_right_from false h = h
@@ -185,7 +188,7 @@ add_digits : (ds rest : List ℕ) (items : List Item) → AreDigits ds → begin
 add_digits ds rest [] digits letter digit h = has_no_item-digits ds rest digits letter h
 add_digits ds rest (item ∷ items) digits letter digit h =
     (h.0, behind_gap h.1.before h.1.passed_over h.1.maximal h.1.joined, h.2)
-    where
+  where
     behind_gap : (before : List ℕ) → has_no_item before ≡ true → not (ends_by is_digit before) ≡ true → rest ≡ before ++ (item.digits ++ (item.unit ++ h.0)) → IsFirstItem (ds ++ rest) item h.0
     behind_gap [] none maximal joined = absurd (true≢false (sym (ap (begins_by is_digit) joined ∙ begins_by_digits item.digits _ h.1.some_digits h.1.are_digits) ∙ digit))
     behind_gap (c ∷ cs) none maximal joined = record {
@@ -203,39 +206,45 @@ unit_joins [] h = absurd (true≢false (sym h))
 unit_joins (a ∷ []) h = (simp h, simp h)
 unit_joins (a ∷ b ∷ bs) h =
     elim (is_letter b) as (λ t. is_letter b ≡ t → is_unit (unit_front (a ∷ b ∷ bs)) (unit_behind (a ∷ b ∷ bs)) ≡ true × (unit_front (a ∷ b ∷ bs) ++ unit_behind (a ∷ b ∷ bs) ≡ a ∷ b ∷ bs)) [
-        true ↦ λ e. (simp (h, e), simp (h, e))
-        | false ↦ λ e. (simp (h, e), simp (h, e)) ] refl
+      | true ↦ λ e. (simp (h, e), simp (h, e))
+      | false ↦ λ e. (simp (h, e), simp (h, e))
+    ] refl
 
 -- the items of a text that begins by a digit, given those of all shorter ones
 items_at_digit : (b : ℕ) (bs : List ℕ) → is_digit b ≡ true → ((rest : List ℕ) → length rest ≤ length bs → HasItems rest (items_of rest)) → HasItems (b ∷ bs) (items_of (b ∷ bs))
 items_at_digit b bs e shorter =
     elim (begins_by is_letter rest) as (λ t. begins_by is_letter rest ≡ t → HasItems text (items_of text)) [
-        true ↦ λ f.
-            let units = unit_joins rest f in
-            let found : items_of text ≡ item_at text ∷ items_of (unit_behind rest) = items_of-digits b bs e f ∙ ap (λ items. item_at text ∷ items) (items_of-unit rest) in
-            subst H (sym found)
-            ( unit_behind rest
-            , record {
-                before = [];
-                passed_over = refl;
-                maximal = refl;
-                some_digits = simp e (omega arith);
-                are_digits = are_digits-front text;
-                has_unit = units.0;
-                joined = sym (ap (λ xs. front is_digit text ++ xs) units.1 ∙ front_behind is_digit text);
-              }
-            , shorter (unit_behind rest) (omega (arith, length-unit_behind rest, within)) )
-        | false ↦ λ f.
-            let whole : HasItems (front is_digit text ++ rest) (items_of rest) = add_digits (front is_digit text) rest (items_of rest) (are_digits-front text) f (begins-behind is_digit text) (shorter rest within) in
-            let at_text : HasItems text (items_of rest) = let P : List ℕ → Type 0 = λ xs. HasItems xs (items_of rest) in subst P (front_behind is_digit text) whole in
-            subst H (sym (items_of-digits_alone b bs e f)) at_text ] refl
-    where
+      | true ↦ λ f.
+          let units = unit_joins rest f in
+          let found : items_of text ≡ item_at text ∷ items_of (unit_behind rest) = items_of-digits b bs e f ∙ ap (λ items. item_at text ∷ items) (items_of-unit rest) in
+          subst H (sym found) (
+            unit_behind rest,
+            record {
+              before = [];
+              passed_over = refl;
+              maximal = refl;
+              some_digits = simp e (omega arith);
+              are_digits = are_digits-front text;
+              has_unit = units.0;
+              joined = sym (ap (λ xs. front is_digit text ++ xs) units.1 ∙ front_behind is_digit text);
+            },
+            shorter (unit_behind rest) (omega (arith, length-unit_behind rest, within)),
+          )
+      | false ↦ λ f.
+          let whole : HasItems (front is_digit text ++ rest) (items_of rest) = add_digits (front is_digit text) rest (items_of rest) (are_digits-front text) f (begins-behind is_digit text) (shorter rest within) in
+          let at_text : HasItems text (items_of rest) = let P : List ℕ → Type 0 = λ xs. HasItems xs (items_of rest) in subst P (front_behind is_digit text) whole in
+          subst H (sym (items_of-digits_alone b bs e f)) at_text
+    ] refl
+  where
     text : List ℕ
     text = b ∷ bs
+
     rest : List ℕ
     rest = behind is_digit (b ∷ bs)
+
     H : List Item → Type 0
     H = HasItems (b ∷ bs)
+
     within : length (behind is_digit (b ∷ bs)) ≤ length bs
     within = simp e (length-behind is_digit bs)
 
@@ -246,8 +255,9 @@ items_to k [] within = refl
 items_to zero (b ∷ bs) within = absurd (omega arith)
 items_to (suc k) (b ∷ bs) within =
     elim (is_digit b) as (λ t. is_digit b ≡ t → HasItems (b ∷ bs) (items_of (b ∷ bs))) [
-        true ↦ λ e. items_at_digit b bs e (λ rest h. items_to k rest (omega arith))
-        | false ↦ λ e. let H : List Item → Type 0 = HasItems (b ∷ bs) in subst H (sym (items_of-other b bs e)) (add_other b bs (items_of bs) e (items_to k bs (omega arith))) ] refl
+      | true ↦ λ e. items_at_digit b bs e (λ rest h. items_to k rest (omega arith))
+      | false ↦ λ e. let H : List Item → Type 0 = HasItems (b ∷ bs) in subst H (sym (items_of-other b bs e)) (add_other b bs (items_of bs) e (items_to k bs (omega arith)))
+    ] refl
 
 pub items_exist : (text : List ℕ) → HasItems text (items_of text)
 items_exist text = items_to (length text) text (omega arith)

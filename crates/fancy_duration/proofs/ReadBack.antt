@@ -1,5 +1,5 @@
 -- What the written text of a length is read as.
-use Rattle.std.proofs.Common.{◌≡◌, ◌≢◌, ◌↔◌, ℕ, ◌+◌, ◌-◌, ◌*◌, ◌/◌, ◌%◌, ◌^◌, ◌<◌, ◌≤◌, Bool, true, false, not, ◌&&◌, ◌||◌, nat_lt, nat_eq, List, [], ◌∷◌, codes, zero, suc, refl, sym, ◌∙◌, ap, subst, ⊎_elim, inl, inr, arith}
+use Rattle.std.proofs.Common.{◌≡◌, ◌↔◌, ℕ, ◌+◌, ◌*◌, ◌^◌, ◌<◌, ◌≤◌, Bool, true, false, ◌&&◌, ◌||◌, nat_lt, List, [], ◌∷◌, codes, refl, sym, ◌∙◌, ap, subst, ⊎_elim, inl, inr, arith}
 use Rattle.std.specs.Prelude.{◌⊎◌}
 use Rattle.std.proofs.lemmas.Bool.{and_parts, or_parts, and_right, ltb-true, ltb-false, cases_lt}
 use Rattle.fancy_duration.specs.declared.part.DurationPart.{DurationPart}
@@ -7,16 +7,16 @@ use Rattle.fancy_duration.specs.declared.part.DurationPart.TheVariants.{Years, M
 use Rattle.fancy_duration.specs.Parts.{all_parts, weight_of, unit_of}
 use Rattle.fancy_duration.specs.Times.{nanos_of}
 use Rattle.fancy_duration.specs.Sums.{is_long, long_follows, weight_in, total, SumsTo, Denotes}
-use Rattle.fancy_duration.specs.Breakdown.{PartCount, counts_of, breakdown, nanos_in, count_in, count_of}
-use Rattle.fancy_duration.specs.Written.{written, above_zero}
-use Rattle.fancy_duration.specs.Writing.{counts_fit, left_after}
+use Rattle.fancy_duration.specs.Breakdown.{PartCount, breakdown, nanos_in, count_of}
+use Rattle.fancy_duration.specs.Written.{written}
+use Rattle.fancy_duration.specs.Writing.{counts_fit}
 use Rattle.fancy_duration.specs.Reading.{items_of}
 use Rattle.fancy_duration.specs.Collisions.{MonthsStandAlone}
 use Rattle.fancy_duration.proofs.Breakdowns.{nanos_in-counts_of}
 use Rattle.fancy_duration.proofs.Writers.{room_at_start}
 use Rattle.fancy_duration.proofs.ItemLists.{items_unique}
 use Rattle.fancy_duration.proofs.Totals.{sum_unique, sum_exists}
-use Rattle.fancy_duration.proofs.Texts.{items_in, item_of, written_items, total-cons, long-cons}
+use Rattle.fancy_duration.proofs.Texts.{items_in, written_items, total-cons, long-cons}
 
 -- a part's count alone
 abbrev pub of : DurationPart → ℕ → PartCount
@@ -37,7 +37,7 @@ long-short c counts e =
 long-long : (c : PartCount) (counts : List PartCount) → is_long (unit_of c.part) ≡ true → long_follows (items_in (c ∷ counts)) ≡ (nat_lt 0 c.count || long_follows (items_in counts))
 long-long c counts e =
     long-cons c counts ∙ ap (λ b. (nat_lt 0 c.count && b) || long_follows (items_in counts)) e ∙ ap (λ b. b || long_follows (items_in counts)) (and_true (nat_lt 0 c.count))
-    where
+  where
     and_true : (b : Bool) → (b && true) ≡ b
     and_true true = refl
     and_true false = refl
@@ -121,10 +121,11 @@ fits_ten y mo w d h mi s ms us ns e =
     let ps = and_parts (nat_lt s (2 ^ 64)) _ pmi.1 in
     let pms = and_parts (nat_lt ms (2 ^ 64)) _ ps.1 in
     let pus = and_parts (nat_lt us (2 ^ 64)) _ pms.1 in
-    let pns = and_parts (nat_lt ns (2 ^ 64)) _ pus.1 in
-    ( ltb-true y (2 ^ 64) py.0
-    , ltb-true mo (2 ^ 64) pmo.0
-    , total_below_months w d h mi s ms us ns (ltb-true w (2 ^ 64) pw.0) (ltb-true d (2 ^ 64) pd.0) (ltb-true h (2 ^ 64) ph.0) (ltb-true mi (2 ^ 64) pmi.0) (ltb-true s (2 ^ 64) ps.0) (ltb-true ms (2 ^ 64) pms.0) (ltb-true us (2 ^ 64) pus.0) (ltb-true ns (2 ^ 64) pns.0) )
+    let pns = and_parts (nat_lt ns (2 ^ 64)) _ pus.1 in (
+      ltb-true y (2 ^ 64) py.0,
+      ltb-true mo (2 ^ 64) pmo.0,
+      total_below_months w d h mi s ms us ns (ltb-true w (2 ^ 64) pw.0) (ltb-true d (2 ^ 64) pd.0) (ltb-true h (2 ^ 64) ph.0) (ltb-true mi (2 ^ 64) pmi.0) (ltb-true s (2 ^ 64) ps.0) (ltb-true ms (2 ^ 64) pms.0) (ltb-true us (2 ^ 64) pus.0) (ltb-true ns (2 ^ 64) pns.0),
+    )
 
 breakdown_fits : (n : ℕ) → n < 2 ^ 64 * 1_000_000_000 → counts_fit (breakdown n) ≡ true
 unfolding breakdown
@@ -145,25 +146,34 @@ reads n h =
       long = λ e. omega (arith, items, sum, total_ten y mo w d ho mi s ms us ns true ten_fit.0 ten_fit.1 e ten_fit.2);
       short = λ e. omega (arith, items, sum, total_ten y mo w d ho mi s ms us ns false ten_fit.0 ten_fit.1 e ten_fit.2);
     }
-    where
+  where
     y : ℕ
     y = count_of Years n
+
     mo : ℕ
     mo = count_of Months n
+
     w : ℕ
     w = count_of Weeks n
+
     d : ℕ
     d = count_of Days n
+
     ho : ℕ
     ho = count_of Hours n
+
     mi : ℕ
     mi = count_of Minutes n
+
     s : ℕ
     s = count_of Seconds n
+
     ms : ℕ
     ms = count_of Milliseconds n
+
     us : ℕ
     us = count_of Microseconds n
+
     ns : ℕ
     ns = count_of Nanoseconds n
 
@@ -190,9 +200,10 @@ read_whole n h =
     let ho = count_of Hours n in
     let mi = count_of Minutes n in
     elim (some_long w d ho mi) as (λ t. some_long w d ho mi ≡ t → (total (items_of (written n)) ≡ n) ⊎ MonthsStandAlone n) [
-        true ↦ λ e. inl ((reads n h).long e)
-        | false ↦ λ e. by_months (longer_none w d ho mi e) ((reads n h).short e) ] refl
-    where
+      | true ↦ λ e. inl ((reads n h).long e)
+      | false ↦ λ e. by_months (longer_none w d ho mi e) ((reads n h).short e)
+    ] refl
+  where
     by_months : ((count_of Weeks n ≡ 0) × (count_of Days n ≡ 0) × (count_of Hours n ≡ 0) × (count_of Minutes n ≡ 0)) → total (items_of (written n)) + count_of Months n * weight_of Months ≡ n + count_of Months n * weight_of Minutes → (total (items_of (written n)) ≡ n) ⊎ MonthsStandAlone n
     by_months none sum =
         ⊎_elim
@@ -202,13 +213,15 @@ read_whole n h =
 
 pub read_back : (times : ℕ × ℕ) → times.0 < 2 ^ 64 → times.1 < 1_000_000_000 → Denotes (written (nanos_of times)) times ↔ (¬ (MonthsStandAlone (nanos_of times)))
 read_back times fits below = (apart, whole)
-    where
+  where
     bound : nanos_of times < 2 ^ 64 * 1_000_000_000
     bound = omega arith
+
     apart : Denotes (written (nanos_of times)) times → MonthsStandAlone (nanos_of times) → ⊥
     apart denoted alone =
         let same : nanos_of times ≡ total (items_of (written (nanos_of times))) = sum_unique (written (nanos_of times)) (nanos_of times) denoted.sums in
         absurd (omega (arith, same, read_alone (nanos_of times) bound alone, alone.months))
+
     whole : ¬ (MonthsStandAlone (nanos_of times)) → Denotes (written (nanos_of times)) times
     whole apart =
         let P : ℕ → Type 0 = SumsTo (written (nanos_of times)) in

@@ -1,6 +1,6 @@
 -- Which two lengths have one written text.
-use Rattle.std.proofs.Common.{◌≡◌, ◌≢◌, ◌↔◌, ℕ, ◌+◌, ◌-◌, ◌*◌, ◌/◌, ◌%◌, ◌^◌, ◌<◌, ◌≤◌, Bool, true, false, nat_lt, nat_eq, List, [], ◌∷◌, map, codes, zero, suc, refl, sym, ◌∙◌, ap, subst, ⊎_elim, inl, inr, arith}
-use Rattle.std.specs.Prelude.{◌⊎◌, ⊤}
+use Rattle.std.proofs.Common.{◌≡◌, ◌≢◌, ◌↔◌, ℕ, ◌+◌, ◌*◌, ◌%◌, ◌^◌, ◌<◌, true, false, nat_lt, nat_eq, List, [], ◌∷◌, map, refl, sym, ◌∙◌, ap, subst, ⊎_elim, inl, inr, arith}
+use Rattle.std.specs.Prelude.{⊤}
 use Rattle.std.specs.List.{join_with_byte}
 use Rattle.std.proofs.Math.Nat.{mod-lt}
 use Rattle.std.proofs.lemmas.Nat.{div-mul-add, mod-mul-add}
@@ -48,13 +48,22 @@ breakdown_reduced n = reduced-counts_of all_parts n
 
 reduced_minutes : (y k s ms us ns : ℕ) → Reduced (with_months y k s ms us ns) → Reduced (with_minutes y k s ms us ns)
 reduced_minutes y k s ms us ns h =
-    let below : nanos_in (of Seconds s ∷ of Milliseconds ms ∷ of Microseconds us ∷ of Nanoseconds ns ∷ []) < weight_of Minutes = h.1.1.1.1.1.0 in
-    ( omega (arith, h.0, below)
-    , ( omega (arith, h.0, below)
-    , ( omega (arith, h.0, below)
-    , ( omega (arith, h.0, below)
-    , ( omega (arith, h.0, below)
-    , h.1.1.1.1.1 )))))
+    let below : nanos_in (of Seconds s ∷ of Milliseconds ms ∷ of Microseconds us ∷ of Nanoseconds ns ∷ []) < weight_of Minutes = h.1.1.1.1.1.0 in (
+      omega (arith, h.0, below),
+      (
+        omega (arith, h.0, below),
+        (
+          omega (arith, h.0, below),
+          (
+            omega (arith, h.0, below),
+            (
+              omega (arith, h.0, below),
+              h.1.1.1.1.1,
+            ),
+          ),
+        ),
+      ),
+    )
 
 pub breakdown_from : (counts : List PartCount) (n : ℕ) → map (λ c. c.part) counts ≡ all_parts → Reduced counts → nanos_in counts ≡ n → breakdown n ≡ counts
 unfolding breakdown
@@ -110,15 +119,15 @@ shared s t hs ht e differ =
     let same : total (items_of (written s)) ≡ total (items_of (written t)) = ap (λ text. total (items_of text)) e in
     ⊎_elim
     (λ (whole_s : total (items_of (written s)) ≡ s).
-        ⊎_elim
-        (λ (whole_t : total (items_of (written t)) ≡ t). absurd (differ (sym whole_s ∙ same ∙ whole_t)))
-        (λ (alone_t : MonthsStandAlone t). (count_of Months t, inr (alone_swaps t s alone_t (omega (arith, whole_s, same, read_alone t ht alone_t)))))
-        (read_whole t ht))
+    ⊎_elim
+    (λ (whole_t : total (items_of (written t)) ≡ t). absurd (differ (sym whole_s ∙ same ∙ whole_t)))
+    (λ (alone_t : MonthsStandAlone t). (count_of Months t, inr (alone_swaps t s alone_t (omega (arith, whole_s, same, read_alone t ht alone_t)))))
+    (read_whole t ht))
     (λ (alone_s : MonthsStandAlone s).
-        ⊎_elim
-        (λ (whole_t : total (items_of (written t)) ≡ t). (count_of Months s, inl (alone_swaps s t alone_s (omega (arith, whole_t, same, read_alone s hs alone_s)))))
-        (λ (alone_t : MonthsStandAlone t). absurd (differ (both_alone s t (total (items_of (written s))) alone_s alone_t (read_alone s hs alone_s) (omega (arith, same, read_alone t ht alone_t)))))
-        (read_whole t ht))
+    ⊎_elim
+    (λ (whole_t : total (items_of (written t)) ≡ t). (count_of Months s, inl (alone_swaps s t alone_s (omega (arith, whole_t, same, read_alone s hs alone_s)))))
+    (λ (alone_t : MonthsStandAlone t). absurd (differ (both_alone s t (total (items_of (written s))) alone_s alone_t (read_alone s hs alone_s) (omega (arith, same, read_alone t ht alone_t)))))
+    (read_whole t ht))
     (read_whole s hs)
 
 -- such lengths have one text
@@ -138,8 +147,9 @@ same_pieces : (y k s ms us ns : ℕ) → 0 < k → map piece (above_zero (with_m
 same_pieces y k s ms us ns some =
     let e : nat_lt 0 k ≡ true = lt-ltb 0 k some in
     elim (nat_lt 0 y) as (λ t. nat_lt 0 y ≡ t → map piece (above_zero (with_months y k s ms us ns)) ≡ map piece (above_zero (with_minutes y k s ms us ns))) [
-        true ↦ λ f. simp (e, f)
-        | false ↦ λ f. simp (e, f) ] refl
+      | true ↦ λ f. simp (e, f)
+      | false ↦ λ f. simp (e, f)
+    ] refl
 
 swapped : (k a b : ℕ) → Swaps k a b → written a ≡ written b
 swapped k a b h =
@@ -150,9 +160,9 @@ swapped k a b h =
     let ns = count_of Nanoseconds a in
     let text : List PartCount → List ℕ = λ counts. join_with_byte 32 (map piece (above_zero counts)) in
     let first : breakdown a ≡ with_months y k s ms us ns =
-        breakdown_ten a ∙ (λ i. ten y (h.first_months i) (h.weeks.0 i) (h.days.0 i) (h.hours.0 i) (h.first_minutes i) s ms us ns) in
+    breakdown_ten a ∙ (λ i. ten y (h.first_months i) (h.weeks.0 i) (h.days.0 i) (h.hours.0 i) (h.first_minutes i) s ms us ns) in
     let second : breakdown b ≡ with_minutes y k s ms us ns =
-        breakdown_ten b ∙ (λ i. ten (sym h.years i) (h.second_months i) (h.weeks.1 i) (h.days.1 i) (h.hours.1 i) (h.second_minutes i) (sym h.seconds i) (sym h.milliseconds i) (sym h.microseconds i) (sym h.nanoseconds i)) in
+    breakdown_ten b ∙ (λ i. ten (sym h.years i) (h.second_months i) (h.weeks.1 i) (h.days.1 i) (h.hours.1 i) (h.second_minutes i) (sym h.seconds i) (sym h.milliseconds i) (sym h.microseconds i) (sym h.nanoseconds i)) in
     let some_a : a ≢ 0 = λ e. absurd (omega (arith, h.some, h.first_months, ap (count_of Months) e ∙ no_months)) in
     let some_b : b ≢ 0 = λ e. absurd (omega (arith, h.some, h.second_minutes, ap (count_of Minutes) e ∙ no_minutes)) in
     written_counts a some_a ∙ ap text first ∙ ap (join_with_byte 32) (same_pieces y k s ms us ns h.some) ∙ sym (written_counts b some_b ∙ ap text second)
@@ -163,10 +173,11 @@ collided s t (k, inr h) = sym (swapped k t s h)
 
 -- over seconds and nanoseconds
 pub collisions : (s t : ℕ × ℕ) → s.0 < 2 ^ 64 → t.0 < 2 ^ 64 → s.1 < 1_000_000_000 → t.1 < 1_000_000_000 → s ≢ t → (written (nanos_of s) ≡ written (nanos_of t)) ↔ Collide (nanos_of s) (nanos_of t)
-collisions s t fs ft bs bt differ =
-    ( λ e. shared (nanos_of s) (nanos_of t) (omega arith) (omega arith) e (λ same. differ (one_pair same))
-    , collided (nanos_of s) (nanos_of t) )
-    where
+collisions s t fs ft bs bt differ = (
+  λ e. shared (nanos_of s) (nanos_of t) (omega arith) (omega arith) e (λ same. differ (one_pair same)),
+  collided (nanos_of s) (nanos_of t),
+)
+  where
     one_pair : nanos_of s ≡ nanos_of t → s ≡ t
     one_pair same =
         let secs : s.0 ≡ t.0 = omega arith in

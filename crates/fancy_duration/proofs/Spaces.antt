@@ -1,5 +1,5 @@
 -- A text cut at its spaces and joined again.
-use Rattle.std.proofs.Common.{◌≡◌, ℕ, Bool, true, false, not, nat_eq, List, [], ◌∷◌, ◌++◌, map, filter, Result, Ok, Err, Option, String, IfOk, MatchResult, refl, sym, ◌∙◌, ap}
+use Rattle.std.proofs.Common.{◌≡◌, ℕ, true, false, not, nat_eq, List, [], ◌∷◌, ◌++◌, map, filter, Result, Ok, Err, Option, String, IfOk, MatchResult, refl, ◌∙◌, ap}
 use Rattle.std.specs.Prelude.{⊤}
 use Rattle.std.specs.String.{string_bytes}
 use Rattle.std.specs.List.{slice_split, onto_first, flat_map, concat}
@@ -15,8 +15,9 @@ pub concat-slice_split : (bs : List ℕ) → concat (slice_split (λ b. nat_eq b
 concat-slice_split [] = refl
 concat-slice_split (b ∷ bs) =
     elim (nat_eq b 32) as (λ t. nat_eq b 32 ≡ t → concat (slice_split (λ b. nat_eq b 32) (b ∷ bs)) ≡ filter (λ b. not (nat_eq b 32)) (b ∷ bs)) [
-        true ↦ λ e. simp e (concat-slice_split bs)
-        | false ↦ λ e. simp e (concat-onto_first b (slice_split (λ b. nat_eq b 32) bs) ∙ ap (λ xs. b ∷ xs) (concat-slice_split bs)) ] refl
+      | true ↦ λ e. simp e (concat-slice_split bs)
+      | false ↦ λ e. simp e (concat-onto_first b (slice_split (λ b. nat_eq b 32) bs) ∙ ap (λ xs. b ∷ xs) (concat-slice_split bs))
+    ] refl
 
 flat_map-now : (xs : List (Bor (List ℕ))) → flat_map (λ x. x.now) xs ≡ concat (map (λ x. x.now) xs)
 flat_map-now [] = refl

@@ -1,21 +1,16 @@
 -- The items and the sum of a written text.
-use Rattle.std.proofs.Common.{◌≡◌, ◌≢◌, ℕ, ◌+◌, ◌-◌, ◌*◌, ◌/◌, ◌%◌, ◌^◌, ◌<◌, ◌≤◌, Bool, true, false, not, ◌&&◌, ◌||◌, nat_lt, nat_eq, List, [], ◌∷◌, ◌++◌, length, map, filter, decimal, codes, zero, suc, refl, sym, ◌∙◌, ap, subst, arith, append_assoc, append-nil, if◌then◌else◌}
+use Rattle.std.proofs.Common.{◌≡◌, ℕ, ◌+◌, ◌*◌, ◌^◌, ◌<◌, true, false, ◌&&◌, ◌||◌, nat_lt, nat_eq, List, [], ◌∷◌, ◌++◌, map, decimal, refl, ap, subst, arith, append_assoc, append-nil}
 use Rattle.std.specs.List.{join_with_byte}
-use Rattle.std.specs.Char.{is_ascii_digit as is_digit, is_ascii_alphabetic as is_letter}
-use Rattle.std.proofs.lemmas.Bool.{and_parts, ltb-true, ltb-false, ne_eqb, eqb-true}
-use Rattle.std.proofs.lemmas.Bool.Decides.{nat_tests}
+use Rattle.std.specs.Char.{is_ascii_alphabetic as is_letter}
+use Rattle.std.proofs.lemmas.Bool.{and_parts, ltb-true, ltb-false, eqb-true}
 use Rattle.std.proofs.lemmas.Fmt.{decimal_is_IsNumeral}
-use Rattle.scan_core.specs.Digits.{AreDigits, number_of}
-use Rattle.fancy_duration.specs.declared.part.DurationPart.{DurationPart}
-use Rattle.fancy_duration.specs.declared.part.DurationPart.TheVariants.{Years, Months, Weeks, Days, Hours, Minutes, Seconds, Milliseconds, Microseconds, Nanoseconds}
-use Rattle.fancy_duration.specs.Parts.{all_parts, weight_of, unit_of}
-use Rattle.fancy_duration.specs.Items.{Item, HasItems, IsFirstItem, is_unit, begins_by, has_no_item}
+use Rattle.fancy_duration.specs.Parts.{all_parts, unit_of}
+use Rattle.fancy_duration.specs.Items.{Item, HasItems, IsFirstItem, begins_by}
 use Rattle.fancy_duration.specs.Sums.{is_long, long_follows, weight_in, total}
-use Rattle.fancy_duration.specs.Breakdown.{PartCount, counts_of, breakdown, nanos_in}
+use Rattle.fancy_duration.specs.Breakdown.{PartCount, counts_of, breakdown}
 use Rattle.fancy_duration.specs.Written.{piece, above_zero, written}
 use Rattle.fancy_duration.specs.Writing.{counts_fit}
-use Rattle.fancy_duration.specs.Reading.{items_of}
-use Rattle.fancy_duration.proofs.ItemLists.{add_other, items_unique}
+use Rattle.fancy_duration.proofs.ItemLists.{add_other}
 use Rattle.fancy_duration.proofs.Counts.{is_unit-unit_of}
 
 -- the item that a written count is
@@ -51,16 +46,18 @@ above_fits [] fits = refl
 above_fits (c ∷ counts) fits =
     let parts = and_parts (nat_lt c.count (2 ^ 64)) (counts_fit counts) fits in
     elim (nat_lt 0 c.count) as (λ t. nat_lt 0 c.count ≡ t → counts_fit (above_zero (c ∷ counts)) ≡ true) [
-        true ↦ λ e. simp (e, parts.0) (above_fits counts parts.1)
-        | false ↦ λ e. simp e (above_fits counts parts.1) ] refl
+      | true ↦ λ e. simp (e, parts.0) (above_fits counts parts.1)
+      | false ↦ λ e. simp e (above_fits counts parts.1)
+    ] refl
 
 -- the items of the text are the counts above 0
 pub written_items : (nanos : ℕ) → counts_fit (breakdown nanos) ≡ true → HasItems (written nanos) (map item_of (above_zero (breakdown nanos)))
 unfolding written breakdown
 written_items nanos fits =
     elim (nat_eq nanos 0) as (λ t. nat_eq nanos 0 ≡ t → HasItems (written nanos) (map item_of (above_zero (breakdown nanos)))) [
-        true ↦ λ e. let z : nanos ≡ 0 = eqb-true nanos 0 e in rw z (refl {a = true})
-        | false ↦ λ e. simp e (items_joined (above_zero (counts_of all_parts nanos)) (above_fits (counts_of all_parts nanos) fits)) ] refl
+      | true ↦ λ e. let z : nanos ≡ 0 = eqb-true nanos 0 e in rw z (refl {a = true})
+      | false ↦ λ e. simp e (items_joined (above_zero (counts_of all_parts nanos)) (above_fits (counts_of all_parts nanos) fits))
+    ] refl
 
 -- the sum goes by the counts, those of 0 too
 abbrev pub items_in : List PartCount → List Item
@@ -69,11 +66,13 @@ items_in counts = map item_of (above_zero counts)
 pub total-cons : (c : PartCount) (counts : List PartCount) → c.count < 2 ^ 64 → total (items_in (c ∷ counts)) ≡ c.count * weight_in (unit_of c.part) (long_follows (items_in counts)) + total (items_in counts)
 total-cons c counts fits =
     elim (nat_lt 0 c.count) as (λ t. nat_lt 0 c.count ≡ t → total (items_in (c ∷ counts)) ≡ c.count * weight_in (unit_of c.part) (long_follows (items_in counts)) + total (items_in counts)) [
-        true ↦ λ e. simp e (ap (λ n. n * weight_in (unit_of c.part) (long_follows (items_in counts)) + total (items_in counts)) (decimal_is_IsNumeral c.count fits).1)
-        | false ↦ λ e. let z : c.count ≡ 0 = omega (arith, ltb-false 0 c.count e) in simp e (rw z (omega arith)) ] refl
+      | true ↦ λ e. simp e (ap (λ n. n * weight_in (unit_of c.part) (long_follows (items_in counts)) + total (items_in counts)) (decimal_is_IsNumeral c.count fits).1)
+      | false ↦ λ e. let z : c.count ≡ 0 = omega (arith, ltb-false 0 c.count e) in simp e (rw z (omega arith))
+    ] refl
 
 pub long-cons : (c : PartCount) (counts : List PartCount) → long_follows (items_in (c ∷ counts)) ≡ ((nat_lt 0 c.count && is_long (unit_of c.part)) || long_follows (items_in counts))
 long-cons c counts =
     elim (nat_lt 0 c.count) as (λ t. nat_lt 0 c.count ≡ t → long_follows (items_in (c ∷ counts)) ≡ ((nat_lt 0 c.count && is_long (unit_of c.part)) || long_follows (items_in counts))) [
-        true ↦ λ e. simp e
-        | false ↦ λ e. simp e ] refl
+      | true ↦ λ e. simp e
+      | false ↦ λ e. simp e
+    ] refl

@@ -1,6 +1,5 @@
 -- A text has one sum.
 use Rattle.std.proofs.Common.{◌≡◌, ℕ, ◌+◌, ◌*◌, ◌/◌, ◌%◌, ◌^◌, ◌<◌, ◌≤◌, List, refl, sym, ◌∙◌, ap, subst, arith}
-use Rattle.fancy_duration.specs.Items.{Item, HasItems}
 use Rattle.fancy_duration.specs.Times.{nanos_of}
 use Rattle.fancy_duration.specs.Sums.{SumsTo, Denotes, IsTooBig, total}
 use Rattle.fancy_duration.specs.Reading.{items_of, capped}

@@ -1,6 +1,5 @@
 -- To filter or to truncate a length again changes nothing.
-use Rattle.std.proofs.Common.{◌≡◌, ◌≢◌, ℕ, ◌+◌, ◌-◌, ◌*◌, ◌/◌, ◌%◌, ◌<◌, ◌≤◌, Bool, true, false, List, [], ◌∷◌, length, take, zero, suc, refl, sym, ◌∙◌, ap, subst, ⊎_elim, arith, zero-add, if◌then◌else◌, nat_eq}
-use Rattle.std.proofs.lemmas.Bool.Decides.{nat_tests}
+use Rattle.std.proofs.Common.{◌≡◌, ◌≢◌, ℕ, ◌+◌, ◌-◌, ◌*◌, ◌/◌, ◌%◌, ◌<◌, ◌≤◌, Bool, true, false, List, [], ◌∷◌, take, zero, suc, refl, sym, ◌∙◌, ap, ⊎_elim, arith, zero-add, if◌then◌else◌}
 use Rattle.std.proofs.lemmas.Nat.{div-add-mod', div-mul-add, mod-mul-add, le-div}
 use Rattle.std.proofs.Math.Nat.{mod-lt, mod-eq_of_lt, div-eq_of_lt, mul-le-mul_right}
 use Rattle.std.proofs.lemmas.Bool.{cases_lt, ne_eqb}
@@ -9,8 +8,8 @@ use Rattle.fancy_duration.specs.declared.part.DurationPart.{DurationPart}
 use Rattle.fancy_duration.specs.declared.part.DurationPart.TheVariants.{Years, Months, Weeks, Days, Hours, Minutes, Seconds, Milliseconds, Microseconds, Nanoseconds}
 use Rattle.fancy_duration.specs.Parts.{all_parts, weight_of, is_part}
 use Rattle.fancy_duration.specs.Times.{nanos_of, times_of}
-use Rattle.fancy_duration.specs.Breakdown.{PartCount, counts_of, breakdown, nanos_in, from_first, filtered, truncated}
-use Rattle.fancy_duration.specs.Writing.{kept_in, left_after}
+use Rattle.fancy_duration.specs.Breakdown.{counts_of, breakdown, nanos_in, from_first, filtered, truncated}
+use Rattle.fancy_duration.specs.Writing.{kept_in}
 use Rattle.fancy_duration.proofs.Breakdowns.{filtered_all, kept_in-cons, kept_in-none}
 
 pub weight_some : (part : DurationPart) → 0 < weight_of part
@@ -60,23 +59,26 @@ kept_twice : (kept parts : List DurationPart) (n : ℕ) → kept_in kept parts (
 kept_twice kept [] n = kept_in-none kept (kept_in kept [] n) ∙ sym (kept_in-none kept n)
 kept_twice kept (part ∷ parts) n =
     elim (list_any (λ p. is_part p part) kept) as (λ t. list_any (λ p. is_part p part) kept ≡ t → kept_in kept (part ∷ parts) (kept_in kept (part ∷ parts) n) ≡ kept_in kept (part ∷ parts) n) [
-        true ↦ λ e.
-            let once : kept_in kept (part ∷ parts) n ≡ n - n % w + r = rw e at (kept_in-cons kept part parts n) in
-            let rest : (n - n % w + r) % w ≡ r = whole_mod n r w (weight_some part) low in
-            let again : kept_in kept (part ∷ parts) (n - n % w + r) ≡ (n - n % w + r - (n - n % w + r) % w) + kept_in kept parts ((n - n % w + r) % w) = rw e at (kept_in-cons kept part parts (n - n % w + r)) in
-            let same : kept_in kept parts ((n - n % w + r) % w) ≡ r = ap (kept_in kept parts) rest ∙ kept_twice kept parts (n % w) in
-            ap (kept_in kept (part ∷ parts)) once ∙ (omega (arith, again, same, rest, once))
-        | false ↦ λ e.
-            let once : kept_in kept (part ∷ parts) n ≡ 0 + r = rw e at (kept_in-cons kept part parts n) in
-            let small : r < w = omega (arith, low, mod-lt n (weight_some part)) in
-            let again : kept_in kept (part ∷ parts) r ≡ 0 + kept_in kept parts (r % w) = rw e at (kept_in-cons kept part parts r) in
-            let same : kept_in kept parts (r % w) ≡ r = ap (kept_in kept parts) (mod-eq_of_lt small) ∙ kept_twice kept parts (n % w) in
-            ap (kept_in kept (part ∷ parts)) (once ∙ zero-add r) ∙ (omega (arith, again, same, once)) ] refl
-    where
+      | true ↦ λ e.
+          let once : kept_in kept (part ∷ parts) n ≡ n - n % w + r = rw e at (kept_in-cons kept part parts n) in
+          let rest : (n - n % w + r) % w ≡ r = whole_mod n r w (weight_some part) low in
+          let again : kept_in kept (part ∷ parts) (n - n % w + r) ≡ (n - n % w + r - (n - n % w + r) % w) + kept_in kept parts ((n - n % w + r) % w) = rw e at (kept_in-cons kept part parts (n - n % w + r)) in
+          let same : kept_in kept parts ((n - n % w + r) % w) ≡ r = ap (kept_in kept parts) rest ∙ kept_twice kept parts (n % w) in
+          ap (kept_in kept (part ∷ parts)) once ∙ (omega (arith, again, same, rest, once))
+      | false ↦ λ e.
+          let once : kept_in kept (part ∷ parts) n ≡ 0 + r = rw e at (kept_in-cons kept part parts n) in
+          let small : r < w = omega (arith, low, mod-lt n (weight_some part)) in
+          let again : kept_in kept (part ∷ parts) r ≡ 0 + kept_in kept parts (r % w) = rw e at (kept_in-cons kept part parts r) in
+          let same : kept_in kept parts (r % w) ≡ r = ap (kept_in kept parts) (mod-eq_of_lt small) ∙ kept_twice kept parts (n % w) in
+          ap (kept_in kept (part ∷ parts)) (once ∙ zero-add r) ∙ (omega (arith, again, same, once))
+    ] refl
+  where
     w : ℕ
     w = weight_of part
+
     r : ℕ
     r = kept_in kept parts (n % weight_of part)
+
     low : kept_in kept parts (n % weight_of part) ≤ n % weight_of part
     low = kept_within kept parts (n % weight_of part)
 
@@ -130,12 +132,12 @@ leading_twice (suc limit) [] n = refl
 leading_twice limit (part ∷ parts) n =
     ⊎_elim
     (λ (low : n < weight_of part).
-        let once = leading-low limit part parts n low in
-        let below : leading_in limit parts n < weight_of part = omega (arith, leading_within limit parts n) in
-        ap (leading_in limit (part ∷ parts)) once ∙ leading-low limit part parts (leading_in limit parts n) below ∙ leading_twice limit parts n ∙ sym once)
+    let once = leading-low limit part parts n low in
+    let below : leading_in limit parts n < weight_of part = omega (arith, leading_within limit parts n) in
+    ap (leading_in limit (part ∷ parts)) once ∙ leading-low limit part parts (leading_in limit parts n) below ∙ leading_twice limit parts n ∙ sym once)
     (λ (high : weight_of part ≤ n).
-        let once = leading-high limit part parts n high in
-        ap (leading_in limit (part ∷ parts)) once ∙ leading_again limit part parts n high ∙ sym once)
+    let once = leading-high limit part parts n high in
+    ap (leading_in limit (part ∷ parts)) once ∙ leading_again limit part parts n high ∙ sym once)
     (cases_lt n (weight_of part))
 
 times_back : (n : ℕ) → nanos_of (times_of n) ≡ n

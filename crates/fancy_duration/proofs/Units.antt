@@ -1,11 +1,11 @@
 -- What a unit weighs, by the part that it names.
-use Rattle.std.proofs.Common.{◌≡◌, ◌≢◌, ℕ, ◌+◌, ◌*◌, Bool, true, false, ◌||◌, ◌&&◌, List, [], ◌∷◌, codes, nat_eq, ◌-◌, ◌^◌, refl, sym, ◌∙◌, ap, arith, mul-zero}
+use Rattle.std.proofs.Common.{◌≡◌, ◌≢◌, ℕ, ◌+◌, ◌*◌, Bool, true, false, ◌||◌, List, [], ◌∷◌, codes, nat_eq, ◌-◌, ◌^◌, refl, sym, ◌∙◌, ap, arith, mul-zero}
 use Rattle.std.proofs.lemmas.Bool.{and_parts}
 use Rattle.std.proofs.lemmas.Bool.Decides.{nat_tests}
 use Rattle.scan_core.specs.Digits.{number_of}
 use Rattle.fancy_duration.specs.declared.part.DurationPart.{DurationPart}
 use Rattle.fancy_duration.specs.declared.part.DurationPart.TheVariants.{Years, Months, Weeks, Days, Hours, Minutes, Seconds, Milliseconds, Microseconds, Nanoseconds}
-use Rattle.fancy_duration.specs.Parts.{unit_of, weight_of}
+use Rattle.fancy_duration.specs.Parts.{unit_of}
 use Rattle.fancy_duration.specs.Items.{Item}
 use Rattle.fancy_duration.specs.Sums.{same, is_long, long_follows, weight_in, total}
 use Rattle.fancy_duration.specs.Reading.{weight_if, is_long_part, capped, sum_with}

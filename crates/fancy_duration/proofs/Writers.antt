@@ -1,8 +1,7 @@
 -- The writer's loop over the ten parts, and the text that it makes.
-use Rattle.std.proofs.Common.{◌≡◌, ◌≢◌, ℕ, ◌+◌, ◌-◌, ◌*◌, ◌/◌, ◌%◌, ◌^◌, ◌<◌, ◌≤◌, Bool, true, false, ◌&&◌, nat_lt, nat_eq, List, [], ◌∷◌, ◌++◌, length, drop, map, filter, decimal, codes, zero, suc, refl, sym, ◌∙◌, ap, subst, arith, length-append, append_assoc, if◌then◌else◌}
+use Rattle.std.proofs.Common.{◌≡◌, ◌≢◌, ℕ, ◌+◌, ◌*◌, ◌/◌, ◌%◌, ◌^◌, ◌<◌, ◌≤◌, true, false, nat_lt, nat_eq, List, [], ◌∷◌, ◌++◌, length, drop, map, decimal, codes, refl, ◌∙◌, ap, subst, arith, length-append, append_assoc}
 use Rattle.std.specs.List.{join_with_byte}
 use Rattle.std.proofs.lemmas.Bool.{and_parts, and_from, ltb-true, lt-ltb, ne_eqb}
-use Rattle.std.proofs.lemmas.Bool.Decides.{nat_tests}
 use Rattle.std.proofs.lemmas.Fmt.{length-decimal-le}
 use Rattle.fancy_duration.proofs.Breakdowns.{parts_end}
 use Rattle.fancy_duration.specs.declared.part.DurationPart.{DurationPart}
@@ -10,7 +9,7 @@ use Rattle.fancy_duration.specs.declared.part.DurationPart.TheVariants.{Years, M
 use Rattle.fancy_duration.specs.Parts.{all_parts, weight_of, unit_of}
 use Rattle.fancy_duration.specs.Breakdown.{PartCount, counts_of, breakdown}
 use Rattle.fancy_duration.specs.Written.{piece, above_zero, written}
-use Rattle.fancy_duration.specs.Writing.{spaced, with_count, with_counts, with_parts, counts_fit, room_for, HasRoom}
+use Rattle.fancy_duration.specs.Writing.{spaced, with_count, with_counts, with_parts, counts_fit, HasRoom}
 
 -- one step of the loop
 pub with_parts-none : (out : List ℕ) (i left : ℕ) → 10 ≤ i → with_parts out (drop i all_parts) left ≡ out
@@ -84,8 +83,9 @@ unfolding with_count
 with_counts_more b bs [] = refl
 with_counts_more b bs (c ∷ counts) =
     elim (nat_lt 0 c.count) as (λ t. nat_lt 0 c.count ≡ t → with_counts (b ∷ bs) (c ∷ counts) ≡ join_with_byte 32 ((b ∷ bs) ∷ map piece (above_zero (c ∷ counts)))) [
-        true ↦ λ e. simp e (ap (λ out. with_counts out counts) (spaced_append b bs (piece c)) ∙ with_counts_more b (bs ++ (32 ∷ piece c)) counts ∙ join_twice (b ∷ bs) (piece c) (map piece (above_zero counts)))
-        | false ↦ λ e. simp e (with_counts_more b bs counts) ] refl
+      | true ↦ λ e. simp e (ap (λ out. with_counts out counts) (spaced_append b bs (piece c)) ∙ with_counts_more b (bs ++ (32 ∷ piece c)) counts ∙ join_twice (b ∷ bs) (piece c) (map piece (above_zero counts)))
+      | false ↦ λ e. simp e (with_counts_more b bs counts)
+    ] refl
 
 with_counts_some : (out : List ℕ) (counts : List PartCount) → 0 < length out → with_counts out counts ≡ join_with_byte 32 (out ∷ map piece (above_zero counts))
 with_counts_some [] counts h = absurd (omega arith)
@@ -111,8 +111,9 @@ unfolding with_count
 with_counts_none [] = refl
 with_counts_none (c ∷ counts) =
     elim (nat_lt 0 c.count) as (λ t. nat_lt 0 c.count ≡ t → with_counts [] (c ∷ counts) ≡ join_with_byte 32 (map piece (above_zero (c ∷ counts)))) [
-        true ↦ λ e. simp e (with_counts_some (piece c) counts (piece_some c))
-        | false ↦ λ e. simp e (with_counts_none counts) ] refl
+      | true ↦ λ e. simp e (with_counts_some (piece c) counts (piece_some c))
+      | false ↦ λ e. simp e (with_counts_none counts)
+    ] refl
 
 pub with_parts-zero : (out : List ℕ) (nanos : ℕ) → nanos ≡ 0 → with_parts [] all_parts nanos ++ codes "0" ≡ written nanos
 unfolding with_parts with_count written breakdown

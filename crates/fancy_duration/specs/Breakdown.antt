@@ -1,6 +1,6 @@
 -- The breakdown of a length: how many years there are in it, then how many months in what is left, and so on
 -- down to nanoseconds.
-use Rattle.std.specs.Prelude.{ℕ, ◌+◌, ◌*◌, ◌/◌, ◌%◌, Bool, true, false, ◌==◌, List, [], ◌∷◌, take, filter, if◌then◌else◌}
+use Rattle.std.specs.Prelude.{ℕ, ◌+◌, ◌*◌, ◌/◌, ◌%◌, ◌==◌, List, [], ◌∷◌, take, filter, if◌then◌else◌}
 use Rattle.std.specs.List.{list_any}
 use Rattle.fancy_duration.specs.declared.part.DurationPart.{DurationPart}
 use Rattle.fancy_duration.specs.Parts.{all_parts, weight_of, is_part}

@@ -1,5 +1,5 @@
 -- What a text of counts and units adds up to, in nanoseconds.
-use Rattle.std.specs.Prelude.{◌≡◌, ◌≢◌, ℕ, ◌+◌, ◌*◌, ◌/◌, ◌<◌, ◌≤◌, ◌^◌, Bool, true, false, not, ◌&&◌, List, [], ◌∷◌, codes, find, nat_eq, Result, IfOk, IsErrOf, ◌↔◌}
+use Rattle.std.specs.Prelude.{◌≡◌, ℕ, ◌+◌, ◌*◌, ◌/◌, ◌<◌, ◌≤◌, ◌^◌, Bool, true, false, not, ◌&&◌, List, [], ◌∷◌, codes, find, nat_eq, Result, IfOk, IsErrOf, ◌↔◌}
 use Rattle.std.specs.List.{list_any}
 use Rattle.std.specs.Option.{option_map_or}
 use Rattle.std.specs.Prelude.{Option}
@@ -7,7 +7,7 @@ use Rattle.fancy_duration.specs.declared.error.FancyError.{FancyError}
 use Rattle.fancy_duration.specs.declared.error.FancyError.TheVariants.{TooBig, NotHeld}
 use Rattle.scan_core.specs.Digits.{number_of}
 use Rattle.fancy_duration.specs.declared.part.DurationPart.{DurationPart}
-use Rattle.fancy_duration.specs.declared.part.DurationPart.TheVariants.{Years, Months, Weeks, Days, Hours, Minutes, Seconds, Milliseconds, Microseconds, Nanoseconds}
+use Rattle.fancy_duration.specs.declared.part.DurationPart.TheVariants.{Months, Minutes}
 use Rattle.fancy_duration.specs.Parts.{all_parts, weight_of, unit_of}
 use Rattle.fancy_duration.specs.Times.{nanos_of}
 use Rattle.fancy_duration.specs.Items.{Item, HasItems}

@@ -5,10 +5,9 @@ ghost use Rattle.fancy_duration.specs.Times.{nanos_of};
 ghost use Rattle.fancy_duration.specs.Sums.{Parses};
 ghost use Rattle.fancy_duration.specs.Durations.{duration_times, CanMake};
 
-use std::time::Duration;
-
 use crate::FancyError;
 use crate::read::times_of;
+use std::time::Duration;
 
 /// A length of time that has seconds and nanoseconds.
 pub trait AsTimes: Sized {

@@ -7,17 +7,15 @@ ghost use Rattle.fancy_duration.specs.Breakdown.{filtered, truncated};
 ghost use Rattle.fancy_duration.specs.Written.{written, compact};
 ghost use Rattle.fancy_duration.specs.Strict.{IsStrict};
 
-use std::alloc::{AllocError, Global};
-use std::fmt;
-use std::str::FromStr;
-
-use scan_core::Short;
-
 use crate::breakdown::{kept_nanos, leading_nanos};
 use crate::read::times_of;
 use crate::strict::is_strict;
 use crate::written::{without_spaces, written_text};
 use crate::{AsTimes, DurationPart, FancyError};
+use scan_core::Short;
+use std::alloc::{AllocError, Global};
+use std::fmt;
+use std::str::FromStr;
 
 /// A duration that is read and written as a short text such as `1h 20m 30s`.
 #[derive(Clone, Copy, Debug, PartialEq)]

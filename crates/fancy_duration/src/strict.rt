@@ -3,10 +3,9 @@ ghost use Rattle.scan_core.specs.Blanks.{is_blank};
 ghost use Rattle.fancy_duration.specs.Strict.{IsStrict};
 ghost use Rattle.fancy_duration.specs.Reading.{behind, HasCounts};
 
-use scan_core::is_blank;
-
 use crate::DurationPart;
 use crate::read::{split_number, split_unit};
+use scan_core::is_blank;
 
 /// True exactly for the strict texts.
 pub(crate) fn is_strict(text: &str) -> bool

@@ -17,7 +17,10 @@ impl Tally {
         ensures nanos { result.nanos ≡ 0 }
         ensures pending { result.pending ≡ 0 }
     {
-        Tally { nanos: 0, pending: 0 }
+        Tally {
+            nanos: 0,
+            pending: 0,
+        }
     }
 
     /// Adds an item, where `Minutes` is any `m`.

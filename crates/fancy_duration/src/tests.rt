@@ -1,12 +1,11 @@
 ghost use Rattle.std.specs.Prelude.{ℕ, ◌<◌, ◌^◌, ◌%◌};
 ghost use Rattle.std.proofs.Common.{arith};
 
-use std::test::Fail;
-use std::time::Duration;
-
 use crate::{
     AsFancyDuration, AsTimes, DurationPart, FancyDuration, FancyError, ParseFancyDuration,
 };
+use std::test::Fail;
+use std::time::Duration;
 
 /// Seconds and nanoseconds of 32 bits each.
 #[derive(Clone, Copy, Debug, PartialEq)]
@@ -64,11 +63,20 @@ fn sums_of_texts(rt: HostRuntime) -> Result<(), Fail> {
         ("1hh 2sxs", Ok((0, 0))),
         ("1h5", Ok((3600, 0))),
         ("\u{661}s 1s", Ok((1, 0))),
-        ("18446744073709551615s 999999999ns", Ok((u64::MAX, 999_999_999))),
+        (
+            "18446744073709551615s 999999999ns",
+            Ok((u64::MAX, 999_999_999)),
+        ),
         ("18446744073709551616s", Err(FancyError::TooBig)),
         ("18446744073709551615s 1000ms", Err(FancyError::TooBig)),
-        ("340282366920938463463374607431768211456ns", Err(FancyError::TooBig)),
-        ("1m 340282366920938463463374607431768211456y", Err(FancyError::TooBig)),
+        (
+            "340282366920938463463374607431768211456ns",
+            Err(FancyError::TooBig),
+        ),
+        (
+            "1m 340282366920938463463374607431768211456y",
+            Err(FancyError::TooBig),
+        ),
     ] {
         assert_eq!(rt; sum_of(text), want, "of {text}");
     }
@@ -84,7 +92,10 @@ fn written_texts(rt: HostRuntime) -> Result<(), Fail> {
         (Duration::new(185, 0), "3m 5s"),
         (Duration::new(0, 0), "0"),
         (Duration::new(99 * 86_400 + 324, 0), "3m 1w 2d 5m 24s"),
-        (Duration::new(u64::MAX, 999_999_999), "593066617596y 1m 1w 4d 7h 15s 999ms 999us 999ns"),
+        (
+            Duration::new(u64::MAX, 999_999_999),
+            "593066617596y 1m 1w 4d 7h 15s 999ms 999us 999ns",
+        ),
     ] {
         let text = length.fancy_duration().text();
         assert_eq!(rt; text.as_str(), want);
@@ -93,27 +104,46 @@ fn written_texts(rt: HostRuntime) -> Result<(), Fail> {
         let formatted = length.fancy_duration().format(alloc)?;
         assert_eq!(rt; formatted.as_str(), want);
     }
-    let compact = Duration::new(99 * 86_400 + 324, 0).fancy_duration().format_compact(alloc)?;
+    let compact = Duration::new(99 * 86_400 + 324, 0)
+        .fancy_duration()
+        .format_compact(alloc)?;
     assert_eq!(rt; compact.as_str(), "3m1w2d5m24s");
     Ok(())
 }
 
 #[test]
 fn parsed_and_shortened(rt: HostRuntime) -> Result<(), Fail> {
-    assert_eq!(rt; Duration::parse_fancy_duration("3m 5s"), Ok(Duration::new(185, 0)));
+    assert_eq!(rt;
+        Duration::parse_fancy_duration("3m 5s"),
+        Ok(Duration::new(185, 0))
+    );
     let parsed: FancyDuration<Duration> = "1m 5s 10ms".parse()?;
-    let filtered = parsed.filter(&[DurationPart::Minutes, DurationPart::Milliseconds]).text();
+    let filtered = parsed
+        .filter(&[DurationPart::Minutes, DurationPart::Milliseconds])
+        .text();
     assert_eq!(rt; filtered.as_str(), "1m 10ms");
     let parsed = FancyDuration::<Small>::parse("1h 1m 30us")?;
     assert_eq!(rt; parsed.duration(), Small(3660, 30_000));
-    for (limit, want) in [(0, "0"), (1, "1h"), (3, "1h 1m"), (5, "1h 1m 30us"), (9, "1h 1m 30us")] {
+    for (limit, want) in [
+        (0, "0"),
+        (1, "1h"),
+        (3, "1h 1m"),
+        (5, "1h 1m 30us"),
+        (9, "1h 1m 30us"),
+    ] {
         let text = parsed.truncate(limit).text();
         assert_eq!(rt; text.as_str(), want, "at {limit}");
     }
     let small = written::<Small>("4294967295s")?;
     assert_eq!(rt; small.as_str(), "138y 1m 6h 28m 15s");
-    assert_eq!(rt; FancyDuration::<Small>::parse("4294967296s"), Err(FancyError::NotHeld));
-    assert_eq!(rt; FancyDuration::<Small>::parse("18446744073709551616s"), Err(FancyError::TooBig));
+    assert_eq!(rt;
+        FancyDuration::<Small>::parse("4294967296s"),
+        Err(FancyError::NotHeld)
+    );
+    assert_eq!(rt;
+        FancyDuration::<Small>::parse("18446744073709551616s"),
+        Err(FancyError::TooBig)
+    );
     Ok(())
 }
 
@@ -135,7 +165,11 @@ fn strict_texts(rt: HostRuntime) {
         ("3m 1w 2d 5m 24s", true),
         ("1ns 2us 3ms", true),
     ] {
-        assert_eq!(rt; FancyDuration::<Duration>::is_fancy_text(text), want, "of {text}");
+        assert_eq!(rt;
+            FancyDuration::<Duration>::is_fancy_text(text),
+            want,
+            "of {text}"
+        );
     }
 }
 

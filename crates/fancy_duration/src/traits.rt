@@ -2,9 +2,8 @@ ghost use Rattle.std.specs.Prelude.{◌≡◌, ℕ};
 ghost use Rattle.fancy_duration.specs.Sums.{Parses};
 ghost use Rattle.fancy_duration.specs.Durations.{duration_times};
 
-use std::time::Duration;
-
 use crate::{AsTimes, FancyDuration, FancyError};
+use std::time::Duration;
 
 /// A type that has a [`FancyDuration`].
 pub trait AsFancyDuration<T: AsTimes + Copy>: Sized {

@@ -4,11 +4,9 @@ ghost use Rattle.arrayvec.specs.ArrayString.{array_string_len};
 ghost use Rattle.fancy_duration.specs.Written.{written};
 ghost use Rattle.fancy_duration.specs.Writing.{with_count};
 
-use std::alloc::{AllocError, Global};
-
-use scan_core::{Short, push_num, push_text};
-
 use crate::DurationPart;
+use scan_core::{Short, push_num, push_text};
+use std::alloc::{AllocError, Global};
 
 /// The written text of a length of fewer than 2^64 seconds.
 pub(crate) fn written_text(nanos: u128) -> Short

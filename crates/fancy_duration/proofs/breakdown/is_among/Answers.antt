@@ -1,4 +1,4 @@
-use Rattle.std.proofs.Common.{◌≡◌, ℕ, refl, sym, ◌∙◌, ap, nat_eq}
+use Rattle.std.proofs.Common.{◌≡◌, refl, ◌∙◌, ap, nat_eq}
 use denote.Enum.Declared.{tag_of}
 use Rattle.std.specs.List.{list_any}
 use Rattle.fancy_duration.specs.contracts.part.DurationPart.{the_type}

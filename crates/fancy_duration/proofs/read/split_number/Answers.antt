@@ -1,7 +1,7 @@
-use Rattle.std.proofs.Common.{◌≡◌, ◌∙◌, ◌^◌, ◌-◌, sym, ap, rules, List, ℕ, ◌∷◌, arith, true}
+use Rattle.std.proofs.Common.{◌≡◌, ◌∙◌, ◌^◌, ◌-◌, sym, ap, rules, arith, true}
 use Rattle.std.specs.Char.{is_ascii_digit as is_digit}
 use Rattle.std.specs.Str.Parse.{digits_value_after}
-use Rattle.fancy_duration.specs.Reading.{front, behind, capped}
+use Rattle.fancy_duration.specs.Reading.{front, capped}
 use Rattle.fancy_duration.proofs.Caps.{min_digit}
 use Rattle.fancy_duration.proofs.Fronts.{front_more, behind_more, digit_value-digit}
 use Rattle.fancy_duration.proofs.read.split_number.Goals as goal

@@ -1,5 +1,4 @@
-use Rattle.std.proofs.Common.{◌≡◌, ◌∙◌, lit<}
-use Rattle.std.specs.Result.{IfOk}
+use Rattle.std.proofs.Common.{lit<}
 use Rattle.std.proofs.lemmas.Iterator.Splits.{YieldsList-from_str_split}
 use Rattle.fancy_duration.proofs.Spaces.{text_from_pieces, concat-slice_split}
 use Rattle.fancy_duration.proofs.written.without_spaces.Goals as goal

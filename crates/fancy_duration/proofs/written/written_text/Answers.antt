@@ -1,4 +1,4 @@
-use Rattle.std.proofs.Common.{◌≡◌, ◌≢◌, ◌+◌, ◌∙◌, [], sym, ap, codes, ◌++◌, arith, subst, ℕ, refl, length}
+use Rattle.std.proofs.Common.{◌∙◌, [], sym, ap, codes, ◌++◌, arith, subst, ℕ, refl, length}
 use Rattle.fancy_duration.specs.Parts.{all_parts}
 use Rattle.fancy_duration.specs.Writing.{with_parts, HasRoom}
 use Rattle.fancy_duration.proofs.Breakdowns.{parts_more}
