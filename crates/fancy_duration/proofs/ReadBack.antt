@@ -6,7 +6,8 @@ use Rattle.fancy_duration.specs.declared.part.DurationPart.{DurationPart}
 use Rattle.fancy_duration.specs.declared.part.DurationPart.TheVariants.{Years, Months, Weeks, Days, Hours, Minutes, Seconds, Milliseconds, Microseconds, Nanoseconds}
 use Rattle.fancy_duration.specs.Parts.{all_parts, weight_of, unit_of}
 use Rattle.fancy_duration.specs.Times.{nanos_of}
-use Rattle.fancy_duration.specs.Sums.{is_long, long_follows, weight_in, total, SumsTo, Denotes}
+use Rattle.fancy_duration.specs.Sums.{is_long, long_follows, weight_in, total, SumsTo}
+use Rattle.fancy_duration.specs.Meanings.{Denotes}
 use Rattle.fancy_duration.specs.Breakdown.{PartCount, breakdown, nanos_in, count_of}
 use Rattle.fancy_duration.specs.Written.{written}
 use Rattle.fancy_duration.specs.Writing.{counts_fit}

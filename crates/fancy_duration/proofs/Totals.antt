@@ -1,7 +1,8 @@
 -- A text has one sum.
 use Rattle.std.proofs.Common.{◌≡◌, ℕ, ◌+◌, ◌*◌, ◌/◌, ◌%◌, ◌^◌, ◌<◌, ◌≤◌, List, refl, sym, ◌∙◌, ap, subst, arith}
 use Rattle.fancy_duration.specs.Times.{nanos_of}
-use Rattle.fancy_duration.specs.Sums.{SumsTo, Denotes, IsTooBig, total}
+use Rattle.fancy_duration.specs.Sums.{SumsTo, total}
+use Rattle.fancy_duration.specs.Meanings.{Denotes, IsTooBig}
 use Rattle.fancy_duration.specs.Reading.{items_of, capped}
 use Rattle.fancy_duration.proofs.ItemLists.{items_unique, items_exist}
 

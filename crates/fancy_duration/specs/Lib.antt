@@ -2,6 +2,7 @@ pub mod Parts
 pub mod Items
 pub mod Times
 pub mod Sums
+pub mod Meanings
 pub mod Strict
 pub mod Breakdown
 pub mod Written

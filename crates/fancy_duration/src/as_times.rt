@@ -2,7 +2,7 @@ ghost use Rattle.std.specs.Prelude.{◌≡◌, ℕ, ◌+◌, ◌*◌, ◌<◌, �
 ghost use Rattle.std.specs.Duration.{as_nanos};
 ghost use Rattle.std.proofs.Common.{arith};
 ghost use Rattle.fancy_duration.specs.Times.{nanos_of};
-ghost use Rattle.fancy_duration.specs.Sums.{Parses};
+ghost use Rattle.fancy_duration.specs.Meanings.{Parses};
 ghost use Rattle.fancy_duration.specs.Durations.{duration_times, CanMake};
 
 use crate::FancyError;

@@ -2,7 +2,7 @@ ghost use Rattle.std.specs.Prelude.{◌≡◌, ◌≢◌, ℕ, ◌+◌, ◌*◌,
 ghost use Rattle.std.specs.String.{string_bytes};
 ghost use Rattle.arrayvec.specs.ArrayString.{array_string_len};
 ghost use Rattle.fancy_duration.specs.Times.{nanos_of, times_of};
-ghost use Rattle.fancy_duration.specs.Sums.{Denotes, IsTooBig, Parses};
+ghost use Rattle.fancy_duration.specs.Meanings.{Denotes, IsTooBig, Parses};
 ghost use Rattle.fancy_duration.specs.Breakdown.{filtered, truncated};
 ghost use Rattle.fancy_duration.specs.Written.{written, compact};
 ghost use Rattle.fancy_duration.specs.Strict.{IsStrict};

@@ -1,9 +1,9 @@
-ghost use Rattle.std.specs.Prelude.{◌≡◌, ◌≢◌, ℕ, Bool, ◌+◌, ◌*◌, ◌<◌, ◌≤◌, ◌||◌, List, [], ◌∷◌, length, take, IfOk, IfSome, IfNone, IsErrOf, ◌↔◌, if◌then◌else◌};
-ghost use Rattle.std.specs.Char.{is_ascii_digit as is_digit, is_ascii_alphabetic as is_letter};
+ghost use Rattle.std.specs.Prelude.{◌≡◌, ◌≢◌, ℕ, ◌<◌, [], ◌∷◌, length, IfOk, IfSome, IfNone, IsErrOf, ◌↔◌};
+ghost use Rattle.std.specs.Char.{is_ascii_digit as is_digit};
 ghost use Rattle.scan_core.specs.Digits.{number_of};
-ghost use Rattle.fancy_duration.specs.Parts.{weight_of, unit_of};
-ghost use Rattle.fancy_duration.specs.Items.{Item, begins_by};
-ghost use Rattle.fancy_duration.specs.Sums.{Denotes, IsTooBig, total, is_long};
+ghost use Rattle.fancy_duration.specs.Items.{Item};
+ghost use Rattle.fancy_duration.specs.Sums.{total};
+ghost use Rattle.fancy_duration.specs.Meanings.{Denotes, IsTooBig};
 ghost use Rattle.fancy_duration.specs.Reading.{front, behind, unit_front, unit_behind, items_of, capped};
 
 use crate::tally::Tally;

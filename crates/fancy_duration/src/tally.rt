@@ -8,11 +8,14 @@ use crate::DurationPart;
 /// later item tells whether it is months.
 #[derive(Clone, Copy)]
 pub(crate) struct Tally {
+    /// Nanoseconds of all items but the last `m`.
     pub(crate) nanos: u128,
+    /// The number of the last `m`, where no long unit followed it yet, and else 0.
     pub(crate) pending: u128,
 }
 
 impl Tally {
+    /// A sum of no items.
     pub(crate) fn new() -> Tally
         ensures nanos { result.nanos ≡ 0 }
         ensures pending { result.pending ≡ 0 }
@@ -57,6 +60,7 @@ impl Tally {
         self.pending = 0;
     }
 
+    /// Counts a number of a part.
     fn count(&mut self, number: u128, part: DurationPart)
         ensures nanos { self.new.nanos ≡ capped (self.old.nanos + capped (number * weight_of part)) }
         ensures pending { self.new.pending ≡ self.old.pending }

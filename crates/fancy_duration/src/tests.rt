@@ -4,6 +4,7 @@ ghost use Rattle.std.proofs.Common.{arith};
 use crate::{
     AsFancyDuration, AsTimes, DurationPart, FancyDuration, FancyError, ParseFancyDuration,
 };
+use std::alloc::{AllocError, Global};
 use std::test::Fail;
 use std::time::Duration;
 
@@ -180,5 +181,29 @@ fn error_texts(rt: HostRuntime) -> Result<(), Fail> {
     assert_eq!(rt; too_big.as_str(), "duration is too big");
     let not_held = format!(in alloc; "{}", FancyError::NotHeld)?;
     assert_eq!(rt; not_held.as_str(), "duration is not held by this type");
+    Ok(())
+}
+
+/// A text that is a piece many times.
+fn repeated(alloc: Global, piece: &str, count: usize) -> Result<String, AllocError> {
+    let mut text = String::new(alloc);
+    for _ in 0..count {
+        text.push_str(piece)?;
+    }
+    Ok(text)
+}
+
+#[test]
+fn long_texts(rt: HostRuntime) -> Result<(), Fail> {
+    let alloc = rt.alloc();
+    let months = repeated(alloc, "1m", 1_000_000)?;
+    assert_eq!(rt; sum_of(months.as_str()), Ok((999_999 * 2_592_000 + 60, 0)));
+    let mut zeros = repeated(alloc, "0", 2_000_000)?;
+    zeros.push_str("7s")?;
+    assert_eq!(rt; sum_of(zeros.as_str()), Ok((7, 0)));
+    let mut nines = repeated(alloc, "9", 1000)?;
+    nines.push_str("ns")?;
+    assert_eq!(rt; sum_of(nines.as_str()), Err(FancyError::TooBig));
+    assert!(rt; FancyDuration::<Duration>::is_fancy_text(nines.as_str()));
     Ok(())
 }

@@ -1,5 +1,5 @@
 ghost use Rattle.std.specs.Prelude.{◌≡◌, ℕ};
-ghost use Rattle.fancy_duration.specs.Sums.{Parses};
+ghost use Rattle.fancy_duration.specs.Meanings.{Parses};
 ghost use Rattle.fancy_duration.specs.Durations.{duration_times};
 
 use crate::{AsTimes, FancyDuration, FancyError};

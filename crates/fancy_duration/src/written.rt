@@ -34,8 +34,8 @@ pub(crate) fn without_spaces(alloc: Global, text: &str) -> Result<String, AllocE
     text.split(' ').collect(alloc)
 }
 
-#[tactic(auto, unfolding(crate::specs::Writing::with_count))]
 /// Appends a count above 0 and its unit, behind a space where something stands before it.
+#[tactic(auto, unfolding(crate::specs::Writing::with_count))]
 fn push_count(out: &mut Short, count: u64, part: DurationPart)
     requires { array_string_len out.old + (length (decimal count) + 3) ≤ 128 }
     ensures bytes { out.new.bytes ≡ with_count out.old.bytes count part }

@@ -1,7 +1,7 @@
 use Rattle.std.proofs.Common.{◌≡◌, ◌↔◌, ℕ, arith, subst}
 use Rattle.std.specs.Duration.{as_nanos}
 use Rattle.fancy_duration.specs.Times.{nanos_of}
-use Rattle.fancy_duration.specs.Sums.{Denotes}
+use Rattle.fancy_duration.specs.Meanings.{Denotes}
 use Rattle.fancy_duration.specs.Written.{written}
 use Rattle.fancy_duration.specs.Collisions.{MonthsStandAlone}
 use Rattle.fancy_duration.specs.Durations.{duration_times}
