@@ -4,3 +4,4 @@ pub mod Lines
 pub mod Names
 pub mod Replies
 pub mod Ends
+pub mod Reading

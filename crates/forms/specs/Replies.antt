@@ -67,8 +67,10 @@ IsReplyLine whole line = (out : List ℕ) × IsReply line out × (whole ≡ out 
 abbrev pub AreReplies : List (List ℕ) → List ℕ → Type 0
 AreReplies lines out = IsJoin IsReplyLine out lines
 
--- a front of the replies: whole ones, and then a front of the next
-abbrev pub IsFrontOfReplies : List (List ℕ) → List ℕ → Type 0
-IsFrontOfReplies [] out = out ≡ []
-IsFrontOfReplies (line ∷ more) out =
-    ((whole rest : List ℕ) × IsReplyLine whole line × (whole ≡ out ++ rest)) ⊎ ((whole rest : List ℕ) × IsReplyLine whole line × IsFrontOfReplies more rest × (out ≡ whole ++ rest))
+-- a front of the replies: a front of those to the first so many lines
+pub record IsFrontOfReplies (lines : List (List ℕ)) (out : List ℕ) : Type 0 where
+  pub answered : List (List ℕ)
+  pub others : List (List ℕ)
+  pub back : List ℕ
+  pub split : lines ≡ answered ++ others
+  pub replies : AreReplies answered (out ++ back)

@@ -8,9 +8,11 @@ mod cause;
 mod faults;
 mod form;
 mod input;
+mod line;
 mod memory_sink;
 mod memory_source;
 mod outside;
+mod output;
 
 pub use cause::Cause;
 pub use form::Form;

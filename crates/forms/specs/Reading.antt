@@ -1,0 +1,26 @@
+-- What private functions answer: cited by private contracts alone.
+use Rattle.std.specs.Prelude.{◌≡◌, ◌==◌, ℕ, Bool, false, List, [], ◌∷◌, ◌++◌, codes, Option, Some, None}
+use Rattle.std.specs.Io.KnownBytes.{Appends}
+use Rattle.forms.specs.declared.form.Form.{Form}
+use Rattle.forms.specs.Names.{name_of}
+
+-- no byte is a space
+abbrev pub NoSpace : List ℕ → Type 0
+NoSpace [] = Unit {0}
+NoSpace (byte ∷ bytes) = ((byte == 32) ≡ false) × NoSpace bytes
+
+-- what follows a word: nothing, or a space and the rest
+abbrev pub behind : Option (List ℕ) → List ℕ
+behind None = []
+behind (Some rest) = codes " " ++ rest
+
+-- the text begins with the form's name, and then ends or goes on behind a space
+abbrev pub IsNamed : List ℕ → Form → Option (List ℕ) → Type 0
+IsNamed text form rest = text ≡ name_of form ++ behind rest
+
+-- known bytes grow by a front of a text
+pub record AppendsFront (old new : Option (List ℕ)) (text : List ℕ) : Type 0 where
+  pub front : List ℕ
+  pub back : List ℕ
+  pub split : text ≡ front ++ back
+  pub written : Appends old new front
