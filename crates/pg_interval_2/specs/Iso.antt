@@ -1,6 +1,6 @@
 -- The ISO style, PostgreSQL's reading of ISO 8601 durations "with designators" (its manual, section 8.5.4), letters in any order:
 -- `P` and counts, then perhaps `T` and further counts. `P` alone is no interval.
-use Rattle.std.specs.Prelude.{◌≡◌, ◌≢◌, ◌⊎◌, ℕ, Bool, false, List, [], ◌∷◌, ◌++◌, codes, Option, Some, None, ◌==◌, if◌then◌else◌}
+use Rattle.std.specs.Prelude.{◌≡◌, ◌≢◌, ◌⊎◌, ℕ, Bool, true, false, List, [], ◌∷◌, ◌++◌, codes, Option, Some, None, ◌==◌, if◌then◌else◌}
 use Rattle.scan_core.specs.Count.{Count}
 use Rattle.scan_core.specs.Join.{IsJoin}
 use Rattle.scan_core.specs.Number.{IsNumber}
@@ -16,6 +16,11 @@ abbrev pub time_unit : ℕ → Option TimeUnit
 time_unit letter =
     if letter == 89 then Some Year else if letter == 77 then Some Minute else if letter == 68 then Some Day else if letter == 72 then Some Hour else if letter == 83 then Some Second else None
 
+-- the units before the `T`, and behind it
+abbrev pub unit_in : Bool → ℕ → Option TimeUnit
+unit_in false = date_unit
+unit_in true = time_unit
+
 -- a number, with no plus, and the letter of its unit
 pub record IsPair (unit_of : ℕ → Option TimeUnit) (piece : List ℕ) (c : Count) : Type 0 where
   pub number : List ℕ
@@ -30,7 +35,7 @@ ArePairs unit_of = IsJoin (IsPair unit_of)
 
 -- `P` and pairs, at least one
 abbrev pub IsDateAlone : List ℕ → List Count → Type 0
-IsDateAlone text counts = (date : List ℕ) × ArePairs date_unit date counts × (date ≢ []) × (text ≡ codes "P" ++ date)
+IsDateAlone text counts = (date : List ℕ) × ArePairs (unit_in false) date counts × (date ≢ []) × (text ≡ codes "P" ++ date)
 
 -- `P` and pairs, then `T` and pairs
 pub record IsDateAndTime (text : List ℕ) (counts : List Count) : Type 0 where
@@ -38,8 +43,8 @@ pub record IsDateAndTime (text : List ℕ) (counts : List Count) : Type 0 where
   pub time : List ℕ
   pub date_counts : List Count
   pub time_counts : List Count
-  pub dates : ArePairs date_unit date date_counts
-  pub times : ArePairs time_unit time time_counts
+  pub dates : ArePairs (unit_in false) date date_counts
+  pub times : ArePairs (unit_in true) time time_counts
   pub spelled : text ≡ codes "P" ++ (date ++ (codes "T" ++ time))
   pub counted : counts ≡ date_counts ++ time_counts
 

@@ -4,3 +4,4 @@ pub mod Parts
 pub mod IsoText
 pub mod Messages
 pub mod Styles
+pub mod Reading

@@ -7,6 +7,8 @@
 
 mod error;
 mod interval;
+mod iso;
+mod scan;
 mod style;
 
 pub use error::ParseError;

@@ -8,3 +8,7 @@ pub record Count : Type 0 where
   pub whole : List ℕ
   pub fraction : List ℕ
   pub unit : TimeUnit
+
+-- the count of these parts
+abbrev pub count_of : Bool → List ℕ → List ℕ → TimeUnit → Count
+count_of n w f u = record { negative = n; whole = w; fraction = f; unit = u }

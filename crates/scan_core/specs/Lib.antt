@@ -6,3 +6,4 @@ pub mod Number
 pub mod Shares
 pub mod Sums
 pub mod Padded
+pub mod Bounds

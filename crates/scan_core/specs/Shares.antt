@@ -1,6 +1,6 @@
 -- The share of a count: its months, days and microseconds, by PostgreSQL's reckoning of units
 -- (its manual, section 8.5.4, "Interval Input"): 12 months a year, 30 days a month, 24 hours a day.
-use Rattle.std.specs.Prelude.{ℕ, ◌+◌, ◌-◌, ◌*◌, ◌/◌, ◌^◌, Bool, true, false, nat_lt, List, length, ℤ, pos, negsuc, neg_ℤ, if◌then◌else◌}
+use Rattle.std.specs.Prelude.{ℕ, ◌+◌, ◌-◌, ◌*◌, ◌/◌, ◌^◌, Bool, nat_lt, List, length, ℤ, pos, negsuc, neg_ℤ, if◌then◌else◌}
 use Rattle.scan_core.specs.Digits.{number_of}
 use Rattle.scan_core.specs.Count.{Count}
 use Rattle.scan_core.specs.declared.share.Unit.{Unit as TimeUnit}

@@ -1,5 +1,5 @@
 -- The sums of the shares of counts, and what fits: each share and each final sum by itself, and no sum over some of the counts.
-use Rattle.std.specs.Prelude.{ℕ, Bool, true, false, ◌&&◌, List, [], ◌∷◌, ℤ, pos, ◌+ℤ◌, Option, Some, None, if◌then◌else◌}
+use Rattle.std.specs.Prelude.{ℕ, Bool, ◌&&◌, List, [], ◌∷◌, ℤ, pos, ◌+ℤ◌, Option, Some, None, if◌then◌else◌}
 use Rattle.std.specs.List.{list_all}
 use Rattle.scan_core.specs.Count.{Count}
 use Rattle.scan_core.specs.Shares.{share, fits_type}

@@ -1,4 +1,4 @@
-ghost use Rattle.std.specs.Prelude.{◌≡◌, ◌<◌, ◌≤◌, ◌^◌, ◌↔◌, length, take, IsSome, IfSome};
+ghost use Rattle.std.specs.Prelude.{◌≡◌, ◌<◌, ◌≤◌, ◌^◌, ◌↔◌, length, take, IsTrue, IsSome, IfSome};
 ghost use Rattle.scan_core.specs.Digits.{AreDigits, number_of};
 
 /// The number that the digits write, or None exactly where it is above `u32::MAX`: `digits_u32(b"007")` is 7.
@@ -8,11 +8,20 @@ pub fn digits_u32(digits: &[u8]) -> Option<u32>
     ensures fits { IsSome result ↔ (number_of digits.now < 2 ^ 32) }
     ensures value { IfSome result (λ value. value ≡ number_of digits.now) }
 {
-    let mut value: u32 = 0;
+    u32::try_from(digits_u64(digits)?).ok()
+}
+
+/// The number that the digits write, which is 0 for none, or None exactly where it is above `u64::MAX`.
+pub(crate) fn digits_u64(digits: &[u8]) -> Option<u64>
+    requires { AreDigits digits.now }
+    ensures fits { IsSome result ↔ (number_of digits.now < 2 ^ 64) }
+    ensures value { IfSome result (λ value. value ≡ number_of digits.now) }
+{
+    let mut value: u64 = 0;
     for digit in digits {
         value = value
             .checked_mul(10)?
-            .checked_add(u32::from(*digit - b'0'))?;
+            .checked_add(u64::from(*digit - b'0'))?;
     }
     Some(value)
 }
@@ -26,7 +35,7 @@ pub fn n_digits_in(text: &[u8], n: usize, lo: u32, hi: u32) -> Option<u32>
     ensures value { IfSome result (λ value. value ≡ number_of (take n text.now)) }
 {
     let digits = text.get(..n)?;
-    if !digits.iter().all(|digit| digit.is_ascii_digit()) {
+    if !are_digits(digits) {
         return None;
     }
     let value = digits_u32(digits)?;
@@ -35,4 +44,11 @@ pub fn n_digits_in(text: &[u8], n: usize, lo: u32, hi: u32) -> Option<u32>
     } else {
         None
     }
+}
+
+/// Whether each byte is an ASCII digit.
+fn are_digits(bytes: &[u8]) -> bool
+    ensures { IsTrue result ↔ AreDigits bytes.now }
+{
+    bytes.iter().all(|byte| byte.is_ascii_digit())
 }

@@ -7,12 +7,13 @@
 
 mod blank;
 mod digits;
+mod rounding;
 mod share;
 mod text;
 mod totals;
 
 pub use blank::is_blank;
 pub use digits::{digits_u32, n_digits_in};
-pub use share::{Part, Share, Unit};
+pub use share::{Part, Share, Unit, count_share};
 pub use text::{Short, push_num, push_padded, push_text};
 pub use totals::Totals;

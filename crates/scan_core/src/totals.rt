@@ -1,8 +1,85 @@
-/// Sums.
+ghost use Rattle.std.specs.Prelude.{◌≡◌, ◌+◌, ◌+ℤ◌, ◌<◌, ◌^◌, ◌↔◌, pos, IsTrue, IsSome, IfSome, IsNone};
+ghost use Rattle.scan_core.specs.Bounds.{IsBounded};
+ghost use Rattle.scan_core.specs.Shares.{fits_type};
+ghost use Rattle.scan_core.specs.Sums.{Added, first_sum_out};
+ghost use Rattle.scan_core.specs.declared.share.Part.TheVariants.{Months, Days, Micros};
+
+use crate::share::{Part, Share};
+use std::marker::Model;
+
+/// The exact sums of the months, days and microseconds of shares. A sum may leave its part's type on the way and
+/// come back: only the final sums are tested.
 #[derive(Clone, Copy, Debug)]
 pub struct Totals {
     months: i128,
     days: i128,
     micros: i128,
     adds: u64,
+}
+
+impl Model for Totals {
+    ghost Value = { Added };
+
+    ghost view = { λ sums. record { months = sums.months; days = sums.days; micros = sums.micros; adds = sums.adds } };
+
+    ghost inverse = { λ sums. record { months = sums.months; days = sums.days; micros = sums.micros; adds = sums.adds } };
+
+    ghost invariant = { λ sums. IsBounded sums.adds sums.months × IsBounded sums.adds sums.days × IsBounded sums.adds sums.micros };
+}
+
+impl Totals {
+    /// Three sums of 0, and no adds.
+    pub fn new() -> Totals
+        ensures { result ≡ record { months = pos 0; days = pos 0; micros = pos 0; adds = 0 } }
+    {
+        Totals {
+            months: 0,
+            days: 0,
+            micros: 0,
+            adds: 0,
+        }
+    }
+
+    /// Adds the three parts of the share, exactly. There are fewer than 2^63 adds before.
+    pub fn add(&mut self, share: Share)
+        requires { self.old.adds < 2 ^ 63 }
+        ensures months { self.new.months ≡ self.old.months +ℤ share.months }
+        ensures days { self.new.days ≡ self.old.days +ℤ share.days }
+        ensures micros { self.new.micros ≡ self.old.micros +ℤ share.micros }
+        ensures adds { self.new.adds ≡ self.old.adds + 1 }
+    {
+        self.months += i128::from(share.months);
+        self.days += i128::from(share.days);
+        self.micros += i128::from(share.micros);
+        self.adds += 1;
+    }
+
+    /// The three sums, or None exactly where one leaves its type.
+    pub fn fits(&self) -> Option<(i32, i32, i64)>
+        ensures fits { IsSome result ↔ (IsTrue (fits_type Months self.now.months) × IsTrue (fits_type Days self.now.days) × IsTrue (fits_type Micros self.now.micros)) }
+        ensures months { IfSome result (λ sums. sums.0 ≡ self.now.months) }
+        ensures days { IfSome result (λ sums. sums.1 ≡ self.now.days) }
+        ensures micros { IfSome result (λ sums. sums.2 ≡ self.now.micros) }
+    {
+        let months = i32::try_from(self.months).ok()?;
+        let days = i32::try_from(self.days).ok()?;
+        let micros = i64::try_from(self.micros).ok()?;
+        Some((months, days, micros))
+    }
+
+    /// The first of months, days and microseconds whose sum leaves its type, or None exactly where all three fit.
+    pub fn first_out(&self) -> Option<Part>
+        ensures part { result ≡ first_sum_out self.now }
+        ensures none { IsNone result ↔ (IsTrue (fits_type Months self.now.months) × IsTrue (fits_type Days self.now.days) × IsTrue (fits_type Micros self.now.micros)) }
+    {
+        if i32::try_from(self.months).is_err() {
+            Some(Part::Months)
+        } else if i32::try_from(self.days).is_err() {
+            Some(Part::Days)
+        } else if i64::try_from(self.micros).is_err() {
+            Some(Part::Micros)
+        } else {
+            None
+        }
+    }
 }

@@ -1,0 +1,193 @@
+-- A number that stands in front is read, and what is read is a number.
+use Rattle.std.proofs.Common.{◌≡◌, ℕ, ◌+◌, ◌<◌, ◌≤◌, ◌&&◌, ◌==◌, ◌⊎◌, Bool, true, false, cond, nat_lt, List, [], ◌∷◌, ◌++◌, length, Option, Some, None, refl, sym, ◌∙◌, ap, subst, append_assoc, append-nil, arith, inl, inr, codes}
+use Rattle.std.specs.Char.{is_ascii_digit, digit_value}
+use Rattle.std.proofs.lemmas.Str.{digit_value_digit}
+use Rattle.std.proofs.lemmas.Str.Parse.{digit_from_value}
+use Rattle.std.proofs.lemmas.Bool.Decides.{nat_tests}
+use Rattle.std.proofs.lemmas.Option.{cond_some}
+use Rattle.scan_core.specs.Digits.{AreDigits}
+use Rattle.scan_core.specs.Number.{IsSign, IsFraction, IsNumber}
+use Rattle.pg_interval_2.specs.Reading.{Numeral, front_digits, after_digits, read_sign, read_fraction, read_unsigned, read_number}
+
+-- the text doesn't begin with a digit, or with a point
+abbrev pub NoDigitFirst : List ℕ → Type 0
+NoDigitFirst [] = Unit {0}
+NoDigitFirst (b ∷ bs) = is_ascii_digit b ≡ false
+
+abbrev pub NoPointFirst : List ℕ → Type 0
+NoPointFirst [] = Unit {0}
+NoPointFirst (b ∷ bs) = (b == 46) ≡ false
+
+is_digit : (c : ℕ) → digit_value c < 10 → is_ascii_digit c ≡ true
+is_digit c h = let r = digit_from_value c h in grind (arith, nat_tests)
+
+digit_is : (c : ℕ) → is_ascii_digit c ≡ true → digit_value c < 10
+digit_is c h = grind (arith, nat_tests)
+
+pub front_of : (digits rest : List ℕ) → AreDigits digits → NoDigitFirst rest → front_digits (digits ++ rest) ≡ digits
+front_of [] [] d n = refl
+front_of [] (b ∷ bs) d n = rw n refl
+front_of (c ∷ cs) rest d n = let yes = is_digit c d.0 in rw yes (ap (λ (ds : List ℕ). c ∷ ds) (front_of cs rest d.1 n))
+
+pub after_of : (digits rest : List ℕ) → AreDigits digits → NoDigitFirst rest → after_digits (digits ++ rest) ≡ rest
+after_of [] [] d n = refl
+after_of [] (b ∷ bs) d n = rw n refl
+after_of (c ∷ cs) rest d n = let yes = is_digit c d.0 in rw yes (after_of cs rest d.1 n)
+
+-- the same of what a test chooses
+digits_if : (t : Bool) (b : ℕ) (ds : List ℕ) → (t ≡ true → digit_value b < 10) → AreDigits ds → AreDigits (cond t (b ∷ ds) [])
+digits_if true b ds is h = (is refl, h)
+digits_if false b ds is h = tt
+
+parts_if : (t : Bool) (b : ℕ) (bs ds rest : List ℕ) → ds ++ rest ≡ bs → cond t (b ∷ ds) [] ++ cond t rest (b ∷ bs) ≡ b ∷ bs
+parts_if true b bs ds rest h = ap (λ (l : List ℕ). b ∷ l) h
+parts_if false b bs ds rest h = refl
+
+no_digit_if : (t : Bool) (b : ℕ) (bs rest : List ℕ) → (t ≡ false → is_ascii_digit b ≡ false) → NoDigitFirst rest → NoDigitFirst (cond t rest (b ∷ bs))
+no_digit_if true b bs rest is h = h
+no_digit_if false b bs rest is h = is refl
+
+pub front_are_digits : (bytes : List ℕ) → AreDigits (front_digits bytes)
+front_are_digits [] = tt
+front_are_digits (b ∷ bs) = digits_if (is_ascii_digit b) b (front_digits bs) (digit_is b) (front_are_digits bs)
+
+pub front_and_after : (bytes : List ℕ) → front_digits bytes ++ after_digits bytes ≡ bytes
+front_and_after [] = refl
+front_and_after (b ∷ bs) = parts_if (is_ascii_digit b) b bs (front_digits bs) (after_digits bs) (front_and_after bs)
+
+pub after_no_digit : (bytes : List ℕ) → NoDigitFirst (after_digits bytes)
+after_no_digit [] = tt
+after_no_digit (b ∷ bs) = no_digit_if (is_ascii_digit b) b bs (after_digits bs) (λ h. h) (after_no_digit bs)
+
+no_fraction : (rest : List ℕ) → NoPointFirst rest → read_fraction rest ≡ ([], rest)
+no_fraction [] p = refl
+no_fraction (b ∷ bs) p = rw p refl
+
+-- the fraction that stands in front is read
+pub fraction_of : (fraction tail rest : List ℕ) → IsFraction fraction tail → NoDigitFirst rest → NoPointFirst rest → read_fraction (tail ++ rest) ≡ (fraction, rest)
+fraction_of fraction tail rest (inl none) d p = rw (none.1, none.0) (no_fraction rest p)
+fraction_of fraction tail rest (inr some) d p = rw some.1 (rw (front_of fraction rest some.0 d, after_of fraction rest some.0 d) refl)
+
+fraction_if : (t : Bool) (b : ℕ) (bs : List ℕ) → (t ≡ true → b ≡ 46)
+  → (tail : List ℕ) × IsFraction (cond {A = List ℕ × List ℕ} t (front_digits bs, after_digits bs) ([], b ∷ bs)).0 tail × (b ∷ bs ≡ tail ++ (cond {A = List ℕ × List ℕ} t (front_digits bs, after_digits bs) ([], b ∷ bs)).1)
+fraction_if true b bs point =
+    let split = front_and_after bs in
+    (46 ∷ front_digits bs, inr (front_are_digits bs, refl), let here : b ≡ 46 = point refl in rw (here, split) refl)
+fraction_if false b bs point = ([], inl (refl, refl), refl)
+
+is_point : (b : ℕ) → (b == 46) ≡ true → b ≡ 46
+is_point b h = grind (arith, nat_tests)
+
+-- what is read as a fraction is one
+pub is_fraction : (bytes : List ℕ) → (tail : List ℕ) × IsFraction (read_fraction bytes).0 tail × (bytes ≡ tail ++ (read_fraction bytes).1)
+is_fraction [] = ([], inl (refl, refl), refl)
+is_fraction (b ∷ bs) = fraction_if (b == 46) b bs (is_point b)
+
+-- the text doesn't begin with a sign
+abbrev pub NoSignFirst : List ℕ → Type 0
+NoSignFirst [] = Unit {0}
+NoSignFirst (b ∷ bs) = ((b == 45) ≡ false) × ((b == 43) ≡ false)
+
+no_sign : (plus : Bool) (rest : List ℕ) → NoSignFirst rest → read_sign plus rest ≡ (false, rest)
+no_sign plus [] h = refl
+no_sign true (b ∷ bs) h = rw (h.0, h.1) refl
+no_sign false (b ∷ bs) h = rw h.0 refl
+
+pub sign_of : (plus negative : Bool) (sign rest : List ℕ) → IsSign plus negative sign → NoSignFirst rest → read_sign plus (sign ++ rest) ≡ (negative, rest)
+sign_of plus true sign rest h n = rw h refl
+sign_of plus false sign rest (inl none) n = rw none (no_sign plus rest n)
+sign_of plus false sign rest (inr some) n = rw (some.1, some.0) refl
+
+-- a number's digits and point begin with no sign
+digit_no_sign : (c : ℕ) → digit_value c < 10 → ((c == 45) ≡ false) × ((c == 43) ≡ false)
+digit_no_sign c h = let r = digit_from_value c h in grind (arith, nat_tests)
+
+tail_no_sign : (fraction tail rest : List ℕ) → IsFraction fraction tail → 0 < length fraction → NoSignFirst (tail ++ rest)
+tail_no_sign fraction tail rest (inl none) some = absurd (let e = ap (λ (l : List ℕ). length l) none.0 in omega (arith, e))
+tail_no_sign fraction tail rest (inr point) some = rw point.1 (refl, refl)
+
+digits_no_sign : (whole fraction tail rest : List ℕ) → AreDigits whole → IsFraction fraction tail → 0 < length whole + length fraction → NoSignFirst (whole ++ (tail ++ rest))
+digits_no_sign [] fraction tail rest d f some = tail_no_sign fraction tail rest f (omega arith)
+digits_no_sign (c ∷ cs) fraction tail rest d f some = digit_no_sign c d.0
+
+-- what follows the whole digits begins with no digit
+tail_no_digit : (fraction tail rest : List ℕ) → IsFraction fraction tail → NoDigitFirst rest → NoDigitFirst (tail ++ rest)
+tail_no_digit fraction tail rest (inl none) d = rw none.1 d
+tail_no_digit fraction tail rest (inr point) d = rw point.1 refl
+
+finds_unsigned : (negative : Bool) (whole fraction tail rest : List ℕ) → AreDigits whole → IsFraction fraction tail → 0 < length whole + length fraction
+  → NoDigitFirst rest → NoPointFirst rest
+  → read_unsigned negative (whole ++ (tail ++ rest)) ≡ Some (record { negative = negative; whole = whole; fraction = fraction }, rest)
+unfolding read_unsigned
+finds_unsigned negative whole fraction tail rest digits point some d p =
+    let no_digit = tail_no_digit fraction tail rest point d in
+    let front = front_of whole (tail ++ rest) digits no_digit in
+    let after = after_of whole (tail ++ rest) digits no_digit in
+    let behind = fraction_of fraction tail rest point d p in
+    let counted : nat_lt 0 (length whole + length fraction) ≡ true = grind (arith, nat_tests) in
+    rw (front, after, behind, counted) refl
+
+-- a number in front, which no further digit and no point follows, is read
+pub finds_number : (plus negative : Bool) (whole fraction word rest : List ℕ) → IsNumber plus negative whole fraction word → NoDigitFirst rest → NoPointFirst rest
+  → read_number plus (word ++ rest) ≡ Some (record { negative = negative; whole = whole; fraction = fraction }, rest)
+unfolding read_number
+finds_number plus negative whole fraction word rest h d p =
+    let body = whole ++ (h.tail ++ rest) in
+    let split : word ++ rest ≡ h.sign ++ body = ap (λ (l : List ℕ). l ++ rest) h.joined ∙ append_assoc h.sign (whole ++ h.tail) rest ∙ ap (λ (l : List ℕ). h.sign ++ l) (append_assoc whole h.tail rest) in
+    let signed = sign_of plus negative h.sign body h.signed (digits_no_sign whole fraction h.tail rest h.digits h.point h.some) in
+    let sign : read_sign plus (word ++ rest) ≡ (negative, body) = ap (read_sign plus) split ∙ signed in
+    rw sign (finds_unsigned negative whole fraction h.tail rest h.digits h.point h.some d p)
+
+is_minus : (b : ℕ) → (b == 45) ≡ true → b ≡ 45
+is_minus b h = grind (arith, nat_tests)
+
+is_plus : (b : ℕ) → (b == 43) ≡ true → b ≡ 43
+is_plus b h = grind (arith, nat_tests)
+
+-- a sign, as tests for a minus and a plus choose it
+sign_if : (t u plus : Bool) (b : ℕ) (bs : List ℕ) → (t ≡ true → b ≡ 45) → (u ≡ true → b ≡ 43)
+  → (sign : List ℕ) × IsSign plus (cond {A = Bool × List ℕ} t (true, bs) (cond (plus && u) (false, bs) (false, b ∷ bs))).0 sign
+    × (b ∷ bs ≡ sign ++ (cond {A = Bool × List ℕ} t (true, bs) (cond (plus && u) (false, bs) (false, b ∷ bs))).1)
+sign_if true u plus b bs minus also = (codes "-", refl, let here = minus refl in rw here refl)
+sign_if false true true b bs minus also = (codes "+", inr (refl, refl), let here = also refl in rw here refl)
+sign_if false false true b bs minus also = ([], inl refl, refl)
+sign_if false true false b bs minus also = ([], inl refl, refl)
+sign_if false false false b bs minus also = ([], inl refl, refl)
+
+is_sign : (plus : Bool) (bytes : List ℕ) → (sign : List ℕ) × IsSign plus (read_sign plus bytes).0 sign × (bytes ≡ sign ++ (read_sign plus bytes).1)
+is_sign plus [] = ([], inl refl, refl)
+is_sign plus (b ∷ bs) = sign_if (b == 45) (b == 43) plus b bs (is_minus b) (is_plus b)
+
+-- what is read behind a sign
+pub record IsUnsigned (negative : Bool) (bytes : List ℕ) (n : Numeral) (rest : List ℕ) : Type 0 where
+  pub tail : List ℕ
+  pub sign : n.negative ≡ negative
+  pub digits : AreDigits n.whole
+  pub point : IsFraction n.fraction tail
+  pub some : 0 < length n.whole + length n.fraction
+  pub joined : bytes ≡ (n.whole ++ tail) ++ rest
+
+above_zero : (n : ℕ) → nat_lt 0 n ≡ true → 0 < n
+above_zero n h = grind (arith, nat_tests)
+
+is_unsigned : (negative : Bool) (bytes : List ℕ) (n : Numeral) (rest : List ℕ) → read_unsigned negative bytes ≡ Some (n, rest) → IsUnsigned negative bytes n rest
+unfolding read_unsigned
+is_unsigned negative bytes n rest h =
+    let found = cond_some _ _ _ h in
+    let behind = is_fraction (after_digits bytes) in
+    let whole = front_digits bytes in
+    let split : bytes ≡ (whole ++ behind.0) ++ (read_fraction (after_digits bytes)).1 =
+        sym (front_and_after bytes) ∙ ap (λ (l : List ℕ). whole ++ l) behind.2 ∙ sym (append_assoc whole behind.0 (read_fraction (after_digits bytes)).1) in
+    let P : Numeral × List ℕ → Type 0 = λ p. IsUnsigned negative bytes p.0 p.1 in
+    subst P found.1 (record { tail = behind.0; sign = refl; digits = front_are_digits bytes; point = behind.1; some = above_zero _ found.0; joined = split })
+
+-- what is read is a number
+pub is_number : (plus : Bool) (bytes : List ℕ) (n : Numeral) (rest : List ℕ) → read_number plus bytes ≡ Some (n, rest)
+  → (word : List ℕ) × IsNumber plus n.negative n.whole n.fraction word × (bytes ≡ word ++ rest)
+unfolding read_number
+is_number plus bytes n rest h =
+    let sign = is_sign plus bytes in
+    let body = is_unsigned (read_sign plus bytes).0 (read_sign plus bytes).1 n rest h in
+    let split : bytes ≡ (sign.0 ++ (n.whole ++ body.tail)) ++ rest = sign.2 ∙ ap (λ (l : List ℕ). sign.0 ++ l) body.joined ∙ sym (append_assoc sign.0 (n.whole ++ body.tail) rest) in
+    let P : Bool → Type 0 = λ b. IsSign plus b sign.0 in
+    (sign.0 ++ (n.whole ++ body.tail), record { sign = sign.0; tail = body.tail; signed = subst P (sym body.sign) sign.1; digits = body.digits; point = body.point; some = body.some; joined = refl }, split)

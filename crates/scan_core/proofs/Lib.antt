@@ -1,0 +1,4 @@
+pub mod Joins
+pub mod DigitFacts
+pub mod RoundingFacts
+pub mod ShareFacts

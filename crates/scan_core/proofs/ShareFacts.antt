@@ -1,0 +1,100 @@
+-- Which parts of a share fit their types: the parts beside a unit's main one always do.
+use Rattle.std.proofs.Common.{◌≡◌, ◌≢◌, ℕ, zero, suc, ◌*◌, ◌^◌, ◌<◌, ◌≤◌, ◌⊎◌, Bool, true, false, arith, inl, inr, refl, subst, sym}
+use Rattle.std.proofs.lemmas.Bool.Decides.{nat_tests}
+use Rattle.scan_core.specs.Count.{Count}
+use Rattle.scan_core.specs.Digits.{AreDigits, number_of}
+use Rattle.scan_core.specs.Shares.{fits_type, is_within, magnitude, main_part, rounded, scale_of, share, signed}
+use Rattle.scan_core.specs.declared.share.Part.{Part}
+use Rattle.scan_core.specs.declared.share.Part.TheVariants.{Days, Micros, Months}
+use Rattle.scan_core.specs.declared.share.Unit.{Unit as TimeUnit}
+use Rattle.scan_core.specs.declared.share.Unit.TheVariants.{Day, Hour, Minute, Month, Second, Year}
+use Rattle.scan_core.proofs.RoundingFacts.{rounded-le}
+
+-- ---- a magnitude below half of the type's range fits with either sign
+
+pub small_32 : (negative : Bool) (n : ℕ) → n < 2 ^ 31 → is_within 32 (signed negative n) ≡ true
+small_32 false n h = grind (arith, nat_tests)
+small_32 true zero h = refl
+small_32 true (suc n) h = grind (arith, nat_tests)
+
+pub small_64 : (negative : Bool) (n : ℕ) → n < 2 ^ 63 → is_within 64 (signed negative n) ≡ true
+small_64 false n h = grind (arith, nat_tests)
+small_64 true zero h = refl
+small_64 true (suc n) h = grind (arith, nat_tests)
+
+-- ---- what fits is at most half of the type's range
+
+pub bound_32 : (negative : Bool) (n : ℕ) → is_within 32 (signed negative n) ≡ true → n ≤ 2 ^ 31
+bound_32 false n h = grind (arith, nat_tests)
+bound_32 true zero h = omega arith
+bound_32 true (suc n) h = grind (arith, nat_tests)
+
+pub bound_64 : (negative : Bool) (n : ℕ) → is_within 64 (signed negative n) ≡ true → n ≤ 2 ^ 63
+bound_64 false n h = grind (arith, nat_tests)
+bound_64 true zero h = omega arith
+bound_64 true (suc n) h = grind (arith, nat_tests)
+
+-- ---- the parts beside the main one
+
+main_or_fits : (part : Part) (unit : TimeUnit) (negative : Bool) (w r : ℕ) → r ≤ scale_of unit → (part ≡ main_part unit) ⊎ (fits_type part (signed negative (magnitude part unit w r)) ≡ true)
+main_or_fits Months Year negative w r h = inl refl
+main_or_fits Months Month negative w r h = inl refl
+main_or_fits Months Day negative w r h = inr (small_32 negative 0 (omega arith))
+main_or_fits Months Hour negative w r h = inr (small_32 negative 0 (omega arith))
+main_or_fits Months Minute negative w r h = inr (small_32 negative 0 (omega arith))
+main_or_fits Months Second negative w r h = inr (small_32 negative 0 (omega arith))
+main_or_fits Days Year negative w r h = inr (small_32 negative 0 (omega arith))
+main_or_fits Days Month negative w r h = inr (small_32 negative r (omega arith))
+main_or_fits Days Day negative w r h = inl refl
+main_or_fits Days Hour negative w r h = inr (small_32 negative 0 (omega arith))
+main_or_fits Days Minute negative w r h = inr (small_32 negative 0 (omega arith))
+main_or_fits Days Second negative w r h = inr (small_32 negative 0 (omega arith))
+main_or_fits Micros Year negative w r h = inr (small_64 negative 0 (omega arith))
+main_or_fits Micros Month negative w r h = inr (small_64 negative 0 (omega arith))
+main_or_fits Micros Day negative w r h = inr (small_64 negative (r * 3_600_000_000) (omega arith))
+main_or_fits Micros Hour negative w r h = inl refl
+main_or_fits Micros Minute negative w r h = inl refl
+main_or_fits Micros Second negative w r h = inl refl
+
+main_or_part_fits : (part : Part) (c : Count) → AreDigits c.fraction → (part ≡ main_part c.unit) ⊎ (fits_type part (share part c) ≡ true)
+main_or_part_fits part c digits =
+    main_or_fits part c.unit c.negative (number_of c.whole) (rounded (scale_of c.unit) c.fraction) (rounded-le (scale_of c.unit) c.fraction digits)
+
+-- a part beside the main one fits
+pub other_part_fits : (part : Part) (c : Count) → AreDigits c.fraction → part ≢ main_part c.unit → fits_type part (share part c) ≡ true
+other_part_fits part c digits other =
+    elim (main_or_part_fits part c digits) [
+      | inl same ↦ absurd (other same)
+      | inr fits ↦ fits
+    ]
+
+-- each part fits where the main one does
+pub each_part_fits : (part : Part) (c : Count) → AreDigits c.fraction → fits_type (main_part c.unit) (share (main_part c.unit) c) ≡ true → fits_type part (share part c) ≡ true
+each_part_fits part c digits main =
+    elim (main_or_part_fits part c digits) [
+      | inl same ↦ subst (λ (p : Part). fits_type p (share p c) ≡ true) (sym same) main
+      | inr fits ↦ fits
+    ]
+
+-- ---- the main part grows with the whole units
+
+pub whole-le : (unit : TimeUnit) (w r : ℕ) → w ≤ magnitude (main_part unit) unit w r
+whole-le Year w r = omega arith
+whole-le Month w r = omega arith
+whole-le Day w r = omega arith
+whole-le Hour w r = omega arith
+whole-le Minute w r = omega arith
+whole-le Second w r = omega arith
+
+fits_64 : (part : Part) (negative : Bool) (n : ℕ) → fits_type part (signed negative n) ≡ true → n < 2 ^ 64
+fits_64 Months negative n h = omega (arith, bound_32 negative n h)
+fits_64 Days negative n h = omega (arith, bound_32 negative n h)
+fits_64 Micros negative n h = omega (arith, bound_64 negative n h)
+
+-- the whole units of a count whose main part fits are below 2^64
+pub whole_below : (c : Count) → fits_type (main_part c.unit) (share (main_part c.unit) c) ≡ true → number_of c.whole < 2 ^ 64
+whole_below c h =
+    let w = number_of c.whole in
+    let r = rounded (scale_of c.unit) c.fraction in
+    let n = magnitude (main_part c.unit) c.unit w r in
+    omega (arith, whole-le c.unit w r, fits_64 (main_part c.unit) c.negative n h)
