@@ -1,5 +1,6 @@
 -- What a call of a source or a sink does to its counts, which have 64 bits and stand still at their greatest value.
-use Rattle.std.specs.Prelude.{◌≡◌, ℕ, ◌+◌, ◌-◌, ◌^◌, ◌<◌, ◌≤◌, min, List, length, Result, IfOk, OnErr}
+use Rattle.std.specs.Prelude.{◌≡◌, ℕ, ◌+◌, ◌-◌, ◌^◌, ◌<◌, ◌≤◌, min, List, length, Option, Result, IfOk, OnErr}
+use Rattle.std.specs.Io.KnownBytes.{Consumes}
 
 -- a count of faults went up in a call, or stands at its greatest value
 abbrev pub Rose : ℕ → ℕ → Type 0
@@ -18,3 +19,10 @@ pub record CountsTaken {E : Type 0} (before now room : ℕ) (result : Result ℕ
 -- a write takes none of a piece only where there is none
 abbrev pub TakesSome : {E : Type 0} → List ℕ → Result ℕ E → Type 0
 TakesSome piece result = IfOk result (λ n. n ≡ 0 → length piece ≡ 0)
+
+-- what was taken of a source: some bytes of those left, at most so many, and the count of bytes taken goes up by as many
+pub record Takes (left left_after : Option (List ℕ)) (taken taken_after most : ℕ) : Type 0 where
+  pub given : List ℕ
+  pub bytes : Consumes left left_after given
+  pub count : taken < 2 ^ 63 → taken_after ≡ taken + length given
+  pub bound : length given ≤ most

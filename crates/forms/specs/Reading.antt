@@ -3,6 +3,7 @@ use Rattle.std.specs.Prelude.{◌≡◌, ◌==◌, ℕ, Bool, false, List, [], �
 use Rattle.std.specs.Io.KnownBytes.{Appends}
 use Rattle.forms.specs.declared.form.Form.{Form}
 use Rattle.forms.specs.Names.{name_of}
+use Rattle.forms.specs.Replies.{IsReplyLine}
 
 -- no byte is a space
 abbrev pub NoSpace : List ℕ → Type 0
@@ -24,3 +25,15 @@ pub record AppendsFront (old new : Option (List ℕ)) (text : List ℕ) : Type 0
   pub back : List ℕ
   pub split : text ≡ front ++ back
   pub written : Appends old new front
+
+-- a front of what waits was written, and the rest still waits
+pub record MovesFront (old new : Option (List ℕ)) (before after : List ℕ) : Type 0 where
+  pub front : List ℕ
+  pub split : before ≡ front ++ after
+  pub written : Appends old new front
+
+-- the reply to a line was put behind what waits
+pub record PushesReply (line before after : List ℕ) : Type 0 where
+  pub whole : List ℕ
+  pub reply : IsReplyLine whole line
+  pub pushed : after ≡ before ++ whole

@@ -4,6 +4,7 @@
 //! A line that can't be answered has a reply as well, `refused` and the cause, so nothing stops and nothing is lost.
 #![tactic(auto)]
 
+mod answer;
 mod cause;
 mod faults;
 mod form;
@@ -13,9 +14,12 @@ mod memory_sink;
 mod memory_source;
 mod outside;
 mod output;
+mod program;
 
+pub use answer::{ConvertError, convert, reply};
 pub use cause::Cause;
 pub use form::Form;
 pub use memory_sink::MemSink;
 pub use memory_source::MemSource;
 pub use outside::{Failed, Sink, Source};
+pub use program::{RunEnd, run, top};
