@@ -35,30 +35,30 @@ finds_pair in_time piece rest c h =
 
 -- what is read at a letter
 letter_is : (unit_of : ℕ → Option TimeUnit) (n : Numeral) (bytes : List ℕ) (c : Count) (rest : List ℕ) → read_letter unit_of n bytes ≡ Some (c, rest)
-  → (letter : ℕ) × (unit : TimeUnit) × (bytes ≡ letter ∷ rest) × (unit_of letter ≡ Some unit) × (c ≡ count_of n unit)
+    → (letter : ℕ) × (unit : TimeUnit) × (bytes ≡ letter ∷ rest) × (unit_of letter ≡ Some unit) × (c ≡ count_of n unit)
 letter_is unit_of n [] c rest h = cc
 letter_is unit_of n (b ∷ bs) c rest h =
     option_and_then_some _ _ _ h (λ unit found body.
-      let pairs = some_pair_parts _ _ _ _ body in
-      (b, unit, ap (λ (l : List ℕ). b ∷ l) pairs.1, found, sym pairs.0))
+    let pairs = some_pair_parts _ _ _ _ body in
+    (b, unit, ap (λ (l : List ℕ). b ∷ l) pairs.1, found, sym pairs.0))
 
 -- what is read is a pair
 pub is_pair : (in_time : Bool) (bytes : List ℕ) (c : Count) (rest : List ℕ) → read_pair (unit_in in_time) bytes ≡ Some (c, rest)
-  → (piece : List ℕ) × IsPair (unit_in in_time) piece c × (bytes ≡ piece ++ rest)
+    → (piece : List ℕ) × IsPair (unit_in in_time) piece c × (bytes ≡ piece ++ rest)
 unfolding read_pair
 is_pair in_time bytes c rest h =
     option_and_then_some _ _ _ h (λ r found body.
-      let number = is_number false bytes r.0 r.1 found in
-      let letter = letter_is (unit_in in_time) r.0 r.1 c rest body in
-      let split : bytes ≡ (number.0 ++ letter.0 ∷ []) ++ rest = number.2 ∙ ap (λ (l : List ℕ). number.0 ++ l) letter.2 ∙ sym (append_assoc number.0 (letter.0 ∷ []) rest) in
-      let P : Count → Type 0 = λ d. IsPair (unit_in in_time) (number.0 ++ letter.0 ∷ []) d in
-      (number.0 ++ letter.0 ∷ [], subst P (sym letter.4) (record { number = number.0; letter = letter.0; digits = number.1; unit = letter.3; joined = refl }), split))
+    let number = is_number false bytes r.0 r.1 found in
+    let letter = letter_is (unit_in in_time) r.0 r.1 c rest body in
+    let split : bytes ≡ (number.0 ++ letter.0 ∷ []) ++ rest = number.2 ∙ ap (λ (l : List ℕ). number.0 ++ l) letter.2 ∙ sym (append_assoc number.0 (letter.0 ∷ []) rest) in
+    let P : Count → Type 0 = λ d. IsPair (unit_in in_time) (number.0 ++ letter.0 ∷ []) d in
+    (number.0 ++ letter.0 ∷ [], subst P (sym letter.4) (record { number = number.0; letter = letter.0; digits = number.1; unit = letter.3; joined = refl }), split))
 
-nothing_read : (in_time : Bool) → read_pair (unit_in in_time) [] ≡ None
+pub nothing_read : (in_time : Bool) → read_pair (unit_in in_time) [] ≡ None
 unfolding read_pair read_number read_unsigned
 nothing_read in_time = refl
 
-time_ends : (time : List ℕ) → read_pair (unit_in false) (codes "T" ++ time) ≡ None
+pub time_ends : (time : List ℕ) → read_pair (unit_in false) (codes "T" ++ time) ≡ None
 unfolding read_pair read_number read_unsigned
 time_ends time = refl
 
@@ -68,7 +68,7 @@ IsRest rest dates counts =
     ((rest ≡ []) × (counts ≡ dates)) ⊎ ((time : List ℕ) × (times : List Count) × (rest ≡ codes "T" ++ time) × ArePairs (unit_in true) time times × (counts ≡ dates ++ times))
 
 pub behind_dates : (text front rest : List ℕ) (dates counts : List Count) → ArePairs (unit_in false) front dates → read_pair (unit_in false) rest ≡ None
-  → text ≡ codes "P" ++ (front ++ rest) → IsIso text counts → IsRest rest dates counts
+    → text ≡ codes "P" ++ (front ++ rest) → IsIso text counts → IsRest rest dates counts
 behind_dates text front rest dates counts pairs stuck spelled (inl alone) =
     let whole : codes "P" ++ (front ++ rest) ≡ codes "P" ++ alone.0 = sym spelled ∙ alone.3 in
     let tails : front ++ rest ≡ alone.0 = cc in
@@ -79,10 +79,10 @@ behind_dates text front rest dates counts pairs stuck spelled (inr timed) =
     let whole : codes "P" ++ (front ++ rest) ≡ codes "P" ++ (timed.date ++ (codes "T" ++ timed.time)) = sym spelled ∙ timed.spelled in
     let same : front ++ rest ≡ timed.date ++ (codes "T" ++ timed.time) = cc in
     let both = join_same (IsPair (unit_in false)) (read_pair (unit_in false)) (finds_pair false) front timed.date rest (codes "T" ++ timed.time) dates timed.date_counts
-        pairs timed.dates same stuck (time_ends timed.time) in
+    pairs timed.dates same stuck (time_ends timed.time) in
     inr (timed.time, timed.time_counts, both.1, timed.times, timed.counted ∙ ap (λ (l : List Count). l ++ timed.time_counts) (sym both.0))
 
-no_time : (time : List ℕ) → codes "T" ++ time ≡ [] → ⊥
+pub no_time : (time : List ℕ) → codes "T" ++ time ≡ [] → ⊥
 no_time time h = cc
 
 -- an ISO text has one list of counts
@@ -90,16 +90,16 @@ pub one_list : (text : List ℕ) (a b : List Count) → IsIso text a → IsIso t
 one_list text a b (inl alone) other =
     let spelled : text ≡ codes "P" ++ (alone.0 ++ []) = alone.3 ∙ ap (λ (l : List ℕ). codes "P" ++ l) (sym (append-nil alone.0)) in
     elim (behind_dates text alone.0 [] a b alone.1 (nothing_read false) spelled other) [
-      inl end ↦ sym end.1
-    | inr timed ↦ absurd (no_time timed.0 (sym timed.2))
+      | inl end ↦ sym end.1
+      | inr timed ↦ absurd (no_time timed.0 (sym timed.2))
     ]
 one_list text a b (inr timed) other =
     elim (behind_dates text timed.date (codes "T" ++ timed.time) timed.date_counts b timed.dates (time_ends timed.time) timed.spelled other) [
-      inl end ↦ absurd (no_time timed.time end.0)
-    | inr both ↦
-        let rest : codes "T" ++ timed.time ≡ codes "T" ++ both.0 = both.2 in
-        let times : timed.time ≡ both.0 = cc in
-        let P : List ℕ → Type 0 = λ l. ArePairs (unit_in true) l timed.time_counts in
-        let same = join_values (IsPair (unit_in true)) (read_pair (unit_in true)) (finds_pair true) (nothing_read true) both.0 timed.time_counts both.1 (subst P times timed.times) both.3 in
-        timed.counted ∙ ap (λ (l : List Count). timed.date_counts ++ l) same ∙ sym both.4
+      | inl end ↦ absurd (no_time timed.time end.0)
+      | inr both ↦
+          let rest : codes "T" ++ timed.time ≡ codes "T" ++ both.0 = both.2 in
+          let times : timed.time ≡ both.0 = cc in
+          let P : List ℕ → Type 0 = λ l. ArePairs (unit_in true) l timed.time_counts in
+          let same = join_values (IsPair (unit_in true)) (read_pair (unit_in true)) (finds_pair true) (nothing_read true) both.0 timed.time_counts both.1 (subst P times timed.times) both.3 in
+          timed.counted ∙ ap (λ (l : List Count). timed.date_counts ++ l) same ∙ sym both.4
     ]

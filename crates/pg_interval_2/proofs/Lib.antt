@@ -1,2 +1,16 @@
+pub mod Widths
+pub mod WrittenDigits
+pub mod Signs
+pub mod AddsUp
+pub mod JoinLemmas
+pub mod WrittenCounts
+pub mod WrittenNumbers
+pub mod IsoSpelled
+pub mod SumsTo
+pub mod IsoReadBack
+pub mod ReadBack
 pub mod Numbers
 pub mod IsoCounts
+pub mod TallyFacts
+pub mod IsoSteps
+pub mod Answering

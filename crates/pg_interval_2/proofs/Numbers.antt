@@ -69,7 +69,7 @@ fraction_of fraction tail rest (inl none) d p = rw (none.1, none.0) (no_fraction
 fraction_of fraction tail rest (inr some) d p = rw some.1 (rw (front_of fraction rest some.0 d, after_of fraction rest some.0 d) refl)
 
 fraction_if : (t : Bool) (b : ℕ) (bs : List ℕ) → (t ≡ true → b ≡ 46)
-  → (tail : List ℕ) × IsFraction (cond {A = List ℕ × List ℕ} t (front_digits bs, after_digits bs) ([], b ∷ bs)).0 tail × (b ∷ bs ≡ tail ++ (cond {A = List ℕ × List ℕ} t (front_digits bs, after_digits bs) ([], b ∷ bs)).1)
+    → (tail : List ℕ) × IsFraction (cond {A = List ℕ × List ℕ} t (front_digits bs, after_digits bs) ([], b ∷ bs)).0 tail × (b ∷ bs ≡ tail ++ (cond {A = List ℕ × List ℕ} t (front_digits bs, after_digits bs) ([], b ∷ bs)).1)
 fraction_if true b bs point =
     let split = front_and_after bs in
     (46 ∷ front_digits bs, inr (front_are_digits bs, refl), let here : b ≡ 46 = point refl in rw (here, split) refl)
@@ -116,8 +116,8 @@ tail_no_digit fraction tail rest (inl none) d = rw none.1 d
 tail_no_digit fraction tail rest (inr point) d = rw point.1 refl
 
 finds_unsigned : (negative : Bool) (whole fraction tail rest : List ℕ) → AreDigits whole → IsFraction fraction tail → 0 < length whole + length fraction
-  → NoDigitFirst rest → NoPointFirst rest
-  → read_unsigned negative (whole ++ (tail ++ rest)) ≡ Some (record { negative = negative; whole = whole; fraction = fraction }, rest)
+    → NoDigitFirst rest → NoPointFirst rest
+    → read_unsigned negative (whole ++ (tail ++ rest)) ≡ Some (record { negative = negative; whole = whole; fraction = fraction }, rest)
 unfolding read_unsigned
 finds_unsigned negative whole fraction tail rest digits point some d p =
     let no_digit = tail_no_digit fraction tail rest point d in
@@ -129,7 +129,7 @@ finds_unsigned negative whole fraction tail rest digits point some d p =
 
 -- a number in front, which no further digit and no point follows, is read
 pub finds_number : (plus negative : Bool) (whole fraction word rest : List ℕ) → IsNumber plus negative whole fraction word → NoDigitFirst rest → NoPointFirst rest
-  → read_number plus (word ++ rest) ≡ Some (record { negative = negative; whole = whole; fraction = fraction }, rest)
+    → read_number plus (word ++ rest) ≡ Some (record { negative = negative; whole = whole; fraction = fraction }, rest)
 unfolding read_number
 finds_number plus negative whole fraction word rest h d p =
     let body = whole ++ (h.tail ++ rest) in
@@ -146,7 +146,7 @@ is_plus b h = grind (arith, nat_tests)
 
 -- a sign, as tests for a minus and a plus choose it
 sign_if : (t u plus : Bool) (b : ℕ) (bs : List ℕ) → (t ≡ true → b ≡ 45) → (u ≡ true → b ≡ 43)
-  → (sign : List ℕ) × IsSign plus (cond {A = Bool × List ℕ} t (true, bs) (cond (plus && u) (false, bs) (false, b ∷ bs))).0 sign
+    → (sign : List ℕ) × IsSign plus (cond {A = Bool × List ℕ} t (true, bs) (cond (plus && u) (false, bs) (false, b ∷ bs))).0 sign
     × (b ∷ bs ≡ sign ++ (cond {A = Bool × List ℕ} t (true, bs) (cond (plus && u) (false, bs) (false, b ∷ bs))).1)
 sign_if true u plus b bs minus also = (codes "-", refl, let here = minus refl in rw here refl)
 sign_if false true true b bs minus also = (codes "+", inr (refl, refl), let here = also refl in rw here refl)
@@ -177,13 +177,13 @@ is_unsigned negative bytes n rest h =
     let behind = is_fraction (after_digits bytes) in
     let whole = front_digits bytes in
     let split : bytes ≡ (whole ++ behind.0) ++ (read_fraction (after_digits bytes)).1 =
-        sym (front_and_after bytes) ∙ ap (λ (l : List ℕ). whole ++ l) behind.2 ∙ sym (append_assoc whole behind.0 (read_fraction (after_digits bytes)).1) in
+    sym (front_and_after bytes) ∙ ap (λ (l : List ℕ). whole ++ l) behind.2 ∙ sym (append_assoc whole behind.0 (read_fraction (after_digits bytes)).1) in
     let P : Numeral × List ℕ → Type 0 = λ p. IsUnsigned negative bytes p.0 p.1 in
     subst P found.1 (record { tail = behind.0; sign = refl; digits = front_are_digits bytes; point = behind.1; some = above_zero _ found.0; joined = split })
 
 -- what is read is a number
 pub is_number : (plus : Bool) (bytes : List ℕ) (n : Numeral) (rest : List ℕ) → read_number plus bytes ≡ Some (n, rest)
-  → (word : List ℕ) × IsNumber plus n.negative n.whole n.fraction word × (bytes ≡ word ++ rest)
+    → (word : List ℕ) × IsNumber plus n.negative n.whole n.fraction word × (bytes ≡ word ++ rest)
 unfolding read_number
 is_number plus bytes n rest h =
     let sign = is_sign plus bytes in

@@ -31,3 +31,10 @@ Refuses Shape message text (InvalidInterval m) = HasNoShape Shape text × (m.now
 Refuses Shape message text (InvalidYearMonth m) = Misfits Shape text Months × (m.now ≡ year_month_overflow)
 Refuses Shape message text (InvalidDay m) = Misfits Shape text Days × (m.now ≡ day_overflow)
 Refuses Shape message text (InvalidTime m) = Misfits Shape text Micros × (m.now ≡ time_overflow)
+
+-- the refusal says that a part doesn't fit
+abbrev pub IsRange : ParseError → Type 0
+IsRange (InvalidInterval m) = ⊥
+IsRange (InvalidYearMonth m) = Unit {0}
+IsRange (InvalidDay m) = Unit {0}
+IsRange (InvalidTime m) = Unit {0}

@@ -14,6 +14,11 @@ unfoldable pub iso_seconds : Bool → ℕ → ℕ → List ℕ
 iso_seconds negative seconds micros =
     if micros == 0 then iso_part negative seconds (codes "S") else (minus negative ++ ((if seconds == 0 then [] else decimal seconds) ++ (codes "." ++ (padded 6 micros ++ codes "S"))))
 
+-- the years, months and days
+unfoldable pub iso_date : ℤ → ℤ → List ℕ
+iso_date months days =
+    iso_part (is_negative months) (years_of months) (codes "Y") ++ (iso_part (is_negative months) (months_of months) (codes "M") ++ iso_part (is_negative days) (unsigned_abs days) (codes "D"))
+
 -- the time, or nothing where it is 0
 unfoldable pub iso_time : ℤ → List ℕ
 iso_time micros =
@@ -21,4 +26,4 @@ iso_time micros =
 
 unfoldable pub iso_text : ℤ → ℤ → ℤ → List ℕ
 iso_text months days micros =
-    if int_eq months (pos 0) && (int_eq days (pos 0) && int_eq micros (pos 0)) then codes "PT0S" else (codes "P" ++ (iso_part (is_negative months) (years_of months) (codes "Y") ++ (iso_part (is_negative months) (months_of months) (codes "M") ++ (iso_part (is_negative days) (unsigned_abs days) (codes "D") ++ iso_time micros))))
+    if int_eq months (pos 0) && (int_eq days (pos 0) && int_eq micros (pos 0)) then codes "PT0S" else (codes "P" ++ (iso_date months days ++ iso_time micros))

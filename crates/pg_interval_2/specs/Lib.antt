@@ -2,6 +2,12 @@ pub mod Denotes
 pub mod Iso
 pub mod Parts
 pub mod IsoText
+pub mod Ranges
 pub mod Messages
 pub mod Styles
 pub mod Reading
+pub mod UnitNames
+pub mod Clock
+pub mod Postgres
+pub mod Tallies
+pub mod IsoTally

@@ -1,3 +1,6 @@
+ghost use Rattle.std.specs.Prelude.{◌↔◌, IsTrue};
+ghost use Rattle.pg_interval_2.specs.Denotes.{IsRange};
+
 /// Why a text isn't read as an interval.
 #[derive(Clone, Copy, Debug, PartialEq, Eq)]
 pub enum ParseError {
@@ -9,4 +12,18 @@ pub enum ParseError {
     InvalidDay(&'static str),
     /// A count of microseconds, or their sum, leaves `i64`.
     InvalidTime(&'static str),
+}
+
+impl ParseError {
+    /// True exactly where the text is in the style and a part of it doesn't fit its type.
+    pub fn is_range(&self) -> bool
+        ensures { IsTrue result ↔ IsRange self.now }
+    {
+        match self {
+            ParseError::InvalidYearMonth(_)
+            | ParseError::InvalidDay(_)
+            | ParseError::InvalidTime(_) => true,
+            ParseError::InvalidInterval(_) => false,
+        }
+    }
 }

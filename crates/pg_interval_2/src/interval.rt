@@ -17,6 +17,10 @@ impl Interval {
     pub fn new(months: i32, days: i32, microseconds: i64) -> Interval
         ensures { result ≡ record { months = months; days = days; microseconds = microseconds } }
     {
-        Interval { months, days, microseconds }
+        Interval {
+            months,
+            days,
+            microseconds,
+        }
     }
 }

@@ -1,9 +1,15 @@
 //! The ISO style: `P1Y2M3DT4H5M6S`.
-ghost use Rattle.std.specs.Prelude.{◌≡◌, option_map};
-ghost use Rattle.pg_interval_2.specs.Iso.{unit_in};
+ghost use Rattle.std.specs.Prelude.{◌≡◌, ◌+◌, ◌<◌, ◌≤◌, ◌^◌, length, IfSome, IfNone, IfOk, IfErr, option_map};
+ghost use Rattle.pg_interval_2.specs.Denotes.{Denotes, HasNoShape, Refuses};
+ghost use Rattle.pg_interval_2.specs.Iso.{IsIso, unit_in};
+ghost use Rattle.pg_interval_2.specs.IsoTally.{IsTallied, TakesPairs};
+ghost use Rattle.pg_interval_2.specs.Messages.{not_iso};
 ghost use Rattle.pg_interval_2.specs.Reading.{count_of, numeral_of, read_pair};
 
-use crate::scan::{Number, split_number};
+use crate::error::ParseError;
+use crate::interval::Interval;
+use crate::scan::{Number, split_number, strip_byte};
+use crate::tally::Tally;
 use scan_core::Unit;
 
 /// The unit that a letter means, before the `T` or behind it.
@@ -30,4 +36,57 @@ fn split_pair(in_time: bool, bytes: &[u8]) -> Option<(Number<'_>, Unit, &[u8])>
     let (letter, rest) = rest.split_first()?;
     let unit = unit_of(in_time, *letter)?;
     Some((number, unit, rest))
+}
+
+/// Takes the pairs in front into the tally, as many as there are, and answers what is left.
+fn add_pairs<'a>(tally: &mut Tally, in_time: bool, bytes: &'a [u8]) -> &'a [u8]
+    requires room { tally.old.totals.adds + length bytes.now < 2 ^ 63 }
+    ensures room { tally.new.totals.adds + length result.now ≤ tally.old.totals.adds + length bytes.now }
+    ensures taken { TakesPairs in_time bytes.now result.now tally.old tally.new }
+    ensures stuck { read_pair (unit_in in_time) result.now ≡ None }
+{
+    let mut rest = bytes;
+    while let Some((number, unit, after)) = split_pair(in_time, rest) {
+        tally.add(number, unit);
+        rest = after;
+    }
+    rest
+}
+
+/// The tally of the counts that the text spells, or None exactly where it has no shape.
+fn tally_of(text: &[u8]) -> Option<Tally>
+    ensures some { IfSome result (IsTallied text.now) }
+    ensures none { IfNone result (HasNoShape IsIso text.now) }
+{
+    let date = strip_byte(b'P', text)?;
+    if date.is_empty() {
+        return None;
+    }
+    let mut tally = Tally::new();
+    let rest = add_pairs(&mut tally, false, date);
+    if rest.is_empty() {
+        return Some(tally);
+    }
+    let time = strip_byte(b'T', rest)?;
+    let rest = add_pairs(&mut tally, true, time);
+    if rest.is_empty() { Some(tally) } else { None }
+}
+
+impl Interval {
+    /// The interval that the text denotes in ISO style, PostgreSQL's reading of ISO 8601 durations:
+    /// `Interval::from_iso("P1Y2M3DT4H5M6S")`. Letters may repeat and come in any order, and each number may have a
+    /// fraction, which is rounded to the next smaller unit.
+    ///
+    /// `InvalidInterval` exactly where the text isn't in the style, and else `InvalidYearMonth`, `InvalidDay` or
+    /// `InvalidTime` exactly where that part of a count, or of the sum of all counts, is the first that leaves its type.
+    pub fn from_iso(text: &str) -> Result<Interval, ParseError>
+        ensures ok { IfOk result (λ t. Denotes IsIso text.now t) }
+        ensures all { (t : Interval) → Denotes IsIso text.now t → result ≡ Ok t }
+        ensures err { IfErr result (λ e. Refuses IsIso not_iso text.now e) }
+    {
+        match tally_of(text.as_bytes()) {
+            Some(tally) => tally.answer(),
+            None => Err(ParseError::InvalidInterval("not an iso interval")),
+        }
+    }
 }

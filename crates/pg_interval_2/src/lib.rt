@@ -8,8 +8,13 @@
 mod error;
 mod interval;
 mod iso;
+mod iso_text;
+pub mod laws;
+mod parts;
 mod scan;
 mod style;
+mod tally;
+mod text;
 
 pub use error::ParseError;
 pub use interval::Interval;

@@ -1,5 +1,5 @@
 //! The small readers at the front of a text: signs, digits, numbers. All access to bytes goes through them.
-ghost use Rattle.std.specs.Prelude.{◌≡◌, option_map};
+ghost use Rattle.std.specs.Prelude.{◌≡◌, ◌≢◌, ℕ, List, ◌∷◌, IfSome, IfNone, option_map};
 ghost use Rattle.pg_interval_2.specs.Reading.{front_digits, after_digits, read_sign, read_fraction, read_unsigned, read_number, numeral_of};
 
 /// A number as slices of the text: its digits are gone back to once, for the share.
@@ -53,7 +53,14 @@ fn split_unsigned(negative: bool, bytes: &[u8]) -> Option<(Number<'_>, &[u8])>
     if whole.is_empty() && fraction.is_empty() {
         return None;
     }
-    Some((Number { negative, whole, fraction }, rest))
+    Some((
+        Number {
+            negative,
+            whole,
+            fraction,
+        },
+        rest,
+    ))
 }
 
 /// The number in front and what follows it; None exactly where none is there. A plus may stand before it where `plus`.
@@ -63,4 +70,15 @@ pub(crate) fn split_number(plus: bool, bytes: &[u8]) -> Option<(Number<'_>, &[u8
 {
     let (negative, rest) = split_sign(plus, bytes);
     split_unsigned(negative, rest)
+}
+
+/// What follows the byte in front; None exactly where another byte or none is there.
+pub(crate) fn strip_byte(byte: u8, bytes: &[u8]) -> Option<&[u8]>
+    ensures some { IfSome result (λ rest. bytes.now ≡ byte ∷ rest.now) }
+    ensures none { IfNone result ((rest : List ℕ) → bytes.now ≢ byte ∷ rest) }
+{
+    match bytes {
+        [first, rest @ ..] if *first == byte => Some(rest),
+        _ => None,
+    }
 }

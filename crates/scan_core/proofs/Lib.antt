@@ -2,3 +2,4 @@ pub mod Joins
 pub mod DigitFacts
 pub mod RoundingFacts
 pub mod ShareFacts
+pub mod SumFacts

@@ -7,3 +7,18 @@ pub fn is_blank(byte: u8) -> bool
 {
     (9..=13).contains(&byte) || byte == b' '
 }
+
+#[cfg(test)]
+mod tests {
+    use super::*;
+    use std::test::Fail;
+
+    #[test]
+    fn six_bytes_are_blank(rt: HostRuntime) -> Result<(), Fail> {
+        for byte in 0..=255 {
+            let want = b"\t\n\x0b\x0c\r ".contains(&byte);
+            assert_eq!(rt; is_blank(byte), want, "at {byte}");
+        }
+        Ok(())
+    }
+}

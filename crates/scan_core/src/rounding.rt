@@ -12,8 +12,10 @@ pub(crate) fn rounded_fraction(fraction: &[u8], scale: u64) -> u64
 {
     match fraction {
         [] => 0,
-        [first, rest @ ..] => (u64::from(*first - b'0') * scale + cut_fraction(rest, scale) + 5)
-            / 10,
+        [first, rest @ ..] => {
+            let tenths = u64::from(*first - b'0') * scale + cut_fraction(rest, scale);
+            (tenths + 5) / 10
+        }
     }
 }
 

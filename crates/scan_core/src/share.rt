@@ -47,7 +47,8 @@ pub enum Part {
 pub fn count_share(whole: &[u8], fraction: &[u8], negative: bool, unit: Unit) -> Option<Share>
     requires whole { AreDigits whole.now }
     requires fraction { AreDigits fraction.now }
-    ensures fits { IsSome result ↔ IsTrue (fits_type (main_part unit) (share (main_part unit) (count_of negative whole.now fraction.now unit))) }
+    ensures fits { IsSome result
+        ↔ IsTrue (fits_type (main_part unit) (share (main_part unit) (count_of negative whole.now fraction.now unit))) }
     ensures months { IfSome result (λ given. given.months ≡ share Months (count_of negative whole.now fraction.now unit)) }
     ensures days { IfSome result (λ given. given.days ≡ share Days (count_of negative whole.now fraction.now unit)) }
     ensures micros { IfSome result (λ given. given.micros ≡ share Micros (count_of negative whole.now fraction.now unit)) }
@@ -128,4 +129,100 @@ fn signed_i64(negative: bool, magnitude: u128) -> Option<i64>
 {
     let value = i128::try_from(magnitude).ok()?;
     i64::try_from(if negative { -value } else { value }).ok()
+}
+
+#[cfg(test)]
+mod tests {
+    use super::*;
+    use crate::digits::are_digits;
+    use std::test::Fail;
+
+    /// The months, days and microseconds of a number as it is written, such as `-1.5`.
+    fn share_of(number: &str, unit: Unit) -> Option<(i32, i32, i64)> {
+        let (negative, digits) = match number.strip_prefix('-') {
+            Some(digits) => (true, digits),
+            None => (false, number),
+        };
+        let (whole, fraction) = digits.split_once('.').unwrap_or((digits, ""));
+        let (whole, fraction) = (whole.as_bytes(), fraction.as_bytes());
+        if !are_digits(whole) || !are_digits(fraction) {
+            return None;
+        }
+        let share = count_share(whole, fraction, negative, unit)?;
+        Some((share.months, share.days, share.micros))
+    }
+
+    #[test]
+    fn shares_are_exact(rt: HostRuntime) -> Result<(), Fail> {
+        for (number, unit, want) in [
+            ("1.99", Unit::Year, Some((24, 0, 0))),
+            ("1.2", Unit::Year, Some((14, 0, 0))),
+            ("1.2", Unit::Month, Some((1, 6, 0))),
+            ("0.5", Unit::Day, Some((0, 0, 43_200_000_000))),
+            ("0.999", Unit::Hour, Some((0, 0, 3_600_000_000))),
+            ("1.5", Unit::Minute, Some((0, 0, 90_000_000))),
+            ("1.123456", Unit::Second, Some((0, 0, 1_123_456))),
+            ("", Unit::Second, Some((0, 0, 0))),
+            ("5.", Unit::Day, Some((0, 5, 0))),
+            ("-.5", Unit::Second, Some((0, 0, -500_000))),
+            (
+                "0000000000000000000000000000001",
+                Unit::Day,
+                Some((0, 1, 0)),
+            ),
+            // halves go away from zero, and each digit counts
+            ("0.0416666666666666667", Unit::Year, Some((1, 0, 0))),
+            ("0.0416666666666666666", Unit::Year, Some((0, 0, 0))),
+            ("0.0000005", Unit::Second, Some((0, 0, 1))),
+            ("-0.0000005", Unit::Second, Some((0, 0, -1))),
+            ("0.00000049999", Unit::Second, Some((0, 0, 0))),
+            ("0.375", Unit::Year, Some((5, 0, 0))),
+            ("-0.375", Unit::Year, Some((-5, 0, 0))),
+            // the ends of the types
+            ("178956970.58", Unit::Year, Some((i32::MAX, 0, 0))),
+            ("178956970.63", Unit::Year, None),
+            ("-178956970.63", Unit::Year, Some((i32::MIN, 0, 0))),
+            ("18446744073709551616", Unit::Month, None),
+            ("2147483647", Unit::Day, Some((0, i32::MAX, 0))),
+            ("2147483648", Unit::Day, None),
+            ("-2147483648", Unit::Day, Some((0, i32::MIN, 0))),
+            ("-2147483649", Unit::Day, None),
+            (
+                "2562047788",
+                Unit::Hour,
+                Some((0, 0, 9_223_372_036_800_000_000)),
+            ),
+            ("2562047789", Unit::Hour, None),
+            ("9223372036854.775807", Unit::Second, Some((0, 0, i64::MAX))),
+            ("9223372036854.775808", Unit::Second, None),
+            (
+                "-9223372036854.775808",
+                Unit::Second,
+                Some((0, 0, i64::MIN)),
+            ),
+            ("-9223372036854.775809", Unit::Second, None),
+        ] {
+            assert_eq!(rt; share_of(number, unit), want, "at {number} {unit:?}");
+        }
+        Ok(())
+    }
+
+    #[test]
+    fn fractions_have_any_length(rt: HostRuntime) -> Result<(), Fail> {
+        for count in [1_000, 1_000_000] {
+            let nines = vec![in rt.alloc(); b'9'; count]?;
+            assert!(rt; are_digits(&nines));
+            let share = count_share(b"", &nines, true, Unit::Second);
+            assert_eq!(rt;
+                share,
+                Some(Share {
+                    months: 0,
+                    days: 0,
+                    micros: -1_000_000
+                }),
+                "at {count}"
+            );
+        }
+        Ok(())
+    }
 }

@@ -39,3 +39,31 @@ pub fn push_padded(out: &mut Short, value: u64, width: usize)
     }
     out.push_str(digits);
 }
+
+#[cfg(test)]
+mod tests {
+    use super::*;
+    use std::test::Fail;
+
+    #[test]
+    #[tactic(auto, using(crate::proofs::DigitFacts::decimal_short))]
+    fn numbers_are_padded(rt: HostRuntime) -> Result<(), Fail> {
+        for (value, width, want) in [
+            (7, 2, "T7 07"),
+            (0, 2, "T0 00"),
+            (123, 2, "T123 123"),
+            (5, 6, "T5 000005"),
+            (9, 0, "T9 9"),
+            (u64::MAX, 20, "T18446744073709551615 18446744073709551615"),
+        ] {
+            assert!(rt; width <= 20);
+            let mut out = Short::new();
+            push_text(&mut out, "T");
+            push_num(&mut out, value);
+            push_text(&mut out, " ");
+            push_padded(&mut out, value, width);
+            assert_eq!(rt; out.as_str(), want, "at {value} in {width}");
+        }
+        Ok(())
+    }
+}

@@ -24,7 +24,9 @@ impl Model for Totals {
 
     ghost inverse = { λ sums. record { months = sums.months; days = sums.days; micros = sums.micros; adds = sums.adds } };
 
-    ghost invariant = { λ sums. IsBounded sums.adds sums.months × IsBounded sums.adds sums.days × IsBounded sums.adds sums.micros };
+    ghost invariant = { λ sums. IsBounded sums.adds sums.months
+        × IsBounded sums.adds sums.days
+        × IsBounded sums.adds sums.micros };
 }
 
 impl Totals {
@@ -56,7 +58,10 @@ impl Totals {
 
     /// The three sums, or None exactly where one leaves its type.
     pub fn fits(&self) -> Option<(i32, i32, i64)>
-        ensures fits { IsSome result ↔ (IsTrue (fits_type Months self.now.months) × IsTrue (fits_type Days self.now.days) × IsTrue (fits_type Micros self.now.micros)) }
+        ensures fits { IsSome result
+            ↔ (IsTrue (fits_type Months self.now.months)
+            × IsTrue (fits_type Days self.now.days)
+            × IsTrue (fits_type Micros self.now.micros)) }
         ensures months { IfSome result (λ sums. sums.0 ≡ self.now.months) }
         ensures days { IfSome result (λ sums. sums.1 ≡ self.now.days) }
         ensures micros { IfSome result (λ sums. sums.2 ≡ self.now.micros) }
@@ -70,7 +75,10 @@ impl Totals {
     /// The first of months, days and microseconds whose sum leaves its type, or None exactly where all three fit.
     pub fn first_out(&self) -> Option<Part>
         ensures part { result ≡ first_sum_out self.now }
-        ensures none { IsNone result ↔ (IsTrue (fits_type Months self.now.months) × IsTrue (fits_type Days self.now.days) × IsTrue (fits_type Micros self.now.micros)) }
+        ensures none { IsNone result
+            ↔ (IsTrue (fits_type Months self.now.months)
+            × IsTrue (fits_type Days self.now.days)
+            × IsTrue (fits_type Micros self.now.micros)) }
     {
         if i32::try_from(self.months).is_err() {
             Some(Part::Months)
@@ -81,5 +89,47 @@ impl Totals {
         } else {
             None
         }
+    }
+}
+
+#[cfg(test)]
+mod tests {
+    use super::*;
+    use std::test::Fail;
+
+    /// The totals of shares of these months, days and microseconds.
+    fn totals_of(shares: &[(i32, i32, i64)]) -> Totals {
+        let mut totals = Totals::new();
+        for (months, days, micros) in shares {
+            totals.add(Share {
+                months: *months,
+                days: *days,
+                micros: *micros,
+            });
+        }
+        totals
+    }
+
+    #[test]
+    fn only_final_sums_are_tested(rt: HostRuntime) -> Result<(), Fail> {
+        let least = (i32::MIN, i32::MIN, i64::MIN);
+        let most = (i32::MAX, i32::MAX, i64::MAX);
+        for (shares, sums, out) in [
+            ([(0, 0, 0), (0, 0, 0), (0, 0, 0)], Some((0, 0, 0)), None),
+            ([least, (1, 1, 1), (-1, -1, -1)], Some(least), None),
+            (
+                [most, most, (-i32::MAX, -i32::MAX, -i64::MAX)],
+                Some(most),
+                None,
+            ),
+            ([most, (1, 1, 1), (0, 0, 0)], None, Some(Part::Months)),
+            ([least, (0, -1, -1), (0, 0, 0)], None, Some(Part::Days)),
+            ([least, (0, 0, -1), (0, 0, 0)], None, Some(Part::Micros)),
+        ] {
+            let totals = totals_of(&shares);
+            assert_eq!(rt; totals.fits(), sums, "at {shares:?}");
+            assert_eq!(rt; totals.first_out(), out, "at {shares:?}");
+        }
+        Ok(())
     }
 }

@@ -17,13 +17,13 @@ fits ds scale v cut all h small e f =
     let first = digit_is_alone (get_or ds 0 0) p.0 in
     step-small v scale cut (let d = digit_value (get_or ds 0 0) in omega (arith, p.0)) small (rw f (cut-le scale (take (length ds - 1) (drop 1 ds)) p.1))
 
-pub overflow_add-result : goal.overflow_add-result
-overflow_add-result c =
+pub overflow_add-tenths : goal.overflow_add-tenths
+overflow_add-tenths c =
     let small = fits c.args.fraction.now c.args.scale c.from.result c.cut_fraction.result c.requires.digits c.in-len1-up.len_at_least c.requires.scale c.from.ensures c.cut_fraction.ensures in
     search rules
 
-pub overflow_add-result-in-len1-up : goal.overflow_add-result-in-len1-up
-overflow_add-result-in-len1-up c =
+pub overflow_add-result : goal.overflow_add-result
+overflow_add-result c =
     let small = fits c.args.fraction.now c.args.scale c.from.result c.cut_fraction.result c.requires.digits c.in-len1-up.len_at_least c.requires.scale c.from.ensures c.cut_fraction.ensures in
     search rules
 

@@ -1,0 +1,48 @@
+-- Lists of counts of which one part fits and adds up to a number.
+use Rattle.std.proofs.Common.{◌≡◌, ℕ, Bool, true, false, ◌&&◌, IsTrue, List, [], ◌∷◌, ◌++◌, ℤ, pos, ◌+ℤ◌, refl, ap, ◌∙◌, arith}
+use Rattle.std.proofs.lemmas.Int.{ints}
+use Rattle.std.proofs.lemmas.Bool.{and_from, and_parts}
+use Rattle.std.specs.List.{list_all}
+use Rattle.scan_core.specs.Count.{Count}
+use Rattle.scan_core.specs.Digits.{number_of}
+use Rattle.scan_core.specs.Shares.{share, signed, magnitude, scale_of, rounded, fits_type}
+use Rattle.scan_core.specs.Sums.{total, part_fits}
+use Rattle.scan_core.specs.declared.share.Part.{Part}
+
+-- this part of each count fits, and their sum is this number
+pub record AddsUp (part : Part) (counts : List Count) (sum : ℤ) : Type 0 where
+  pub each : IsTrue (list_all (λ c. fits_type part (share part c)) counts)
+  pub total_is : total part counts ≡ sum
+
+list_all-append : {X : Type 0} (test : X → Bool) (xs ys : List X) → IsTrue (list_all test xs) → IsTrue (list_all test ys) → IsTrue (list_all test (xs ++ ys))
+list_all-append test [] ys h k = k
+list_all-append test (x ∷ xs) ys h k =
+    let parts = and_parts (test x) (list_all test xs) h in
+    and_from (test x) (list_all test (xs ++ ys)) parts.0 (list_all-append test xs ys parts.1 k)
+
+total-append : (part : Part) (xs ys : List Count) → total part (xs ++ ys) ≡ total part xs +ℤ total part ys
+total-append part [] ys = omega (arith, ints)
+total-append part (x ∷ xs) ys = omega (arith, ints, total-append part xs ys)
+
+pub AddsUp-append : (part : Part) (xs ys : List Count) (y z : ℤ) → AddsUp part xs y → AddsUp part ys z → AddsUp part (xs ++ ys) (y +ℤ z)
+AddsUp-append part xs ys y z h k = record {
+  each = list_all-append _ xs ys h.each k.each;
+  total_is = cc (total-append part xs ys);
+}
+
+pub AddsUp-nil : (part : Part) → AddsUp part [] (pos 0)
+AddsUp-nil part = record { each = refl; total_is = refl }
+
+-- one count, by the numbers of its digits
+pub AddsUp-one : (part : Part) (c : Count) (w r : ℕ) → number_of c.whole ≡ w → rounded (scale_of c.unit) c.fraction ≡ r → IsTrue (fits_type part (signed c.negative (magnitude part c.unit w r))) → AddsUp part (c ∷ []) (signed c.negative (magnitude part c.unit w r))
+AddsUp-one part c w r whole fraction fits = record {
+  each = rw (whole, fraction) (and_from _ true fits refl);
+  total_is = rw (whole, fraction) (omega (arith, ints));
+}
+
+-- the same number by another name
+pub AddsUp-same : (part : Part) (counts : List Count) (y z : ℤ) → AddsUp part counts y → y ≡ z → AddsUp part counts z
+AddsUp-same part counts y z h e = record { each = h.each; total_is = h.total_is ∙ e }
+
+pub part_fits-AddsUp : (part : Part) (counts : List Count) (z : ℤ) → AddsUp part counts z → IsTrue (fits_type part z) → IsTrue (part_fits part counts)
+part_fits-AddsUp part counts z h fits = and_from _ _ h.each (rw h.total_is fits)

@@ -1,0 +1,32 @@
+-- From the tally's answer to what a reader answers, for any shape that gives a text one list of counts.
+use Rattle.std.proofs.Common.{◌≡◌, ℕ, Bool, true, false, IsTrue, List, Option, Some, None, Result, Ok, Err, refl, sym, ◌∙◌, ap, subst}
+use Rattle.scan_core.specs.Count.{Count}
+use Rattle.scan_core.specs.Sums.{fits, misfit}
+use Rattle.scan_core.specs.declared.share.Part.{Part}
+use Rattle.scan_core.proofs.SumFacts.{misfit-none}
+use Rattle.pg_interval_2.specs.declared.interval.Interval.{Interval}
+use Rattle.pg_interval_2.specs.declared.error.ParseError.{ParseError}
+use Rattle.pg_interval_2.specs.declared.error.ParseError.TheVariants.{InvalidInterval, InvalidYearMonth, InvalidDay, InvalidTime}
+use Rattle.pg_interval_2.specs.Denotes.{Denotes, HasNoShape, sum_of}
+use Rattle.pg_interval_2.specs.Tallies.{Answers}
+
+-- a text has one list of counts
+abbrev pub HasOneList : (List ℕ → List Count → Type 0) → Type 0
+HasOneList Shape = (text : List ℕ) (a b : List Count) → Shape text a → Shape text b → a ≡ b
+
+fits_or_not : (counts : List Count) (part : Part) → IsTrue (fits counts) → misfit counts ≡ Some part → ⊥
+fits_or_not counts part fit misses = let none = (misfit-none counts).1 fit in let clash : None ≡ Some part = sym none ∙ misses in cc
+
+-- what the text denotes is what is answered
+pub answers_all : (Shape : List ℕ → List Count → Type 0) → HasOneList Shape → (text : List ℕ) (counts : List Count) → Shape text counts
+    → (result : Result Interval ParseError) → Answers counts result → (t : Interval) → Denotes Shape text t → result ≡ Ok t
+answers_all Shape one text counts shape (Ok u) answer t denotes =
+    let same : sum_of counts ≡ sum_of denotes.0 = ap sum_of (one text counts denotes.0 shape denotes.1) in
+    ap (λ (v : Interval). Ok v) (answer.1 ∙ same ∙ sym denotes.3)
+answers_all Shape one text counts shape (Err (InvalidInterval m)) answer t denotes = absurd answer
+answers_all Shape one text counts shape (Err (InvalidYearMonth m)) answer t denotes =
+    absurd (fits_or_not denotes.0 _ denotes.2 (ap misfit (one text denotes.0 counts denotes.1 shape) ∙ answer.0))
+answers_all Shape one text counts shape (Err (InvalidDay m)) answer t denotes =
+    absurd (fits_or_not denotes.0 _ denotes.2 (ap misfit (one text denotes.0 counts denotes.1 shape) ∙ answer.0))
+answers_all Shape one text counts shape (Err (InvalidTime m)) answer t denotes =
+    absurd (fits_or_not denotes.0 _ denotes.2 (ap misfit (one text denotes.0 counts denotes.1 shape) ∙ answer.0))

@@ -1,0 +1,164 @@
+-- A text written in ISO style spells the counts of its interval.
+use Rattle.std.proofs.Common.{◌≡◌, ◌≢◌, ℕ, ◌+◌, ◌*◌, ◌/◌, ◌%◌, ◌<◌, ◌≤◌, ◌^◌, Bool, true, false, cond, ◌&&◌, IsTrue, List, [], ◌∷◌, ◌++◌, length, length-append, codes, decimal, if◌then◌else◌, ◌==◌, ℤ, pos, negsuc, unsigned_abs, Option, Some, refl, ap, sym, arith, inl, inr, append_assoc, append-nil, eqb-true, int_eq, true≢false, ⊎_elim, ◌∙◌}
+use Rattle.std.proofs.lemmas.Bool.{cond_both, cond-true, cond-false, cases_Bool}
+use Rattle.std.proofs.lemmas.Bool.Decides.{Decides-int_eq}
+use Rattle.std.proofs.lemmas.Fmt.{decimal_nonempty}
+use Rattle.std.specs.Int.{is_negative}
+use Rattle.scan_core.specs.Count.{Count}
+use Rattle.scan_core.specs.Digits.{AreDigits}
+use Rattle.scan_core.specs.Join.{IsJoin}
+use Rattle.scan_core.specs.Number.{IsNumber}
+use Rattle.scan_core.specs.Padded.{padded}
+use Rattle.scan_core.specs.declared.share.Unit.{Unit as TimeUnit}
+use Rattle.scan_core.specs.declared.share.Unit.TheVariants.{Year, Month, Day, Hour, Minute, Second}
+use Rattle.scan_core.proofs.DigitFacts.{digits_decimal}
+use Rattle.pg_interval_2.specs.Iso.{IsPair, ArePairs, IsDateAlone, IsDateAndTime, IsIso, date_unit, time_unit}
+use Rattle.pg_interval_2.specs.IsoText.{iso_part, iso_seconds, iso_date, iso_time, iso_text}
+use Rattle.pg_interval_2.specs.Parts.{minus, years_of, months_of, hours_of, minutes_of, seconds_of, subsecond_of}
+use Rattle.pg_interval_2.proofs.JoinLemmas.{IsJoin-append, IsJoin-one}
+use Rattle.pg_interval_2.proofs.WrittenDigits.{AreDigits-padded, length-padded}
+use Rattle.pg_interval_2.proofs.WrittenNumbers.{cond_two, IsNumber-whole, IsNumber-point}
+use Rattle.pg_interval_2.proofs.Signs.{abs_zero}
+use Rattle.pg_interval_2.proofs.WrittenCounts.{part_counts, seconds_counts, zero_count, date_counts, time_counts}
+
+-- a part that isn't 0
+whole_pair : (unit_of : ℕ → Option TimeUnit) (negative : Bool) (n letter : ℕ) (unit : TimeUnit) → n < 2 ^ 64 → unit_of letter ≡ Some unit → IsPair unit_of (minus negative ++ (decimal n ++ letter ∷ [])) (record { negative = negative; whole = decimal n; fraction = []; unit = unit })
+whole_pair unit_of negative n letter unit small means = record {
+  number = minus negative ++ (decimal n ++ []);
+  letter = letter;
+  digits = IsNumber-whole false negative (decimal n) (digits_decimal n small) (decimal_nonempty n small);
+  unit = means;
+  joined = simp (append_assoc, append-nil);
+}
+
+part_spelled : (unit_of : ℕ → Option TimeUnit) (negative : Bool) (n letter : ℕ) (unit : TimeUnit) → n < 2 ^ 64 → unit_of letter ≡ Some unit → ArePairs unit_of (iso_part negative n (letter ∷ [])) (part_counts negative n unit)
+unfolding iso_part
+part_spelled unit_of negative n letter unit small means =
+    cond_two (n == 0) (ArePairs unit_of) _ _ _ _ (λ _. refl) (λ _. IsJoin-one (IsPair unit_of) _ _ (whole_pair unit_of negative n letter unit small means))
+
+whole_digits : (n : ℕ) → n < 2 ^ 64 → AreDigits (if n == 0 then [] else decimal n)
+whole_digits n small = cond_both (n == 0) _ _ AreDigits (λ _. tt) (λ _. digits_decimal n small)
+
+-- seconds with microseconds that aren't 0
+point_pair : (negative : Bool) (seconds micros : ℕ) → seconds < 2 ^ 64 → micros < 1_000_000 → IsPair time_unit (minus negative ++ ((if seconds == 0 then [] else decimal seconds) ++ (codes "." ++ (padded 6 micros ++ codes "S")))) (record { negative = negative; whole = if seconds == 0 then [] else decimal seconds; fraction = padded 6 micros; unit = Second })
+point_pair negative seconds micros small below = record {
+  number = minus negative ++ ((if seconds == 0 then [] else decimal seconds) ++ (codes "." ++ padded 6 micros));
+  letter = 83;
+  digits = IsNumber-point false negative _ (padded 6 micros) (whole_digits seconds small) (AreDigits-padded 6 micros (omega arith)) (omega (arith, length-padded 6 micros));
+  unit = refl;
+  joined = simp append_assoc;
+}
+
+seconds_spelled : (negative : Bool) (seconds micros : ℕ) → seconds < 2 ^ 64 → micros < 1_000_000 → ArePairs time_unit (iso_seconds negative seconds micros) (seconds_counts negative seconds micros)
+unfolding iso_seconds
+seconds_spelled negative seconds micros small below =
+    cond_two (micros == 0) (ArePairs time_unit) _ _ _ _ (λ _. part_spelled time_unit negative seconds 83 Second small refl) (λ _. IsJoin-one (IsPair time_unit) _ _ (point_pair negative seconds micros small below))
+
+date_spelled : (months days : ℤ) → unsigned_abs months ≤ 2 ^ 63 → unsigned_abs days ≤ 2 ^ 63 → ArePairs date_unit (iso_date months days) (date_counts months days)
+unfolding iso_date
+date_spelled months days small_months small_days =
+    IsJoin-append _ _ _ _ _ (part_spelled date_unit (is_negative months) (years_of months) 89 Year (omega arith) refl)
+    (IsJoin-append _ _ _ _ _ (part_spelled date_unit (is_negative months) (months_of months) 77 Month (omega arith) refl)
+    (part_spelled date_unit (is_negative days) (unsigned_abs days) 68 Day (omega arith) refl))
+
+-- the hours, minutes and seconds behind the `T`
+abbrev time_body : ℤ → List ℕ
+time_body micros =
+    iso_part (is_negative micros) (hours_of micros) (codes "H") ++ (iso_part (is_negative micros) (minutes_of micros) (codes "M") ++ iso_seconds (is_negative micros) (seconds_of micros) (subsecond_of micros))
+
+time_spelled : (micros : ℤ) → unsigned_abs micros ≤ 2 ^ 63 → ArePairs time_unit (time_body micros) (time_counts micros)
+time_spelled micros small =
+    IsJoin-append _ _ _ _ _ (part_spelled time_unit (is_negative micros) (hours_of micros) 72 Hour (omega arith) refl)
+    (IsJoin-append _ _ _ _ _ (part_spelled time_unit (is_negative micros) (minutes_of micros) 77 Minute (omega arith) refl)
+    (seconds_spelled (is_negative micros) (seconds_of micros) (subsecond_of micros) (omega arith) (omega arith)))
+
+-- the counts that the written text spells
+abbrev pub iso_counts : ℤ → ℤ → ℤ → List Count
+iso_counts months days micros =
+    if int_eq months (pos 0) && (int_eq days (pos 0) && int_eq micros (pos 0)) then (zero_count ∷ []) else (date_counts months days ++ time_counts micros)
+
+zero_pair : IsPair time_unit (codes "0S") zero_count
+zero_pair = record {
+  number = codes "0";
+  letter = 83;
+  digits = IsNumber-whole false false (codes "0") (omega arith, tt) (omega arith);
+  unit = refl;
+  joined = refl;
+}
+
+zero_spelled : IsIso (codes "PT0S") (zero_count ∷ [])
+zero_spelled = inr (record {
+  date = [];
+  time = codes "0S";
+  date_counts = [];
+  time_counts = zero_count ∷ [];
+  dates = refl;
+  times = IsJoin-one (IsPair time_unit) (codes "0S") zero_count zero_pair;
+  spelled = refl;
+  counted = refl;
+})
+
+-- a part that isn't written is 0
+no_part : (negative : Bool) (n letter : ℕ) → length (iso_part negative n (letter ∷ [])) ≡ 0 → n ≡ 0
+unfolding iso_part
+no_part negative n letter =
+    cond_both (n == 0) _ _ (λ (text : List ℕ). length text ≡ 0 → n ≡ 0) (λ zero_is _. eqb-true n 0 zero_is)
+    (λ _ none. absurd (omega (arith, length-append (minus negative) (decimal n ++ letter ∷ []), length-append (decimal n) (letter ∷ []))))
+
+-- a date that isn't written is 0
+no_date : (months days : ℤ) → length (iso_date months days) ≡ 0 → (months ≡ pos 0) × (days ≡ pos 0)
+unfolding iso_date
+no_date months days none =
+    let years = iso_part (is_negative months) (years_of months) (codes "Y") in
+    let months_left = iso_part (is_negative months) (months_of months) (codes "M") in
+    let days_all = iso_part (is_negative days) (unsigned_abs days) (codes "D") in
+    let outer : length (years ++ (months_left ++ days_all)) ≡ length years + length (months_left ++ days_all) = length-append years (months_left ++ days_all) in
+    let inner : length (months_left ++ days_all) ≡ length months_left + length days_all = length-append months_left days_all in
+    let no_years : years_of months ≡ 0 = no_part (is_negative months) (years_of months) 89 (omega arith) in
+    let no_months : months_of months ≡ 0 = no_part (is_negative months) (months_of months) 77 (omega arith) in
+    (abs_zero months (omega arith), abs_zero days (no_part (is_negative days) (unsigned_abs days) 68 (omega arith)))
+
+-- no time is written of no microseconds, and it has no counts
+no_time : (micros : ℤ) → int_eq micros (pos 0) ≡ true → (iso_time micros ≡ []) × (time_counts micros ≡ [])
+unfolding iso_time
+no_time micros zero_is =
+    let zero : micros ≡ pos 0 = (Decides-int_eq micros (pos 0)).0 zero_is in
+    (cond-true _ _ _ zero_is, rw zero refl)
+
+some_time : (micros : ℤ) → int_eq micros (pos 0) ≡ false → iso_time micros ≡ codes "T" ++ time_body micros
+unfolding iso_time
+some_time micros zero_is = cond-false _ _ _ zero_is
+
+-- a date without a time
+date_alone : (months days micros : ℤ) → unsigned_abs months ≤ 2 ^ 63 → unsigned_abs days ≤ 2 ^ 63 → int_eq micros (pos 0) ≡ true → int_eq months (pos 0) && (int_eq days (pos 0) && int_eq micros (pos 0)) ≡ false → IsIso (codes "P" ++ (iso_date months days ++ iso_time micros)) (date_counts months days ++ time_counts micros)
+date_alone months days micros small_months small_days no_micros some =
+    let none = no_time micros no_micros in
+    rw (none.0, none.1, append-nil, append-nil)
+    (inl (iso_date months days, date_spelled months days small_months small_days, written, refl))
+  where
+    written : iso_date months days ≢ []
+    written empty =
+        let zero = no_date months days (ap length empty) in
+        true≢false (sym (rw (zero.0, zero.1) no_micros) ∙ some)
+
+-- a date, perhaps empty, and a time
+date_and_time : (months days micros : ℤ) → unsigned_abs months ≤ 2 ^ 63 → unsigned_abs days ≤ 2 ^ 63 → unsigned_abs micros ≤ 2 ^ 63 → int_eq micros (pos 0) ≡ false → IsIso (codes "P" ++ (iso_date months days ++ iso_time micros)) (date_counts months days ++ time_counts micros)
+date_and_time months days micros small_months small_days small_micros some =
+    rw (some_time micros some)
+    (inr (record {
+      date = iso_date months days;
+      time = time_body micros;
+      date_counts = date_counts months days;
+      time_counts = time_counts micros;
+      dates = date_spelled months days small_months small_days;
+      times = time_spelled micros small_micros;
+      spelled = refl;
+      counted = refl;
+    }))
+
+-- the written text spells these counts
+pub iso_spelled : (months days micros : ℤ) → unsigned_abs months ≤ 2 ^ 63 → unsigned_abs days ≤ 2 ^ 63 → unsigned_abs micros ≤ 2 ^ 63 → IsIso (iso_text months days micros) (iso_counts months days micros)
+unfolding iso_text
+iso_spelled months days micros small_months small_days small_micros =
+    cond_two _ IsIso _ _ _ _ (λ _. zero_spelled)
+    (λ some. ⊎_elim (λ none. date_alone months days micros small_months small_days none some) (λ time. date_and_time months days micros small_months small_days small_micros time) (cases_Bool (int_eq micros (pos 0))))

@@ -1,0 +1,18 @@
+-- What reading an ISO text does to a tally: cited by private contracts alone.
+use Rattle.std.specs.Prelude.{◌≡◌, ℕ, Bool, List, ◌++◌}
+use Rattle.scan_core.specs.Count.{Count}
+use Rattle.pg_interval_2.specs.declared.tally.Tally.{Tally}
+use Rattle.pg_interval_2.specs.Iso.{unit_in, ArePairs, IsIso}
+use Rattle.pg_interval_2.specs.Tallies.{Tallies}
+
+-- pairs were taken from the front of the bytes, and their counts by the tally
+pub record TakesPairs (in_time : Bool) (bytes rest : List ℕ) (old new : Tally) : Type 0 where
+  pub front : List ℕ
+  pub counts : List Count
+  pub pairs : ArePairs (unit_in in_time) front counts
+  pub split : bytes ≡ front ++ rest
+  pub tallied : (before : List Count) → Tallies old before → Tallies new (before ++ counts)
+
+-- the tally is of the counts that the text spells
+abbrev pub IsTallied : List ℕ → Tally → Type 0
+IsTallied text tally = (counts : List Count) × IsIso text counts × Tallies tally counts

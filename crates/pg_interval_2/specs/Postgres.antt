@@ -1,0 +1,56 @@
+-- The `postgres` style, PostgreSQL's own default (its manual, section 8.5.5, "Interval Output"): items with blanks between them,
+-- each a number and the name of a unit, or a clock: `1 year 2 mons 3 days 04:05:06`. No unit is counted twice.
+use Rattle.std.specs.Prelude.{◌≡◌, ◌⊎◌, ℕ, Bool, true, false, ◌&&◌, not, ◌==◌, IsTrue, List, [], ◌∷◌, ◌++◌, Option, Some}
+use Rattle.std.specs.List.{list_any}
+use Rattle.scan_core.specs.Blanks.{words}
+use Rattle.scan_core.specs.Count.{Count}
+use Rattle.scan_core.specs.Join.{IsJoin}
+use Rattle.scan_core.specs.Number.{IsNumber}
+use Rattle.scan_core.specs.declared.share.Unit.{Unit as TimeUnit}
+use Rattle.scan_core.specs.declared.share.Unit.TheVariants.{Year, Month, Day, Hour, Minute, Second}
+use Rattle.pg_interval_2.specs.Clock.{IsClock}
+use Rattle.pg_interval_2.specs.UnitNames.{postgres_names, unit_named}
+
+-- a number and the name of its unit, as two words or glued into one
+pub record IsNamed (names : TimeUnit → List (List ℕ)) (item : List (List ℕ)) (c : Count) : Type 0 where
+  pub number : List ℕ
+  pub name : List ℕ
+  pub digits : IsNumber true c.negative c.whole c.fraction number
+  pub unit : unit_named names name ≡ Some c.unit
+  pub spelled : (item ≡ number ∷ name ∷ []) ⊎ (item ≡ (number ++ name) ∷ [])
+
+-- an item: one count with its unit's name, or a clock
+abbrev pub IsItem : (TimeUnit → List (List ℕ)) → List (List ℕ) → List Count → Type 0
+IsItem names item counts =
+    ((c : Count) × IsNamed names item c × (counts ≡ c ∷ [])) ⊎ ((word : List ℕ) × IsClock word counts × (item ≡ word ∷ []))
+
+-- the counts of all items, in order
+abbrev pub all_counts : List (List Count) → List Count
+all_counts [] = []
+all_counts (counts ∷ more) = counts ++ all_counts more
+
+-- the place of a unit among the six
+abbrev pub place_of : TimeUnit → ℕ
+place_of Year = 0
+place_of Month = 1
+place_of Day = 2
+place_of Hour = 3
+place_of Minute = 4
+place_of Second = 5
+
+-- one of the counts is of the unit
+abbrev pub counts_unit : TimeUnit → List Count → Bool
+counts_unit unit counts = list_any (λ c. place_of c.unit == place_of unit) counts
+
+-- no unit is in two of the counts
+abbrev pub has_distinct_units : List Count → Bool
+has_distinct_units [] = true
+has_distinct_units (c ∷ cs) = not (counts_unit c.unit cs) && has_distinct_units cs
+
+-- the words are items, one after the other, with these counts and no unit twice
+abbrev pub AreItems : (TimeUnit → List (List ℕ)) → List (List ℕ) → List Count → Type 0
+AreItems names all counts = (items : List (List Count)) × IsJoin (IsItem names) all items × (counts ≡ all_counts items) × IsTrue (has_distinct_units counts)
+
+-- the text is in `postgres` style and spells these counts
+abbrev pub IsPostgres : List ℕ → List Count → Type 0
+IsPostgres text counts = AreItems postgres_names (words text) counts

@@ -1,0 +1,23 @@
+-- The names of units in the texts of PostgreSQL. A style has a set of names for each unit.
+use Rattle.std.specs.Prelude.{ℕ, Bool, List, [], ◌∷◌, ◌++◌, codes, bytes_eq, Option, Some, None, if◌then◌else◌}
+use Rattle.std.specs.List.{list_any}
+use Rattle.scan_core.specs.declared.share.Unit.{Unit as TimeUnit}
+use Rattle.scan_core.specs.declared.share.Unit.TheVariants.{Year, Month, Day, Hour, Minute, Second}
+
+-- the names that the `postgres` style reads
+abbrev pub postgres_names : TimeUnit → List (List ℕ)
+postgres_names Year = codes "years" ∷ codes "year" ∷ []
+postgres_names Month = codes "months" ∷ codes "mons" ∷ codes "mon" ∷ []
+postgres_names Day = codes "days" ∷ codes "day" ∷ []
+postgres_names Hour = codes "hours" ∷ codes "hour" ∷ []
+postgres_names Minute = codes "minutes" ∷ codes "minute" ∷ []
+postgres_names Second = codes "seconds" ∷ codes "second" ∷ []
+
+-- the word is one of these
+abbrev pub is_one_of : List (List ℕ) → List ℕ → Bool
+is_one_of names word = list_any (λ name. bytes_eq name word) names
+
+-- the unit that a word names
+unfoldable pub unit_named : (TimeUnit → List (List ℕ)) → List ℕ → Option TimeUnit
+unit_named names word =
+    if is_one_of (names Year) word then Some Year else if is_one_of (names Month) word then Some Month else if is_one_of (names Day) word then Some Day else if is_one_of (names Hour) word then Some Hour else if is_one_of (names Minute) word then Some Minute else if is_one_of (names Second) word then Some Second else None

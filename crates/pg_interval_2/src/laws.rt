@@ -1,0 +1,14 @@
+//! Laws of the definitions, each the contract of a function with an empty body.
+ghost use Rattle.std.specs.Prelude.{◌≡◌};
+ghost use Rattle.pg_interval_2.specs.declared.interval.Interval.{Interval};
+ghost use Rattle.pg_interval_2.specs.declared.style.Style.{Style};
+ghost use Rattle.pg_interval_2.specs.Denotes.{Denotes};
+ghost use Rattle.pg_interval_2.specs.Ranges.{IsInRange};
+ghost use Rattle.pg_interval_2.specs.Styles.{Shape, written};
+
+/// The written text of an interval, read in its own style, denotes this interval and no other.
+pub fn written_text_is_read_back()
+    ensures denotes { (style : Style) (t : Interval) → IsInRange t → Denotes (Shape style) (written style t) t }
+    ensures alone { (style : Style) (t u : Interval) → IsInRange t → Denotes (Shape style) (written style t) u → u ≡ t }
+{
+}

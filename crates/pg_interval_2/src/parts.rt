@@ -1,0 +1,82 @@
+ghost use Rattle.std.specs.Prelude.{◌≡◌, ◌+◌, ◌≤◌, ◌<◌, ◌^◌, ◌++◌, decimal, codes};
+ghost use Rattle.std.specs.Int.{is_negative};
+ghost use Rattle.arrayvec.specs.ArrayString.{array_string_len};
+ghost use Rattle.scan_core.specs.Padded.{padded};
+ghost use Rattle.pg_interval_2.specs.Parts.{minus, years_of, months_of, hours_of, minutes_of, seconds_of, subsecond_of};
+
+use scan_core::{Short, push_num, push_padded, push_text};
+
+/// The whole years of a number of months, by magnitude.
+pub fn years_of(months: i32) -> u32
+    ensures { result ≡ years_of months }
+{
+    months.unsigned_abs() / 12
+}
+
+/// The months beside the whole years, 0 to 11.
+pub fn months_of(months: i32) -> u32
+    ensures { result ≡ months_of months }
+{
+    months.unsigned_abs() % 12
+}
+
+/// The whole hours of a number of microseconds, by magnitude.
+pub fn hours_of(micros: i64) -> u32
+    ensures { result ≡ hours_of micros }
+{
+    (micros.unsigned_abs() / 3_600_000_000) as u32
+}
+
+/// The minutes beside the whole hours, 0 to 59.
+pub fn minutes_of(micros: i64) -> u32
+    ensures { result ≡ minutes_of micros }
+{
+    (micros.unsigned_abs() / 60_000_000 % 60) as u32
+}
+
+/// The seconds beside the whole minutes, 0 to 59.
+pub fn seconds_of(micros: i64) -> u32
+    ensures { result ≡ seconds_of micros }
+{
+    (micros.unsigned_abs() / 1_000_000 % 60) as u32
+}
+
+/// The microseconds beside the whole seconds, 0 to 999_999.
+pub fn subsecond_of(micros: i64) -> u32
+    ensures { result ≡ subsecond_of micros }
+{
+    (micros.unsigned_abs() % 1_000_000) as u32
+}
+
+/// Appends the minus of a negative number.
+pub fn push_minus(out: &mut Short, negative: bool)
+    requires { array_string_len out.old + 1 ≤ 128 }
+    ensures bytes { out.new.bytes ≡ out.old.bytes ++ minus negative }
+    ensures len { array_string_len out.new ≤ array_string_len out.old + 1 }
+{
+    if negative {
+        push_text(out, "-");
+    }
+}
+
+/// Appends the digits of a number.
+#[tactic(auto, using(crate::proofs::Widths::length_decimal_u32))]
+pub fn push_digits(out: &mut Short, value: u32)
+    requires { array_string_len out.old + 10 ≤ 128 }
+    ensures bytes { out.new.bytes ≡ out.old.bytes ++ decimal value }
+    ensures len { array_string_len out.new ≤ array_string_len out.old + 10 }
+{
+    push_num(out, u64::from(value));
+}
+
+/// Appends a point and six digits of microseconds.
+#[tactic(auto, using(crate::proofs::Widths::length_decimal_micros))]
+pub fn push_fraction(out: &mut Short, micros: u32)
+    requires micros { micros < 1_000_000 }
+    requires room { array_string_len out.old + 7 ≤ 128 }
+    ensures bytes { out.new.bytes ≡ out.old.bytes ++ (codes "." ++ padded 6 micros) }
+    ensures len { array_string_len out.new ≤ array_string_len out.old + 7 }
+{
+    push_text(out, ".");
+    push_padded(out, u64::from(micros), 6);
+}

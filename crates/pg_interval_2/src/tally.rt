@@ -1,0 +1,85 @@
+//! The tally of a text's counts: exact sums, and which parts a share has left. Nothing is judged before the end.
+ghost use Rattle.std.specs.Prelude.{◌≡◌, ◌+◌, ◌<◌, ◌≤◌, ◌^◌, [], ◌∷◌, ◌++◌, List};
+ghost use Rattle.scan_core.specs.Count.{Count};
+ghost use Rattle.scan_core.specs.Digits.{AreDigits};
+ghost use Rattle.scan_core.specs.Shares.{main_part};
+ghost use Rattle.pg_interval_2.specs.Reading.{count_of, numeral_of};
+ghost use Rattle.pg_interval_2.specs.Tallies.{Tallies, Answers, marked};
+
+use crate::error::ParseError;
+use crate::interval::Interval;
+use crate::scan::Number;
+use scan_core::{Part, Totals, Unit, count_share};
+
+/// The sums of the shares that fit, and of each part whether all shares do.
+#[derive(Clone, Copy)]
+pub(crate) struct Tally {
+    totals: Totals,
+    months_fit: bool,
+    days_fit: bool,
+    micros_fit: bool,
+}
+
+impl Tally {
+    /// The tally of no counts.
+    pub(crate) fn new() -> Tally
+        ensures adds { result.totals.adds ≡ 0 }
+        ensures tallied { Tallies result [] }
+    {
+        Tally {
+            totals: Totals::new(),
+            months_fit: true,
+            days_fit: true,
+            micros_fit: true,
+        }
+    }
+
+    /// Takes one more count.
+    pub(crate) fn add(&mut self, number: Number<'_>, unit: Unit)
+        requires whole { AreDigits number.whole.now }
+        requires fraction { AreDigits number.fraction.now }
+        requires room { self.old.totals.adds < 2 ^ 63 }
+        ensures adds { self.new.totals.adds ≤ self.old.totals.adds + 1 }
+        ensures tallied { (counts : List Count) → Tallies self.old counts → Tallies self.new (counts ++ count_of (numeral_of number.entry) unit ∷ []) }
+    {
+        match count_share(number.whole, number.fraction, number.negative, unit) {
+            Some(share) => self.totals.add(share),
+            None => self.mark(unit),
+        }
+    }
+
+    /// Notes that a share of this unit has left its part's type.
+    fn mark(&mut self, unit: Unit)
+        ensures { self.new ≡ marked (main_part unit) self.old }
+    {
+        match unit {
+            Unit::Year | Unit::Month => self.months_fit = false,
+            Unit::Day => self.days_fit = false,
+            Unit::Hour | Unit::Minute | Unit::Second => self.micros_fit = false,
+        }
+    }
+
+    /// The interval of all counts, or the refusal of the first part that doesn't fit.
+    pub(crate) fn answer(&self) -> Result<Interval, ParseError>
+        ensures { (counts : List Count) → Tallies self.now counts → Answers counts result }
+    {
+        let out = self.totals.first_out();
+        if !self.months_fit || out == Some(Part::Months) {
+            return Err(ParseError::InvalidYearMonth(
+                "Invalid year/month interval overflow detected.",
+            ));
+        }
+        if !self.days_fit || out == Some(Part::Days) {
+            return Err(ParseError::InvalidDay("Invalid day interval overflow detected."));
+        }
+        if !self.micros_fit || out == Some(Part::Micros) {
+            return Err(ParseError::InvalidTime("Invalid time interval overflow detected."));
+        }
+        let (months, days, microseconds) = self.totals.fits().unwrap();
+        Ok(Interval {
+            months,
+            days,
+            microseconds,
+        })
+    }
+}
