@@ -1,11 +1,13 @@
 -- A text is answered in one way: it stands for one interval, or it is refused for one cause.
-use Rattle.std.proofs.Common.{◌≡◌, ℕ, ◌&&◌, Bool, true, false, IsTrue, List, Option, Some, None, refl, sym, ◌∙◌, ap, subst}
+use Rattle.std.proofs.Common.{◌≡◌, ℕ, ◌&&◌, Bool, true, false, IsTrue, List, Option, Some, None, Result, Ok, Err, IfErr, refl, sym, ◌∙◌, ap, subst}
 use Rattle.scan_core.specs.Count.{Count}
 use Rattle.scan_core.specs.Sums.{part_fits, fits, first_false, misfit}
 use Rattle.scan_core.specs.declared.share.Part.{Part}
 use Rattle.scan_core.specs.declared.share.Part.TheVariants.{Months, Days, Micros}
 use Rattle.pg_interval_2.specs.declared.interval.Interval.{Interval}
-use Rattle.pg_interval_2.specs.Denotes.{sum_of, HasNoShape, Misfits}
+use Rattle.pg_interval_2.specs.declared.error.ParseError.{ParseError}
+use Rattle.pg_interval_2.specs.declared.error.ParseError.TheVariants.{InvalidInterval, InvalidYearMonth, InvalidDay, InvalidTime}
+use Rattle.pg_interval_2.specs.Denotes.{sum_of, HasNoShape, Misfits, Refuses}
 use Rattle.pg_interval_2.specs.Styles.{Shape}
 use Rattle.pg_interval_2.proofs.IsoCounts.{one_list}
 use Rattle.forms.specs.declared.form.Form.{Form}
@@ -14,6 +16,7 @@ use Rattle.forms.specs.declared.cause.Cause.{Cause}
 use Rattle.forms.specs.declared.cause.Cause.TheVariants.{Syntax, Range}
 use Rattle.forms.specs.Names.{style_of}
 use Rattle.forms.specs.Replies.{IsValueOf, IsRefused}
+use Rattle.forms.specs.Reading.{IsRefusedBy}
 
 -- a text of a form spells one list of counts
 one_spelling : (form : Form) (text : List ℕ) (a b : List Count) → Shape (style_of form) text a → Shape (style_of form) text b → a ≡ b
@@ -52,3 +55,14 @@ one_cause form text Range Range a b = refl
 pub refused_for : (form : Form) (text : List ℕ) (cause : Cause) → (cause ≡ Syntax → HasNoShape (Shape (style_of form)) text) → (cause ≡ Range → (part : Part) × Misfits (Shape (style_of form)) text part) → IsRefused form text cause
 refused_for form text Syntax no_shape misfits = no_shape refl
 refused_for form text Range no_shape misfits = misfits refl
+
+-- what a reader's error says, by its kind
+error_says : (form : Form) (message text : List ℕ) (error : ParseError) → Refuses (Shape (style_of form)) message text error → IsRefusedBy form text error
+error_says form message text (InvalidInterval m) h = record { range = λ r. absurd r; no_range = λ n. h.0 }
+error_says form message text (InvalidYearMonth m) h = record { range = λ r. (Months, h.0); no_range = λ n. absurd (n tt) }
+error_says form message text (InvalidDay m) h = record { range = λ r. (Days, h.0); no_range = λ n. absurd (n tt) }
+error_says form message text (InvalidTime m) h = record { range = λ r. (Micros, h.0); no_range = λ n. absurd (n tt) }
+
+pub refused_by : (form : Form) (message text : List ℕ) (read : Result Interval ParseError) → IfErr read (Refuses (Shape (style_of form)) message text) → IfErr read (IsRefusedBy form text)
+refused_by form message text (Ok t) h = tt
+refused_by form message text (Err e) h = error_says form message text e h

@@ -8,11 +8,12 @@ ghost use Rattle.pg_interval_2.specs.Denotes.{HasNoShape, Misfits};
 ghost use Rattle.pg_interval_2.specs.Styles.{Shape, written};
 ghost use Rattle.forms.specs.Names.{style_of};
 ghost use Rattle.forms.specs.Replies.{IsValueOf, IsRefused, IsReply};
+ghost use Rattle.forms.specs.Reading.{IsRefusedBy};
 
 use crate::cause::Cause;
 use crate::form::Form;
 use crate::line::request;
-use pg_interval_2::{Interval, Short};
+use pg_interval_2::{Interval, ParseError, Short};
 use std::alloc::Global;
 
 /// Why `convert` has no text.
@@ -35,25 +36,30 @@ pub fn reply(from: Form, to: Form, text: &str) -> Result<Short, Cause>
     ensures misfit { IsErrOf result Cause.Range ↔ ((part : AnyPart) × Misfits (Shape (style_of from)) text.now part) }
     ensures len { IfOk result (λ out. array_string_len out ≤ 96) }
 {
-    let interval = read_interval(from, text)?;
-    Ok(write_interval(to, interval))
+    let interval = interval_of(from, text)?;
+    Ok(interval.text(to.style()))
 }
 
-/// The interval that a text of the form stands for, or why it stands for none.
-fn read_interval(form: Form, text: &str) -> Result<Interval, Cause>
+/// The interval that a text of the form stands for, or the cause why it stands for none.
+fn interval_of(form: Form, text: &str) -> Result<Interval, Cause>
     ensures ok { IfOk result (IsValueOf form text.now) }
     ensures err { IfErr result (IsRefused form text.now) }
 {
-    match form {
-        Form::PgIso => Err(Cause::Syntax),
+    match read(form, text) {
+        Ok(interval) => Ok(interval),
+        Err(error) if error.is_range() => Err(Cause::Range),
+        Err(_) => Err(Cause::Syntax),
     }
 }
 
-fn write_interval(form: Form, interval: Interval) -> Short
-    ensures bytes { result.bytes ≡ written (style_of form) interval }
-    ensures len { array_string_len result ≤ 96 }
+/// What the form's reader answers.
+fn read(form: Form, text: &str) -> Result<Interval, ParseError>
+    ensures ok { IfOk result (IsValueOf form text.now) }
+    ensures err { IfErr result (IsRefusedBy form text.now) }
 {
-    Short::new()
+    match form {
+        Form::PgIso => Interval::from_iso(text),
+    }
 }
 
 /// The answer of `reply` as a `String`. `Refused` has its cause, exactly where `reply` refuses; `NoMemory` may stand
