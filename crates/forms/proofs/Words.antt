@@ -55,8 +55,6 @@ pub tail_behind : (text tail : List ℕ) → IsTail text tail → (rest : Option
 tail_behind text tail (inl end) = (None, end.1, end.0)
 tail_behind text tail (inr more) = (Some text, more, refl)
 
--- a text that begins with two names has one rest
-pub same_rest : (text a b : List ℕ) (f g : Form) → IsNamed text f (Some a) → IsNamed text g (Some b) → a ≡ b
-same_rest text a b f g first second =
-    let split = one_split (name_of f) (name_of g) (Some a) (Some b) (name_no_space f) (name_no_space g) (sym first ∙ second) in
-    let rests : Some a ≡ Some b = split.1 in cc
+-- a text begins with one name, and has one rest behind it
+pub one_name : (text : List ℕ) (a b : Option (List ℕ)) (f g : Form) → IsNamed text f a → IsNamed text g b → (name_of f ≡ name_of g) × (a ≡ b)
+one_name text a b f g first second = one_split (name_of f) (name_of g) a b (name_no_space f) (name_no_space g) (sym first ∙ second)

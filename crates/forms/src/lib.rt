@@ -9,6 +9,7 @@ mod cause;
 mod faults;
 mod form;
 mod input;
+pub mod laws;
 mod line;
 mod memory_sink;
 mod memory_source;
