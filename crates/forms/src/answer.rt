@@ -104,3 +104,22 @@ fn refusal(name: &str) -> Short
     out.push_str(name);
     out
 }
+
+#[cfg(test)]
+mod tests {
+    use super::*;
+    use std::test::Fail;
+
+    #[test]
+    fn converts_texts(rt: HostRuntime) -> Result<(), Fail> {
+        for (text, want) in [("P1Y1Y", "P2Y"), ("PT5S5S", "PT10S"), ("P1.99Y", "P2Y")] {
+            let text = convert(rt.alloc(), Form::PgIso, Form::PgIso, text)?;
+            assert_eq!(rt; text.as_str(), want);
+        }
+        for (text, want) in [("P", Cause::Syntax), ("P2147483648D", Cause::Range)] {
+            let refused = convert(rt.alloc(), Form::PgIso, Form::PgIso, text).err();
+            assert_eq!(rt; refused, Some(ConvertError::Refused(want)), "at {text}");
+        }
+        Ok(())
+    }
+}

@@ -15,5 +15,4 @@ pub fn one_reply(line: &[u8])
 /// Lines have one list of replies at most.
 pub fn one_output()
     ensures { (lines : List (List ℕ)) (a b : List ℕ) → AreReplies lines a → AreReplies lines b → a ≡ b }
-{
-}
+{}

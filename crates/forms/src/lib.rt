@@ -13,8 +13,8 @@ pub mod laws;
 mod line;
 mod memory_sink;
 mod memory_source;
-mod outside;
 mod output;
+mod outside;
 mod program;
 
 pub use answer::{ConvertError, convert, reply};

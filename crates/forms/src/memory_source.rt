@@ -32,7 +32,12 @@ impl MemSource {
 
     /// A source of these bytes. Each read gives at most `cut` bytes, `cut` at least 1, and the calls of `read`
     /// with the numbers in `fails`, from 0, fail. The one refusal is want of memory.
-    pub fn new(alloc: Global, bytes: &[u8], cut: usize, fails: &[u64]) -> Result<MemSource, AllocError>
+    pub fn new(
+        alloc: Global,
+        bytes: &[u8],
+        cut: usize,
+        fails: &[u64],
+    ) -> Result<MemSource, AllocError>
         requires { 1 ≤ cut }
         ensures { IfOk result (λ s. s ≡ record { left = bytes.now; taken = 0; faults = 0; calls = 0; cut = cut; fails = fails.now }) }
     {

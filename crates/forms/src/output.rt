@@ -7,9 +7,9 @@ ghost use Rattle.forms.specs.Outside.{HasCause};
 ghost use Rattle.forms.specs.Ends.{GainsReplies, GainsFront};
 ghost use Rattle.forms.specs.Reading.{AppendsFront, MovesFront, PushesReply};
 
+use crate::answer::line_reply;
 use crate::line::split_line;
 use crate::outside::{Failed, Sink};
-use crate::answer::line_reply;
 use arrayvec::ArrayString;
 
 /// Replies that wait for one write.
