@@ -4,6 +4,7 @@ use std::test::Fail;
 
 /// Two lines in 20 bytes, and their replies in 17.
 const INPUT: &[u8] = b"PgIso PgIso P1Y1Y\nx\n";
+
 const REPLIES: &[u8] = b"P2Y\nrefused Line\n";
 
 #[test]
@@ -14,14 +15,30 @@ fn ends_of_runs(rt: HostRuntime) -> Result<(), Fail> {
     let replies: &[u8] = b"refused Line\nrefused Line\nrefused Line\nP1D\n";
     for (input, limit, source_fails, room, sink_fails, end, held) in [
         (lines, 100, [99], 100, [99], RunEnd::Done, replies),
-        (nine, 9, [99], 100, [99], RunEnd::Done, &b"refused Line\n"[..]),
+        (
+            nine,
+            9,
+            [99],
+            100,
+            [99],
+            RunEnd::Done,
+            &b"refused Line\n"[..],
+        ),
         (nine, 8, [99], 100, [99], RunEnd::TooLong, &b""[..]),
         (nine, 100, [1], 100, [99], RunEnd::ReadFault, &b""[..]),
         (b"x", 100, [99], 0, [99], RunEnd::WriteFault, &b""[..]),
         (INPUT, 20, [99], 17, [99], RunEnd::Done, REPLIES),
         (INPUT, 20, [20], 17, [99], RunEnd::ReadFault, &b""[..]),
         (INPUT, 20, [99], 17, [4], RunEnd::WriteFault, &b"P2Y\n"[..]),
-        (INPUT, 20, [99], 16, [99], RunEnd::WriteFault, &REPLIES[..16]),
+        (
+            INPUT,
+            20,
+            [99],
+            16,
+            [99],
+            RunEnd::WriteFault,
+            &REPLIES[..16],
+        ),
         (b"", 0, [99], 0, [99], RunEnd::Done, &b""[..]),
     ] {
         let mut source = MemSource::new(alloc, input, 1, &source_fails)?;

@@ -24,7 +24,11 @@ fn hostile_lines(rt: HostRuntime) -> Result<(), Fail> {
         line.push_str(back)?;
         let outcome = outcome_of(rt.alloc(), line.as_str().as_bytes(), 4096)?;
         assert_eq!(rt; outcome.status, 0, "at {front}{digit}");
-        assert_eq!(rt; outcome.bytes.as_slice(), reply.as_bytes(), "at {front}{digit}");
+        assert_eq!(rt;
+            outcome.bytes.as_slice(),
+            reply.as_bytes(),
+            "at {front}{digit}"
+        );
     }
     Ok(())
 }

@@ -1,5 +1,6 @@
 -- Replies that are written in batches: what was written and what waits are the replies to the lines so far.
-use Rattle.std.proofs.Common.{◌≡◌, ℕ, List, [], ◌∷◌, ◌++◌, Option, refl, sym, ◌∙◌, ap, subst, append-nil, append_assoc}
+use Rattle.std.proofs.Common.{◌≡◌, ℕ, List, [], ◌∷◌, ◌++◌, length, Option, refl, sym, ◌∙◌, ap, subst, append-nil, append_assoc}
+use Rattle.std.proofs.lemmas.List.{nil_from_length}
 use Rattle.std.proofs.KnownBytes.{Appends-nil, Appends-trans}
 use Rattle.std.specs.Io.KnownBytes.{Appends}
 use Rattle.scan_core.proofs.Joins.{join_push}
@@ -36,9 +37,9 @@ answered_pushed a b text rest line after before waiting h first p =
     }
 
 -- where no line is left, all that waits makes the replies whole
-pub answered_all : (a b c : Option (List ℕ)) (text waiting : List ℕ) → IsAnswered a b text [] waiting → Appends b c waiting → GainsReplies (lines text) a c
-answered_all a b c text waiting h last =
-    let all : lines text ≡ h.answered = h.split ∙ append-nil h.answered in
+pub answered_all : (a b c : Option (List ℕ)) (text rest waiting : List ℕ) → IsAnswered a b text rest waiting → length rest ≡ 0 → Appends b c waiting → GainsReplies (lines text) a c
+answered_all a b c text rest waiting h none last =
+    let all : lines text ≡ h.answered = h.split ∙ (ap (λ (l : List ℕ). h.answered ++ lines l) (nil_from_length rest none) ∙ append-nil h.answered) in
     (h.written ++ waiting, subst (λ (l : List (List ℕ)). AreReplies l (h.written ++ waiting)) (sym all) h.replies, Appends-trans a b c h.written waiting h.gained last)
 
 -- where a front of what waits was written, that is a front of the replies

@@ -1,5 +1,5 @@
 -- The first line of a text and what follows it are the text's lines.
-use Rattle.std.proofs.Common.{◌≡◌, ℕ, suc, ◌+◌, ◌<◌, ◌≤◌, ◌==◌, not, Bool, true, false, List, [], ◌∷◌, cond, length, take, drop, Option, Some, None, refl, sym, ◌∙◌, ap, subst, arith, nat_lt, add-one}
+use Rattle.std.proofs.Common.{◌≡◌, ℕ, suc, ◌+◌, ◌<◌, ◌≤◌, ◌==◌, not, Bool, true, false, List, [], ◌∷◌, cond, length, take, drop, Some, None, refl, subst, arith, nat_lt, add-one}
 use Rattle.std.specs.Prelude.{position}
 use Rattle.std.specs.List.{position_or_len}
 use Rattle.std.proofs.lemmas.Bool.Decides.{nat_tests}

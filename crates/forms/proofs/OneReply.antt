@@ -1,11 +1,11 @@
 -- A line has one reply: one request is in it, and one answer is to that.
-use Rattle.std.proofs.Common.{◌≡◌, ℕ, List, [], ◌∷◌, ◌++◌, codes, Option, Some, None, Result, Ok, Err, refl, sym, ◌∙◌, ap, subst, inl, inr}
+use Rattle.std.proofs.Common.{◌≡◌, ℕ, List, [], ◌∷◌, ◌++◌, codes, Option, Some, Result, Ok, Err, refl, sym, ◌∙◌, ap, subst, inl, inr}
 use Rattle.std.specs.Prelude.{unwrap_or}
 use Rattle.pg_interval_2.specs.Styles.{written}
 use Rattle.forms.specs.declared.form.Form.{Form}
 use Rattle.forms.specs.declared.cause.Cause.{Cause}
 use Rattle.forms.specs.Names.{name_of, style_of}
-use Rattle.forms.specs.Replies.{IsRequest, IsNoRequest, IsAnswer, answer_text, AnswersRequest, IsReply, IsReplyLine, AreReplies}
+use Rattle.forms.specs.Replies.{IsRequest, IsAnswer, answer_text, AnswersRequest, IsReply, IsReplyLine, AreReplies}
 use Rattle.forms.specs.Reading.{behind, IsNamed}
 use Rattle.forms.proofs.Words.{one_name, tail_behind}
 use Rattle.forms.proofs.NamedForms.{one_form}

@@ -1,5 +1,5 @@
 -- A text is answered in one way: it stands for one interval, or it is refused for one cause.
-use Rattle.std.proofs.Common.{◌≡◌, ℕ, ◌&&◌, Bool, true, false, IsTrue, List, Option, Some, None, Result, Ok, Err, IfErr, refl, sym, ◌∙◌, ap, subst}
+use Rattle.std.proofs.Common.{◌≡◌, ℕ, ◌&&◌, Bool, true, false, IsTrue, List, Some, Result, Ok, Err, IfErr, refl, sym, ◌∙◌, ap}
 use Rattle.scan_core.specs.Count.{Count}
 use Rattle.scan_core.specs.Sums.{part_fits, fits, first_false, misfit}
 use Rattle.scan_core.specs.declared.share.Part.{Part}

@@ -1,11 +1,11 @@
 -- Words and the names in front of texts: what stands before the first space is fixed by the text.
-use Rattle.std.proofs.Common.{◌≡◌, ◌≢◌, ℕ, suc, ◌+◌, ◌<◌, ◌==◌, Bool, true, false, List, [], ◌∷◌, ◌++◌, codes, length, get_or, Option, Some, None, refl, sym, ◌∙◌, ap, subst, arith, inl, inr}
+use Rattle.std.proofs.Common.{◌≡◌, ◌≢◌, ℕ, suc, ◌<◌, ◌==◌, false, List, [], ◌∷◌, ◌++◌, length, get_or, Option, Some, None, refl, sym, ◌∙◌, arith, inl, inr}
 use Rattle.std.specs.Prelude.{unwrap_or}
 use Rattle.std.proofs.lemmas.Bool.Decides.{nat_tests}
 use Rattle.forms.specs.declared.form.Form.{Form}
 use Rattle.forms.specs.declared.form.Form.TheVariants.{PgIso}
 use Rattle.forms.specs.Names.{name_of}
-use Rattle.forms.specs.Replies.{IsTail, IsRequest}
+use Rattle.forms.specs.Replies.{IsTail}
 use Rattle.forms.specs.Reading.{NoSpace, behind, IsNamed}
 
 not_space : (byte : ℕ) → byte ≢ 32 → (byte == 32) ≡ false

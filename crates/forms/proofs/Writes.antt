@@ -1,5 +1,5 @@
 -- Lemmas on bytes that a sink takes in pieces.
-use Rattle.std.proofs.Common.{◌≡◌, ℕ, ◌+◌, List, [], ◌++◌, take, drop, Option, Some, None, Result, Ok, Err, OnErr, sym, subst}
+use Rattle.std.proofs.Common.{ℕ, ◌+◌, List, take, drop, Option, Result, Ok, Err, OnErr, sym, subst}
 use Rattle.std.proofs.lemmas.List.{take-append-drop}
 use Rattle.std.proofs.Math.Seq.{take-add}
 use Rattle.std.proofs.KnownBytes.{Appends-trans, Appends-kept}

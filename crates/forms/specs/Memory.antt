@@ -1,5 +1,5 @@
 -- What is seen of a source and of a sink in memory.
-use Rattle.std.specs.Prelude.{ℕ, ◌+◌, ◌-◌, ◌^◌, ◌<◌, min, List, [], ◌++◌, length, take, drop}
+use Rattle.std.specs.Prelude.{ℕ, ◌+◌, ◌-◌, ◌^◌, min, List, ◌++◌, length, drop}
 
 -- a count of 64 bits after it went up by n
 abbrev pub counted_up : ℕ → ℕ → ℕ

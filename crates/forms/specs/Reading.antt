@@ -1,5 +1,5 @@
 -- What private functions answer: cited by private contracts alone.
-use Rattle.std.specs.Prelude.{◌≡◌, ◌==◌, ℕ, Bool, false, List, [], ◌∷◌, ◌++◌, codes, Option, Some, None}
+use Rattle.std.specs.Prelude.{◌≡◌, ◌==◌, ℕ, false, List, [], ◌∷◌, ◌++◌, codes, Option, Some, None}
 use Rattle.std.specs.Io.KnownBytes.{Appends}
 use Rattle.pg_interval_2.specs.Denotes.{IsRange}
 use Rattle.pg_interval_2.specs.declared.error.ParseError.{ParseError}

@@ -1,6 +1,6 @@
 -- Requests and replies. A line is a request: a form's name, a space, a form's name, then the end or a space and a text.
 -- Its reply is the second form's written text of what the text denotes by the first form, or `refused` and the cause.
-use Rattle.std.specs.Prelude.{◌≡◌, ◌⊎◌, ℕ, List, [], ◌∷◌, ◌++◌, codes, Result, Ok, Err, IsUtf8}
+use Rattle.std.specs.Prelude.{◌≡◌, ◌⊎◌, ℕ, List, [], ◌++◌, codes, Result, Ok, Err, IsUtf8}
 use Rattle.scan_core.specs.Join.{IsJoin}
 use Rattle.scan_core.specs.declared.share.Part.{Part}
 use Rattle.pg_interval_2.specs.declared.interval.Interval.{Interval}

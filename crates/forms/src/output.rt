@@ -12,8 +12,14 @@ use crate::line::split_line;
 use crate::outside::{Failed, Sink};
 use arrayvec::ArrayString;
 
+/// The longest reply, with its line feed: a written text has at most 96 bytes.
+const LONGEST: usize = 97;
+
+/// How many bytes wait for one write at most.
+const BATCH: usize = 65_536;
+
 /// Replies that wait for one write.
-type Batch = ArrayString<65_536>;
+type Batch = ArrayString<BATCH>;
 
 /// Writes the reply to each line of the text, in order, many at once.
 pub fn answer_lines<K: Sink>(sink: &mut K, text: &[u8]) -> Result<(), Failed>
@@ -34,12 +40,12 @@ pub fn answer_lines<K: Sink>(sink: &mut K, text: &[u8]) -> Result<(), Failed>
 
 /// Writes what waits where there may be no room for one more reply.
 fn make_room<K: Sink>(sink: &mut K, batch: &mut Batch) -> Result<(), Failed>
-    ensures room { OnOk result (array_string_len batch.new + 97 ≤ 65_536) }
+    ensures room { OnOk result (array_string_len batch.new + LONGEST ≤ BATCH) }
     ensures ok { OnOk result (MovesFront (K.held sink.old) (K.held sink.new) batch.old.bytes batch.new.bytes) }
     ensures err { OnErr result (AppendsFront (K.held sink.old) (K.held sink.new) batch.old.bytes) }
     ensures cause { HasCause (K.faults sink.old) (K.faults sink.new) result }
 {
-    if batch.remaining_capacity() < 97 {
+    if batch.remaining_capacity() < LONGEST {
         write_all(sink, batch.as_str().as_bytes())?;
         batch.clear();
     }
@@ -48,7 +54,7 @@ fn make_room<K: Sink>(sink: &mut K, batch: &mut Batch) -> Result<(), Failed>
 
 /// Appends the reply to a line, and its line feed.
 fn push_reply(batch: &mut Batch, line: &[u8])
-    requires room { array_string_len batch.old + 97 ≤ 65_536 }
+    requires room { array_string_len batch.old + LONGEST ≤ BATCH }
     ensures { PushesReply line.now batch.old.bytes batch.new.bytes }
 {
     let reply = line_reply(line);

@@ -72,3 +72,47 @@ impl<W: Write> Sink for Output<W> {
         }
     }
 }
+
+#[cfg(test)]
+mod tests {
+    use super::*;
+    use std::io;
+
+    /// A stream whose calls fail.
+    #[derive(Drop)]
+    struct Broken;
+
+    impl Read for Broken {
+        fn read(&mut self, _buf: &mut [u8]) -> io::Result<usize> {
+            Err(io::Error::from(io::ErrorKind::Other))
+        }
+    }
+
+    impl Write for Broken {
+        fn write(&mut self, _buf: &[u8]) -> io::Result<usize> {
+            Err(io::Error::from(io::ErrorKind::Other))
+        }
+
+        fn flush(&mut self) -> io::Result<()> {
+            Ok(())
+        }
+    }
+
+    #[test]
+    fn streams_count(rt: HostRuntime) {
+        let mut buf = [0; 4];
+        let mut input = Input::new(&b"ab"[..]);
+        assert_eq!(rt; input.read(&mut buf), Ok(2));
+        assert_eq!(rt; input.read(&mut buf), Ok(0));
+        assert_eq!(rt; (input.taken, input.faults), (2, 0));
+        let mut output = Output::new(Vec::new(rt.alloc()));
+        assert_eq!(rt; output.write(b"ab"), Ok(2));
+        assert_eq!(rt; output.faults, 0);
+        let mut input = Input::new(Broken);
+        assert_eq!(rt; input.read(&mut buf), Err(Failed));
+        assert_eq!(rt; (input.taken, input.faults), (0, 1));
+        let mut output = Output::new(Broken);
+        assert_eq!(rt; output.write(b"ab"), Err(Failed));
+        assert_eq!(rt; output.faults, 1);
+    }
+}

@@ -1,4 +1,4 @@
-use Rattle.std.proofs.Common.{◌≡◌, ◌++◌, List, ℕ, codes, Ok, Err, inr, refl, ap, ◌∙◌}
+use Rattle.std.proofs.Common.{◌++◌, List, ℕ, codes, Ok, Err, inr, refl, ap, ◌∙◌}
 use Rattle.forms.specs.Replies.{IsRefused}
 use Rattle.forms.proofs.Refusals.{refused_for}
 use Rattle.forms.proofs.answer.line_reply.Goals as goal

@@ -1,4 +1,4 @@
-use Rattle.std.proofs.Common.{◌≡◌, ◌++◌, List, ℕ, Option, Some, None, ap, ◌∙◌}
+use Rattle.std.proofs.Common.{◌≡◌, ◌++◌, List, ℕ, Some, ap, ◌∙◌}
 use Rattle.forms.specs.Names.{name_of}
 use Rattle.forms.specs.Reading.{IsNamed}
 use Rattle.forms.proofs.Words.{tail_behind, one_name}

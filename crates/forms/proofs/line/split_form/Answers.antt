@@ -1,5 +1,4 @@
-use Rattle.std.proofs.Common.{◌≡◌, Option, Some, None}
-use Rattle.forms.specs.declared.form.Form.{Form}
+use Rattle.std.proofs.Common.{◌≡◌, Some, None}
 use Rattle.forms.proofs.Words.{named_word}
 use Rattle.forms.proofs.line.split_form.Goals as goal
 
