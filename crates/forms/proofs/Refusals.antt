@@ -1,5 +1,5 @@
 -- A text is answered in one way: it stands for one interval, or it is refused for one cause.
-use Rattle.std.proofs.Common.{◌≡◌, ℕ, ◌&&◌, Bool, true, false, IsTrue, List, Some, Result, Ok, Err, IfErr, refl, sym, ◌∙◌, ap}
+use Rattle.std.proofs.Common.{◌≡◌, ℕ, ◌&&◌, Bool, true, false, IsTrue, List, Some, Result, Ok, Err, IfErr, refl, sym, ◌∙◌, ap, subst}
 use Rattle.scan_core.specs.Count.{Count}
 use Rattle.scan_core.specs.Sums.{part_fits, fits, first_false, misfit}
 use Rattle.scan_core.specs.declared.share.Part.{Part}
@@ -63,6 +63,10 @@ error_says form message text (InvalidYearMonth m) h = record { range = λ r. (Mo
 error_says form message text (InvalidDay m) h = record { range = λ r. (Days, h.0); no_range = λ n. absurd (n tt) }
 error_says form message text (InvalidTime m) h = record { range = λ r. (Micros, h.0); no_range = λ n. absurd (n tt) }
 
-pub refused_by : (form : Form) (message text : List ℕ) (read : Result Interval ParseError) → IfErr read (Refuses (Shape (style_of form)) message text) → IfErr read (IsRefusedBy form text)
-refused_by form message text (Ok t) h = tt
-refused_by form message text (Err e) h = error_says form message text e h
+means_refusal : (form : Form) (message text : List ℕ) (read : Result Interval ParseError) → IfErr read (Refuses (Shape (style_of form)) message text) → IfErr read (IsRefusedBy form text)
+means_refusal form message text (Ok t) h = tt
+means_refusal form message text (Err e) h = error_says form message text e h
+
+-- what the reader of a form answers, where the form is known to be this one
+pub refused_by : (form known : Form) (message text : List ℕ) (read : Result Interval ParseError) → form ≡ known → IfErr read (Refuses (Shape (style_of known)) message text) → IfErr read (IsRefusedBy form text)
+refused_by form known message text read is h = let P : Form → Type 0 = λ f. IfErr read (IsRefusedBy f text) in subst P (sym is) (means_refusal known message text read h)
