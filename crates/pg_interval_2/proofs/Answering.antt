@@ -6,7 +6,7 @@ use Rattle.scan_core.specs.declared.share.Part.{Part}
 use Rattle.scan_core.proofs.SumFacts.{misfit-none}
 use Rattle.pg_interval_2.specs.declared.interval.Interval.{Interval}
 use Rattle.pg_interval_2.specs.declared.error.ParseError.{ParseError}
-use Rattle.pg_interval_2.specs.declared.error.ParseError.TheVariants.{InvalidInterval, InvalidYearMonth, InvalidDay, InvalidTime}
+use Rattle.pg_interval_2.specs.declared.error.ParseError.TheVariants.{InvalidInterval, BadUnit, InvalidYearMonth, InvalidDay, InvalidTime}
 use Rattle.pg_interval_2.specs.Denotes.{Denotes, HasNoShape, sum_of}
 use Rattle.pg_interval_2.specs.Tallies.{Answers}
 
@@ -24,6 +24,7 @@ answers_all Shape one text counts shape (Ok u) answer t denotes =
     let same : sum_of counts ≡ sum_of denotes.0 = ap sum_of (one text counts denotes.0 shape denotes.1) in
     ap (λ (v : Interval). Ok v) (answer.1 ∙ same ∙ sym denotes.3)
 answers_all Shape one text counts shape (Err (InvalidInterval m)) answer t denotes = absurd answer
+answers_all Shape one text counts shape (Err (BadUnit start end)) answer t denotes = absurd answer
 answers_all Shape one text counts shape (Err (InvalidYearMonth m)) answer t denotes =
     absurd (fits_or_not denotes.0 _ denotes.2 (ap misfit (one text denotes.0 counts denotes.1 shape) ∙ answer.0))
 answers_all Shape one text counts shape (Err (InvalidDay m)) answer t denotes =

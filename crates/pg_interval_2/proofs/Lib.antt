@@ -14,3 +14,15 @@ pub mod IsoCounts
 pub mod TallyFacts
 pub mod IsoSteps
 pub mod Answering
+pub mod ItemFacts
+pub mod ItemsInFront
+pub mod ItemsRead
+pub mod ItemWords
+pub mod Verdicts
+pub mod BadNames
+pub mod NoItems
+pub mod PostgresCounts
+pub mod UnitFacts
+pub mod CountedFacts
+pub mod PostgresSteps
+pub mod PostgresEnds

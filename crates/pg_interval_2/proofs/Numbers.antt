@@ -18,10 +18,10 @@ abbrev pub NoPointFirst : List ℕ → Type 0
 NoPointFirst [] = Unit {0}
 NoPointFirst (b ∷ bs) = (b == 46) ≡ false
 
-is_digit : (c : ℕ) → digit_value c < 10 → is_ascii_digit c ≡ true
+pub is_digit : (c : ℕ) → digit_value c < 10 → is_ascii_digit c ≡ true
 is_digit c h = let r = digit_from_value c h in grind (arith, nat_tests)
 
-digit_is : (c : ℕ) → is_ascii_digit c ≡ true → digit_value c < 10
+pub digit_is : (c : ℕ) → is_ascii_digit c ≡ true → digit_value c < 10
 digit_is c h = grind (arith, nat_tests)
 
 pub front_of : (digits rest : List ℕ) → AreDigits digits → NoDigitFirst rest → front_digits (digits ++ rest) ≡ digits
@@ -106,12 +106,12 @@ tail_no_sign : (fraction tail rest : List ℕ) → IsFraction fraction tail → 
 tail_no_sign fraction tail rest (inl none) some = absurd (let e = ap (λ (l : List ℕ). length l) none.0 in omega (arith, e))
 tail_no_sign fraction tail rest (inr point) some = rw point.1 (refl, refl)
 
-digits_no_sign : (whole fraction tail rest : List ℕ) → AreDigits whole → IsFraction fraction tail → 0 < length whole + length fraction → NoSignFirst (whole ++ (tail ++ rest))
+pub digits_no_sign : (whole fraction tail rest : List ℕ) → AreDigits whole → IsFraction fraction tail → 0 < length whole + length fraction → NoSignFirst (whole ++ (tail ++ rest))
 digits_no_sign [] fraction tail rest d f some = tail_no_sign fraction tail rest f (omega arith)
 digits_no_sign (c ∷ cs) fraction tail rest d f some = digit_no_sign c d.0
 
 -- what follows the whole digits begins with no digit
-tail_no_digit : (fraction tail rest : List ℕ) → IsFraction fraction tail → NoDigitFirst rest → NoDigitFirst (tail ++ rest)
+pub tail_no_digit : (fraction tail rest : List ℕ) → IsFraction fraction tail → NoDigitFirst rest → NoDigitFirst (tail ++ rest)
 tail_no_digit fraction tail rest (inl none) d = rw none.1 d
 tail_no_digit fraction tail rest (inr point) d = rw point.1 refl
 
@@ -154,7 +154,7 @@ sign_if false false true b bs minus also = ([], inl refl, refl)
 sign_if false true false b bs minus also = ([], inl refl, refl)
 sign_if false false false b bs minus also = ([], inl refl, refl)
 
-is_sign : (plus : Bool) (bytes : List ℕ) → (sign : List ℕ) × IsSign plus (read_sign plus bytes).0 sign × (bytes ≡ sign ++ (read_sign plus bytes).1)
+pub is_sign : (plus : Bool) (bytes : List ℕ) → (sign : List ℕ) × IsSign plus (read_sign plus bytes).0 sign × (bytes ≡ sign ++ (read_sign plus bytes).1)
 is_sign plus [] = ([], inl refl, refl)
 is_sign plus (b ∷ bs) = sign_if (b == 45) (b == 43) plus b bs (is_minus b) (is_plus b)
 
@@ -167,7 +167,7 @@ pub record IsUnsigned (negative : Bool) (bytes : List ℕ) (n : Numeral) (rest :
   pub some : 0 < length n.whole + length n.fraction
   pub joined : bytes ≡ (n.whole ++ tail) ++ rest
 
-above_zero : (n : ℕ) → nat_lt 0 n ≡ true → 0 < n
+pub above_zero : (n : ℕ) → nat_lt 0 n ≡ true → 0 < n
 above_zero n h = grind (arith, nat_tests)
 
 is_unsigned : (negative : Bool) (bytes : List ℕ) (n : Numeral) (rest : List ℕ) → read_unsigned negative bytes ≡ Some (n, rest) → IsUnsigned negative bytes n rest

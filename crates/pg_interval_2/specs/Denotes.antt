@@ -6,7 +6,7 @@ use Rattle.scan_core.specs.declared.share.Part.{Part}
 use Rattle.scan_core.specs.declared.share.Part.TheVariants.{Months, Days, Micros}
 use Rattle.pg_interval_2.specs.declared.interval.Interval.{Interval}
 use Rattle.pg_interval_2.specs.declared.error.ParseError.{ParseError}
-use Rattle.pg_interval_2.specs.declared.error.ParseError.TheVariants.{InvalidInterval, InvalidYearMonth, InvalidDay, InvalidTime}
+use Rattle.pg_interval_2.specs.declared.error.ParseError.TheVariants.{InvalidInterval, BadUnit, InvalidYearMonth, InvalidDay, InvalidTime}
 use Rattle.pg_interval_2.specs.Messages.{year_month_overflow, day_overflow, time_overflow}
 
 -- the sums of the shares of all counts
@@ -25,16 +25,22 @@ HasNoShape Shape text = (counts : List Count) → Shape text counts → ⊥
 abbrev pub Misfits : (List ℕ → List Count → Type 0) → List ℕ → Part → Type 0
 Misfits Shape text part = (counts : List Count) × Shape text counts × (misfit counts ≡ Some part)
 
--- Why a text is refused: it has no shape, or a part doesn't fit. Each refusal has one message.
-abbrev pub Refuses : (List ℕ → List Count → Type 0) → List ℕ → List ℕ → ParseError → Type 0
-Refuses Shape message text (InvalidInterval m) = HasNoShape Shape text × (m.now ≡ message)
-Refuses Shape message text (InvalidYearMonth m) = Misfits Shape text Months × (m.now ≡ year_month_overflow)
-Refuses Shape message text (InvalidDay m) = Misfits Shape text Days × (m.now ≡ day_overflow)
-Refuses Shape message text (InvalidTime m) = Misfits Shape text Micros × (m.now ≡ time_overflow)
+-- no place of the text is a bad one: styles of letters alone have none
+abbrev pub NoPlace : List ℕ → ℕ → ℕ → Type 0
+NoPlace text start end = ⊥
+
+-- Why a text is refused: it has no shape, and a bad place from start to end or none; or a part doesn't fit. Each refusal has one message.
+abbrev pub Refuses : (List ℕ → List Count → Type 0) → (List ℕ → ℕ → ℕ → Type 0) → List ℕ → List ℕ → ParseError → Type 0
+Refuses Shape IsBadPlace message text (InvalidInterval m) = HasNoShape Shape text × ((start end : ℕ) → IsBadPlace text start end → ⊥) × (m.now ≡ message)
+Refuses Shape IsBadPlace message text (BadUnit start end) = HasNoShape Shape text × IsBadPlace text start end
+Refuses Shape IsBadPlace message text (InvalidYearMonth m) = Misfits Shape text Months × (m.now ≡ year_month_overflow)
+Refuses Shape IsBadPlace message text (InvalidDay m) = Misfits Shape text Days × (m.now ≡ day_overflow)
+Refuses Shape IsBadPlace message text (InvalidTime m) = Misfits Shape text Micros × (m.now ≡ time_overflow)
 
 -- the refusal says that a part doesn't fit
 abbrev pub IsRange : ParseError → Type 0
 IsRange (InvalidInterval m) = ⊥
+IsRange (BadUnit start end) = ⊥
 IsRange (InvalidYearMonth m) = Unit {0}
 IsRange (InvalidDay m) = Unit {0}
 IsRange (InvalidTime m) = Unit {0}

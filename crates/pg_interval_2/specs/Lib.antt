@@ -11,3 +11,8 @@ pub mod Clock
 pub mod Postgres
 pub mod Tallies
 pub mod IsoTally
+pub mod ItemReading
+pub mod ItemViews
+pub mod UnitSets
+pub mod CountedItems
+pub mod PostgresTally

@@ -1,8 +1,9 @@
 -- The `postgres` style, PostgreSQL's own default (its manual, section 8.5.5, "Interval Output"): items with blanks between them,
 -- each a number and the name of a unit, or a clock: `1 year 2 mons 3 days 04:05:06`. No unit is counted twice.
-use Rattle.std.specs.Prelude.{◌≡◌, ◌⊎◌, ℕ, Bool, true, false, ◌&&◌, not, ◌==◌, IsTrue, List, [], ◌∷◌, ◌++◌, Option, Some}
-use Rattle.std.specs.List.{list_any}
-use Rattle.scan_core.specs.Blanks.{words}
+use Rattle.std.specs.Prelude.{◌≡◌, ◌⊎◌, ℕ, ◌+◌, ◌<◌, length, Bool, true, false, ◌&&◌, not, ◌==◌, IsTrue, List, [], ◌∷◌, ◌++◌, Option, Some}
+use Rattle.std.specs.List.{list_any, list_all}
+use Rattle.std.specs.Char.{is_ascii_alphabetic}
+use Rattle.scan_core.specs.Blanks.{is_blank, words, EndsWord, EndsInBlank}
 use Rattle.scan_core.specs.Count.{Count}
 use Rattle.scan_core.specs.Join.{IsJoin}
 use Rattle.scan_core.specs.Number.{IsNumber}
@@ -54,3 +55,32 @@ AreItems names all counts = (items : List (List Count)) × IsJoin (IsItem names)
 -- the text is in `postgres` style and spells these counts
 abbrev pub IsPostgres : List ℕ → List Count → Type 0
 IsPostgres text counts = AreItems postgres_names (words text) counts
+
+-- the letters are a unit's name that no count before has the unit of
+abbrev pub IsFreshName : (TimeUnit → List (List ℕ)) → List Count → List ℕ → Type 0
+IsFreshName names counts letters = (unit : TimeUnit) × (unit_named names letters ≡ Some unit) × (counts_unit unit counts ≡ false)
+
+-- Letters of a text, from start to end, that name no unit or one that was counted before: they stand behind a number, with
+-- blanks between or none, and before these stand items, in which no unit is counted twice.
+pub record IsBadName (names : TimeUnit → List (List ℕ)) (text : List ℕ) (start end : ℕ) : Type 0 where
+  pub lead : List ℕ
+  pub number : List ℕ
+  pub blanks : List ℕ
+  pub letters : List ℕ
+  pub after : List ℕ
+  pub counts : List Count
+  pub c : Count
+  pub items : AreItems names (words lead) counts
+  pub closed : EndsInBlank lead
+  pub digits : IsNumber true c.negative c.whole c.fraction number
+  pub blank : IsTrue (list_all is_blank blanks)
+  pub some : 0 < length letters
+  pub ascii : IsTrue (list_all is_ascii_alphabetic letters)
+  pub ends : EndsWord after
+  pub bad : ¬ (IsFreshName names counts letters)
+  pub split : text ≡ lead ++ (number ++ (blanks ++ (letters ++ after)))
+  pub starts : start ≡ length lead + (length number + length blanks)
+  pub stops : end ≡ start + length letters
+
+abbrev pub IsPostgresBadName : List ℕ → ℕ → ℕ → Type 0
+IsPostgresBadName = IsBadName postgres_names

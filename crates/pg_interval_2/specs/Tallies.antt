@@ -8,7 +8,7 @@ use Rattle.scan_core.specs.declared.share.Part.{Part}
 use Rattle.scan_core.specs.declared.share.Part.TheVariants.{Months, Days, Micros}
 use Rattle.pg_interval_2.specs.declared.interval.Interval.{Interval}
 use Rattle.pg_interval_2.specs.declared.error.ParseError.{ParseError}
-use Rattle.pg_interval_2.specs.declared.error.ParseError.TheVariants.{InvalidInterval, InvalidYearMonth, InvalidDay, InvalidTime}
+use Rattle.pg_interval_2.specs.declared.error.ParseError.TheVariants.{InvalidInterval, BadUnit, InvalidYearMonth, InvalidDay, InvalidTime}
 use Rattle.pg_interval_2.specs.declared.tally.Tally.{Tally}
 use Rattle.pg_interval_2.specs.Denotes.{sum_of}
 use Rattle.pg_interval_2.specs.Messages.{year_month_overflow, day_overflow, time_overflow}
@@ -36,6 +36,7 @@ marked Micros t = record t { micros_fit = false }
 abbrev pub Answers : List Count → Result Interval ParseError → Type 0
 Answers counts (Ok t) = IsTrue (fits counts) × (t ≡ sum_of counts)
 Answers counts (Err (InvalidInterval m)) = ⊥
+Answers counts (Err (BadUnit start end)) = ⊥
 Answers counts (Err (InvalidYearMonth m)) = (misfit counts ≡ Some Months) × (m.now ≡ year_month_overflow)
 Answers counts (Err (InvalidDay m)) = (misfit counts ≡ Some Days) × (m.now ≡ day_overflow)
 Answers counts (Err (InvalidTime m)) = (misfit counts ≡ Some Micros) × (m.now ≡ time_overflow)

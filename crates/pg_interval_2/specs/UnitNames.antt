@@ -15,7 +15,7 @@ postgres_names Second = codes "seconds" ∷ codes "second" ∷ []
 
 -- the word is one of these
 abbrev pub is_one_of : List (List ℕ) → List ℕ → Bool
-is_one_of names word = list_any (λ name. bytes_eq name word) names
+is_one_of names word = list_any (λ name. bytes_eq word name) names
 
 -- the unit that a word names
 unfoldable pub unit_named : (TimeUnit → List (List ℕ)) → List ℕ → Option TimeUnit

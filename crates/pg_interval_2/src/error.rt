@@ -6,6 +6,9 @@ ghost use Rattle.pg_interval_2.specs.Denotes.{IsRange};
 pub enum ParseError {
     /// The text isn't in the style: `not an iso interval` and the like.
     InvalidInterval(&'static str),
+    /// The text isn't in the style, since behind a number letters stand that name no unit, or one that was counted
+    /// before: the bytes of the text from `start` up to `end`.
+    BadUnit { start: usize, end: usize },
     /// A count of months, or their sum, leaves `i32`.
     InvalidYearMonth(&'static str),
     /// A count of days, or their sum, leaves `i32`.
@@ -23,7 +26,7 @@ impl ParseError {
             ParseError::InvalidYearMonth(_)
             | ParseError::InvalidDay(_)
             | ParseError::InvalidTime(_) => true,
-            ParseError::InvalidInterval(_) => false,
+            ParseError::InvalidInterval(_) | ParseError::BadUnit { .. } => false,
         }
     }
 }

@@ -1,6 +1,6 @@
 //! The ISO style: `P1Y2M3DT4H5M6S`.
 ghost use Rattle.std.specs.Prelude.{◌≡◌, ◌+◌, ◌<◌, ◌≤◌, ◌^◌, length, IfSome, IfNone, IfOk, IfErr, option_map};
-ghost use Rattle.pg_interval_2.specs.Denotes.{Denotes, HasNoShape, Refuses};
+ghost use Rattle.pg_interval_2.specs.Denotes.{Denotes, HasNoShape, NoPlace, Refuses};
 ghost use Rattle.pg_interval_2.specs.Iso.{IsIso, unit_in};
 ghost use Rattle.pg_interval_2.specs.IsoTally.{IsTallied, TakesPairs};
 ghost use Rattle.pg_interval_2.specs.Messages.{not_iso};
@@ -82,7 +82,7 @@ impl Interval {
     pub fn from_iso(text: &str) -> Result<Interval, ParseError>
         ensures ok { IfOk result (λ t. Denotes IsIso text.now t) }
         ensures all { (t : Interval) → Denotes IsIso text.now t → result ≡ Ok t }
-        ensures err { IfErr result (λ e. Refuses IsIso not_iso text.now e) }
+        ensures err { IfErr result (λ e. Refuses IsIso NoPlace not_iso text.now e) }
     {
         match tally_of(text.as_bytes()) {
             Some(tally) => tally.answer(),

@@ -10,5 +10,4 @@ ghost use Rattle.pg_interval_2.specs.Styles.{Shape, written};
 pub fn written_text_is_read_back()
     ensures denotes { (style : Style) (t : Interval) → IsInRange t → Denotes (Shape style) (written style t) t }
     ensures alone { (style : Style) (t u : Interval) → IsInRange t → Denotes (Shape style) (written style t) u → u ≡ t }
-{
-}
+{}

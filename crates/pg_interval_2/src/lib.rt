@@ -5,16 +5,22 @@
 //! Ported from the crate `pg_interval_2` of Rust. Readers and `text` take no memory.
 #![tactic(auto)]
 
+mod counted;
 mod error;
 mod interval;
 mod iso;
 mod iso_text;
+mod items;
 pub mod laws;
 mod parts;
+mod postgres;
 mod scan;
 mod style;
 mod tally;
 mod text;
+mod unit_name;
+mod units;
+mod words;
 
 pub use error::ParseError;
 pub use interval::Interval;

@@ -3,3 +3,4 @@ pub mod DigitFacts
 pub mod RoundingFacts
 pub mod ShareFacts
 pub mod SumFacts
+pub mod WordFacts

@@ -35,7 +35,7 @@ cut-le scale ds all =
 pub step-small : (v scale carry : ℕ) → v < 10 → scale ≤ 1_000_000 → carry ≤ scale → v * scale + carry + 5 < 2 ^ 64
 step-small v scale carry digit small below = omega (arith, mul-le-mul_right scale digit)
 
--- the same, rounded
+-- the half is added before the last quotient by ten
 half_up : (v k n p : ℕ) → 0 < p → (2 * (v * p + n) * k + p * 10) / (2 * (p * 10)) ≡ (v * k + n * k / p + 5) / 10
 half_up v k n p h =
     let whole : 2 * (v * p + n) * k + p * 10 ≡ 2 * (n * k + (v * k + 5) * p) = omega arith in
@@ -45,6 +45,7 @@ half_up v k n p h =
     ∙ tenth (v * k + 5) (n * k) p h
     ∙ ap (λ (x : ℕ). x / 10) (omega arith)
 
+-- the same fraction, rounded
 pub rounded-cons : (scale d : ℕ) (ds : List ℕ) → rounded scale (d ∷ ds) ≡ (digit_value d * scale + number_of ds * scale / 10 ^ length ds + 5) / 10
 unfolding rounded
 rounded-cons scale d ds =

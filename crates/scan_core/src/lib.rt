@@ -1,8 +1,8 @@
 //! Digits, exact decimals, shares of time units, exact sums and short texts: what the readers and writers
 //! of this repository have in common.
 //!
-//! A count such as `1.99 years` has a share: 23 whole months and the fraction of the next one, rounded half
-//! away from zero, for any number of digits. No float and no memory is used anywhere.
+//! A count such as `1.99 years` has a share: 23.88 months, rounded half away from zero to 24. The rounding is
+//! exact for any number of digits. No float and no memory is used anywhere.
 #![tactic(auto)]
 
 mod blank;

@@ -7,14 +7,20 @@ ghost use Rattle.scan_core.specs.declared.share.Part.TheVariants.{Months, Days, 
 use crate::digits::digits_u64;
 use crate::rounding::rounded_fraction;
 
-/// A unit of time that a text counts.
+/// A unit of time that a text counts. Its fraction is counted in the next smaller unit.
 #[derive(Clone, Copy, Debug, PartialEq, Eq)]
 pub enum Unit {
+    /// 12 months.
     Year,
+    /// A month, and 30 days for its fraction.
     Month,
+    /// A day, and 24 hours for its fraction.
     Day,
+    /// 60 minutes.
     Hour,
+    /// 60 seconds.
     Minute,
+    /// 1_000_000 microseconds.
     Second,
 }
 

@@ -16,4 +16,4 @@ returns-in-None-clause-all c =
     λ t denotes. absurd (none denotes.0 denotes.1)
 
 pub returns-in-None-clause-err : goal.returns-in-None-clause-err
-returns-in-None-clause-err c = (subst (λ (l : List ℕ). HasNoShape IsIso l) c.as_bytes.ensures.value c.in-None.ensures.none, refl)
+returns-in-None-clause-err c = (subst (λ (l : List ℕ). HasNoShape IsIso l) c.as_bytes.ensures.value c.in-None.ensures.none, λ start end bad. bad, refl)

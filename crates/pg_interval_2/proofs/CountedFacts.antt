@@ -1,0 +1,166 @@
+-- Items counted one after the other.
+use Rattle.std.proofs.Common.{◌≡◌, ◌≢◌, ℕ, ◌&&◌, ◌||◌, ◌==◌, ◌⊎◌, Bool, true, false, cond, not, List, [], ◌∷◌, ◌++◌, refl, sym, ◌∙◌, ap, subst, append_assoc, append-nil, length-append, arith, inl, inr, ◌+◌, ◌≤◌, length, codes}
+use Rattle.std.specs.Prelude.{filter}
+use Rattle.std.proofs.lemmas.Bool.Decides.{eqb_tells}
+use Rattle.std.proofs.lemmas.List.Folds.{list_any-append}
+use Rattle.scan_core.specs.Count.{Count, count_of}
+use Rattle.scan_core.specs.declared.share.Unit.{Unit as TimeUnit}
+use Rattle.scan_core.specs.declared.share.Unit.TheVariants.{Year, Month, Day, Hour, Minute, Second}
+use Rattle.pg_interval_2.specs.declared.counted.Counted.{Counted}
+use Rattle.pg_interval_2.specs.Clock.{is_nonzero}
+use Rattle.pg_interval_2.specs.CountedItems.{AreClockDigits, IsCounted, CountsOne, CountsPerhaps, CountsAll}
+use Rattle.scan_core.specs.Digits.{AreDigits}
+use Rattle.pg_interval_2.specs.ItemReading.{ClockFields, ClockItem, NamedItem, read_item}
+use Rattle.pg_interval_2.specs.Reading.{Numeral}
+use Rattle.pg_interval_2.proofs.ItemsRead.{StandsNamed, StandsClock, Stands, item_stands, fraction_digits}
+use Rattle.pg_interval_2.specs.Postgres.{place_of, counts_unit, has_distinct_units}
+use Rattle.pg_interval_2.specs.Tallies.{Tallies}
+use Rattle.pg_interval_2.specs.UnitSets.{holds_unit}
+use Rattle.pg_interval_2.proofs.Verdicts.{counts_unit-append, same_both, distinct_push, fresh_behind}
+
+or_false : (x : Bool) → (x || false) ≡ x
+or_false true = refl
+or_false false = refl
+
+or_true : (x : Bool) → (x || true) ≡ true
+or_true true = refl
+or_true false = refl
+
+unit_at : ℕ → TimeUnit
+unit_at n = cond (n == 0) Year (cond (n == 1) Month (cond (n == 2) Day (cond (n == 3) Hour (cond (n == 4) Minute Second))))
+
+at_place : (unit : TimeUnit) → unit_at (place_of unit) ≡ unit
+unfolding unit_at
+at_place Year = refl
+at_place Month = refl
+at_place Day = refl
+at_place Hour = refl
+at_place Minute = refl
+at_place Second = refl
+
+same_place_test : (unit : TimeUnit) → ((place_of unit == place_of unit) || false) ≡ true
+same_place_test Year = refl
+same_place_test Month = refl
+same_place_test Day = refl
+same_place_test Hour = refl
+same_place_test Minute = refl
+same_place_test Second = refl
+
+-- units at one place are one
+same_unit : (a b : TimeUnit) → place_of a ≡ place_of b → a ≡ b
+same_unit a b h = sym (at_place a) ∙ ap unit_at h ∙ at_place b
+
+-- the units of one more count
+units_push : (counts : List Count) (c : Count) (old new : Counted) → ((unit : TimeUnit) → holds_unit old.units unit ≡ counts_unit unit counts) → holds_unit new.units c.unit ≡ true
+    → ((other : TimeUnit) → place_of other ≢ place_of c.unit → holds_unit new.units other ≡ holds_unit old.units other) → (unit : TimeUnit) → holds_unit new.units unit ≡ counts_unit unit (counts ++ c ∷ [])
+units_push counts c old new units same others unit =
+    elim (eqb_tells (place_of unit) (place_of c.unit)) [
+      | inl equal ↦
+          let here = (same_unit unit c.unit equal.1) in
+          rw here (same ∙ sym (counts_unit-append c.unit counts (c ∷ []) ∙ rw (same_place_test c.unit) (or_true (counts_unit c.unit counts))))
+      | inr apart ↦
+          let other = same_both (place_of unit) (place_of c.unit) apart.0 in
+          others unit apart.1 ∙ units unit ∙ sym (counts_unit-append unit counts (c ∷ []) ∙ rw other (or_false (counts_unit unit counts)))
+    ]
+
+-- one more count of a unit that was in none
+pub counted_push : (counts : List Count) (c : Count) (old new : Counted) → IsCounted old counts → counts_unit c.unit counts ≡ false → Tallies new.tally (counts ++ c ∷ []) → holds_unit new.units c.unit ≡ true
+    → ((other : TimeUnit) → place_of other ≢ place_of c.unit → holds_unit new.units other ≡ holds_unit old.units other) → IsCounted new (counts ++ c ∷ [])
+counted_push counts c old new h fresh tallied same others =
+    record { tallied = tallied; units = units_push counts c old new h.units same others; distinct = distinct_push counts c h.distinct fresh }
+
+again_if : (t : Bool) → (t ≡ true → ⊥) → t ≡ false
+again_if true h = absurd (h refl)
+again_if false h = refl
+
+-- a unit that is counted again
+pub again : (counts : List Count) (c : Count) (more : List Count) → counts_unit c.unit counts ≡ true → has_distinct_units (counts ++ (c ∷ more)) ≡ false
+again counts c more h = again_if (has_distinct_units (counts ++ (c ∷ more))) (λ distinct. let clash : true ≡ false = sym h ∙ fresh_behind counts c more distinct in cc)
+
+-- a count that isn't 0, or none
+abbrev pub nonzero : Count → List Count
+nonzero c = filter is_nonzero (c ∷ [])
+
+pub perhaps_one : (counts : List Count) (c : Count) (new : Counted) (result : Bool) → is_nonzero c ≡ true → CountsOne counts c new result → CountsPerhaps counts c new result
+perhaps_one counts c new true some h = let counted = h.1 in rw some counted
+perhaps_one counts c new false some h = (some, h)
+
+pub perhaps_none : (counts : List Count) (c : Count) (old : Counted) → is_nonzero c ≡ false → IsCounted old counts → IsCounted old (counts ++ nonzero c)
+perhaps_none counts c old none h = rw none (subst (IsCounted old) (sym (append-nil counts)) h)
+
+-- ---- clocks
+
+filter_if : (t : Bool) (x : Count) (xs : List Count) → cond t (x ∷ xs) xs ≡ cond t (x ∷ []) [] ++ xs
+filter_if true x xs = refl
+filter_if false x xs = refl
+
+-- a clock's counts are those of its fields
+pub clock_fields : (h m s : Count) → filter is_nonzero (h ∷ m ∷ s ∷ []) ≡ nonzero h ++ (nonzero m ++ nonzero s)
+clock_fields h m s = filter_if (is_nonzero h) h (filter is_nonzero (m ∷ s ∷ [])) ∙ ap (λ (l : List Count). nonzero h ++ l) (filter_if (is_nonzero m) m (nonzero s))
+
+-- a field that isn't 0, and whose unit was counted before
+pub again_nonzero : (counts : List Count) (c : Count) (more : List Count) → is_nonzero c ≡ true → counts_unit c.unit counts ≡ true → has_distinct_units (counts ++ (nonzero c ++ more)) ≡ false
+again_nonzero counts c more some h = rw some (again counts c more h)
+
+-- the counts of a clock's fields, the fraction as it is given
+abbrev pub field_counts : Bool → List ℕ → List ℕ → List ℕ → List ℕ → List Count
+field_counts negative hours minutes seconds fraction =
+    filter is_nonzero (count_of negative hours [] Hour ∷ count_of negative minutes [] Minute ∷ count_of negative seconds fraction Second ∷ [])
+
+-- the last of a clock's fields
+pub clock_last : (counts : List Count) (h m s : Count) (new : Counted) (result : Bool) → CountsPerhaps ((counts ++ nonzero h) ++ nonzero m) s new result
+    → CountsAll counts (filter is_nonzero (h ∷ m ∷ s ∷ [])) new result
+clock_last counts h m s new true counted =
+    subst (IsCounted new) (append_assoc (counts ++ nonzero h) (nonzero m) (nonzero s) ∙ append_assoc counts (nonzero h) (nonzero m ++ nonzero s) ∙ ap (λ (l : List Count). counts ++ l) (sym (clock_fields h m s))) counted
+clock_last counts h m s new false again' =
+    ap (λ (l : List Count). has_distinct_units (counts ++ l)) (clock_fields h m s)
+    ∙ ap has_distinct_units (sym (append_assoc counts (nonzero h) (nonzero m ++ nonzero s)) ∙ sym (append_assoc (counts ++ nonzero h) (nonzero m) (nonzero s))
+    ∙ ap (λ (l : List Count). ((counts ++ nonzero h) ++ nonzero m) ++ l) (sym (append-nil (nonzero s))))
+    ∙ again_nonzero ((counts ++ nonzero h) ++ nonzero m) s [] again'.0 again'.1
+
+-- the second, or the first, was counted before
+pub clock_second : (counts : List Count) (h m s : Count) → is_nonzero m ≡ true → counts_unit m.unit (counts ++ nonzero h) ≡ true → has_distinct_units (counts ++ filter is_nonzero (h ∷ m ∷ s ∷ [])) ≡ false
+clock_second counts h m s some before =
+    ap (λ (l : List Count). has_distinct_units (counts ++ l)) (clock_fields h m s)
+    ∙ ap has_distinct_units (sym (append_assoc counts (nonzero h) (nonzero m ++ nonzero s))) ∙ again_nonzero (counts ++ nonzero h) m (nonzero s) some before
+
+pub clock_first : (counts : List Count) (h m s : Count) → is_nonzero h ≡ true → counts_unit h.unit counts ≡ true → has_distinct_units (counts ++ filter is_nonzero (h ∷ m ∷ s ∷ [])) ≡ false
+clock_first counts h m s some before =
+    ap (λ (l : List Count). has_distinct_units (counts ++ l)) (clock_fields h m s) ∙ again_nonzero counts h (nonzero m ++ nonzero s) some before
+
+-- ---- what is read in front is digits
+
+pub clock_digits : (bytes : List ℕ) (fields : ClockFields) (rest : List ℕ) → read_item bytes ≡ ClockItem fields rest → AreClockDigits fields
+clock_digits bytes fields rest h =
+    let stands : StandsClock bytes fields rest = subst (Stands bytes) h (item_stands bytes) in
+    record { hours = stands.hours; minutes = stands.minutes; seconds = stands.seconds; fraction = stands.fraction }
+
+pub named_digits : (bytes : List ℕ) (n : Numeral) (letters rest : List ℕ) → read_item bytes ≡ NamedItem n letters rest → AreDigits n.whole × AreDigits n.fraction
+named_digits bytes n letters rest h =
+    let stands : StandsNamed bytes n letters rest = subst (Stands bytes) h (item_stands bytes) in
+    (stands.digits.digits, fraction_digits n.fraction stands.digits.tail stands.digits.point)
+
+-- ---- how long an item is
+
+pub clock_long : (bytes : List ℕ) (fields : ClockFields) (rest : List ℕ) → read_item bytes ≡ ClockItem fields rest → length rest + 3 ≤ length bytes
+clock_long bytes fields rest h =
+    let stands : StandsClock bytes fields rest = subst (Stands bytes) h (item_stands bytes) in
+    let clock = stands.clock in
+    let whole = ap (λ (l : List ℕ). length l) stands.split ∙ length-append stands.word rest in
+    let last = clock.seconds ++ clock.tail in
+    let middle = clock.minutes ++ (codes ":" ++ last) in
+    let word = ap (λ (l : List ℕ). length l) clock.joined ∙ length-append clock.sign (clock.hours ++ (codes ":" ++ middle)) in
+    let first = length-append clock.hours (codes ":" ++ middle) in
+    let second = length-append clock.minutes (codes ":" ++ last) in
+    let third = length-append clock.seconds clock.tail in
+    let some = clock.hour_field.0 in
+    omega (arith, whole, word, first, second, third, some)
+
+pub named_long : (bytes : List ℕ) (n : Numeral) (letters rest : List ℕ) → read_item bytes ≡ NamedItem n letters rest → length rest + 1 ≤ length bytes
+named_long bytes n letters rest h =
+    let stands : StandsNamed bytes n letters rest = subst (Stands bytes) h (item_stands bytes) in
+    let whole = ap (λ (l : List ℕ). length l) stands.split ∙ length-append stands.number (stands.blanks ++ (letters ++ rest)) in
+    let behind = length-append stands.blanks (letters ++ rest) in
+    let name = length-append letters rest in
+    let some = stands.some in
+    omega (arith, whole, behind, name, some)
