@@ -1,0 +1,12 @@
+//! Lines as a user has them, with their replies, and runs over sources and sinks that cut, fail or are full.
+//! Tests alone: one table for each subject.
+#![tactic(auto)]
+
+#[cfg(test)]
+mod ends;
+#[cfg(test)]
+mod hostile;
+#[cfg(test)]
+mod iso;
+#[cfg(test)]
+mod program;

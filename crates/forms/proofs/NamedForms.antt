@@ -1,0 +1,27 @@
+-- A name is one form's.
+use Rattle.std.proofs.Common.{◌≡◌, ◌==◌, ◌&&◌, ℕ, Bool, true, false, cond, List, [], ◌∷◌, Option, Some, None, refl, sym, ◌∙◌, ap}
+use Rattle.forms.specs.declared.form.Form.{Form}
+use Rattle.forms.specs.declared.form.Form.TheVariants.{PgIso}
+use Rattle.forms.specs.Names.{name_of}
+
+-- all forms
+abbrev forms : List Form
+forms = PgIso ∷ []
+
+abbrev same_bytes : List ℕ → List ℕ → Bool
+same_bytes [] [] = true
+same_bytes [] (b ∷ bs) = false
+same_bytes (a ∷ rest) [] = false
+same_bytes (a ∷ rest) (b ∷ bs) = (a == b) && same_bytes rest bs
+
+-- the first of these forms with the name
+abbrev form_named : List ℕ → List Form → Option Form
+form_named name [] = None
+form_named name (form ∷ more) = cond (same_bytes name (name_of form)) (Some form) (form_named name more)
+
+finds_form : (form : Form) → form_named (name_of form) forms ≡ Some form
+finds_form PgIso = refl
+
+pub one_form : (f g : Form) → name_of f ≡ name_of g → f ≡ g
+one_form f g same =
+    let both : Some f ≡ Some g = sym (finds_form f) ∙ (ap (λ (name : List ℕ). form_named name forms) same ∙ finds_form g) in cc

@@ -1,0 +1,60 @@
+-- Words and the names in front of texts: what stands before the first space is fixed by the text.
+use Rattle.std.proofs.Common.{◌≡◌, ◌≢◌, ℕ, suc, ◌<◌, ◌==◌, false, List, [], ◌∷◌, ◌++◌, length, get_or, Option, Some, None, refl, sym, ◌∙◌, arith, inl, inr}
+use Rattle.std.specs.Prelude.{unwrap_or}
+use Rattle.std.proofs.lemmas.Bool.Decides.{nat_tests}
+use Rattle.forms.specs.declared.form.Form.{Form}
+use Rattle.forms.specs.declared.form.Form.TheVariants.{PgIso}
+use Rattle.forms.specs.Names.{name_of}
+use Rattle.forms.specs.Replies.{IsTail}
+use Rattle.forms.specs.Reading.{NoSpace, behind, IsNamed}
+
+not_space : (byte : ℕ) → byte ≢ 32 → (byte == 32) ≡ false
+not_space byte h = grind (arith, nat_tests)
+
+is_no_space : (byte : ℕ) → (byte == 32) ≡ false → byte ≢ 32
+is_no_space byte h = grind (arith, nat_tests)
+
+-- a word none of whose places has a space
+pub no_space_at : (word : List ℕ) → ((i : ℕ) → i < length word → get_or word i 0 ≢ 32) → NoSpace word
+no_space_at [] h = tt
+no_space_at (byte ∷ bytes) h = (not_space byte (h 0 (omega arith)), no_space_at bytes (λ i below. h (suc i) (omega arith)))
+
+-- no form's name has a space
+name_no_space : (form : Form) → NoSpace (name_of form)
+name_no_space PgIso = (refl, (refl, (refl, (refl, (refl, tt)))))
+
+same_behind : (r s : Option (List ℕ)) → behind r ≡ behind s → r ≡ s
+same_behind None None h = refl
+same_behind None (Some b) h = cc
+same_behind (Some a) None h = cc
+same_behind (Some a) (Some b) h = cc
+
+-- a space isn't inside a word
+no_word_behind : (r : Option (List ℕ)) (byte : ℕ) (bytes : List ℕ) → (byte == 32) ≡ false → behind r ≡ byte ∷ bytes → ⊥
+no_word_behind None byte bytes n h = cc
+no_word_behind (Some a) byte bytes n h = is_no_space byte n (let same : 32 ≡ byte = cc in sym same)
+
+-- a text has one first word, and one rest
+pub one_split : (v w : List ℕ) (r s : Option (List ℕ)) → NoSpace v → NoSpace w → v ++ behind r ≡ w ++ behind s → (v ≡ w) × (r ≡ s)
+one_split [] [] r s nv nw h = (refl, same_behind r s h)
+one_split [] (b ∷ bs) r s nv nw h = absurd (no_word_behind r b (bs ++ behind s) nw.0 h)
+one_split (a ∷ bytes) [] r s nv nw h = absurd (no_word_behind s a (bytes ++ behind r) nv.0 (sym h))
+one_split (a ∷ bytes) (b ∷ bs) r s nv nw h =
+    let heads : a ≡ b = cc in
+    let tails : bytes ++ behind r ≡ bs ++ behind s = cc in
+    let below = one_split bytes bs r s nv.1 nw.1 tails in
+    let words : bytes ≡ bs = below.0 in
+    (cc, below.1)
+
+-- a text with a name in front has it as its first word
+pub named_word : (text word : List ℕ) (r s : Option (List ℕ)) (form : Form) → NoSpace word → text ≡ word ++ behind r → IsNamed text form s → (word ≡ name_of form) × (r ≡ s)
+named_word text word r s form none split named = one_split word (name_of form) r s none (name_no_space form) (sym split ∙ named)
+
+-- what follows a request's names is what follows a word
+pub tail_behind : (text tail : List ℕ) → IsTail text tail → (rest : Option (List ℕ)) × (tail ≡ behind rest) × (text ≡ unwrap_or rest [])
+tail_behind text tail (inl end) = (None, end.1, end.0)
+tail_behind text tail (inr more) = (Some text, more, refl)
+
+-- a text begins with one name, and has one rest behind it
+pub one_name : (text : List ℕ) (a b : Option (List ℕ)) (f g : Form) → IsNamed text f a → IsNamed text g b → (name_of f ≡ name_of g) × (a ≡ b)
+one_name text a b f g first second = one_split (name_of f) (name_of g) a b (name_no_space f) (name_no_space g) (sym first ∙ second)

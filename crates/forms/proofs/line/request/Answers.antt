@@ -1,0 +1,19 @@
+use Rattle.std.proofs.Common.{◌≡◌, ◌++◌, List, ℕ, Some, ap, ◌∙◌}
+use Rattle.forms.specs.Names.{name_of}
+use Rattle.forms.specs.Reading.{IsNamed}
+use Rattle.forms.proofs.Words.{tail_behind, one_name}
+use Rattle.forms.proofs.line.request.Goals as goal
+
+pub returns-in_err-from-clause-none : goal.returns-in_err-from-clause-none
+returns-in_err-from-clause-none c =
+    rw c.from_residual.ensures (λ from to text asked. c.in_err-from.ensures.none from (Some (name_of to ++ asked.tail)) (c.in-Ok.ensures.cases.0 ∙ asked.joined))
+
+pub returns-in_err-to-clause-none : goal.returns-in_err-to-clause-none
+returns-in_err-to-clause-none c =
+    rw c.from_residual-in_err-to.ensures (λ from to text asked.
+    let tail = tail_behind text asked.tail asked.rest in
+    let here : IsNamed c.in-Ok.line.now c.in_ok-from.from (Some c.in_ok-rest.field-0.now) = rw c.in_ok-rest.was at c.in_ok-from.ensures.found in
+    let both = one_name c.in-Ok.line.now (Some c.in_ok-rest.field-0.now) (Some (name_of to ++ asked.tail)) c.in_ok-from.from from here (c.in-Ok.ensures.cases.0 ∙ asked.joined) in
+    let same : Some c.in_ok-rest.field-0.now ≡ Some (name_of to ++ asked.tail) = both.1 in
+    let rest : c.in_ok-rest.field-0.now ≡ name_of to ++ asked.tail = cc in
+    c.in_err-to.ensures.none to tail.0 (rest ∙ ap (λ (l : List ℕ). name_of to ++ l) tail.1))

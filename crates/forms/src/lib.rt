@@ -1,0 +1,26 @@
+//! Intervals from one written form into another: one text, or a stream of lines such as `PgIso PgIso P1Y1Y`.
+//!
+//! `reply` turns one text, `run` answers every line of a source with one line to a sink, and `top` is the program.
+//! A line that can't be answered has a reply as well, `refused` and the cause, so nothing stops and nothing is lost.
+#![tactic(auto)]
+
+mod answer;
+mod cause;
+mod faults;
+mod form;
+mod input;
+pub mod laws;
+mod line;
+mod memory_sink;
+mod memory_source;
+mod output;
+mod outside;
+mod program;
+
+pub use answer::{ConvertError, convert, reply};
+pub use cause::Cause;
+pub use form::Form;
+pub use memory_sink::MemSink;
+pub use memory_source::MemSource;
+pub use outside::{Failed, Sink, Source};
+pub use program::{RunEnd, run, top};

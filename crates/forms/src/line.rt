@@ -1,0 +1,62 @@
+//! Lines and the requests in them.
+ghost use Rattle.std.specs.Prelude.{◌≡◌, ◌<◌, ◌==◌, List, ℕ, ◌∷◌, ◌++◌, length, position, Option, IfSome, IfNone};
+ghost use Rattle.std.specs.Option.{option_copied};
+ghost use Rattle.forms.specs.Lines.{lines};
+ghost use Rattle.forms.specs.Replies.{IsRequest, IsNoRequest};
+ghost use Rattle.forms.specs.Reading.{NoSpace, behind, IsNamed};
+ghost use Rattle.forms.specs.declared.form.Form.{Form as AnyForm};
+
+use crate::form::Form;
+use std::str;
+
+/// The first line, and what follows its line feed.
+pub fn split_line(bytes: &[u8]) -> (&[u8], &[u8])
+    requires { 0 < length bytes.now }
+    ensures lines { lines bytes.now ≡ result.0.now ∷ lines result.1.now }
+    ensures shorter { length result.1.now < length bytes.now }
+{
+    match line_end(bytes) {
+        Some(end) => (&bytes[..end], &bytes[end + 1..]),
+        None => (bytes, &bytes[..0]),
+    }
+}
+
+/// Where the first line feed stands.
+fn line_end(bytes: &[u8]) -> Option<usize>
+    ensures { result ≡ position (λ byte. byte == 10) bytes.now }
+{
+    bytes.iter().position(|byte| *byte == b'\n')
+}
+
+/// The two forms and the text of a request, or None exactly where the line is none.
+pub fn request(line: &[u8]) -> Option<(Form, Form, &str)>
+    ensures found { IfSome result (λ r. IsRequest line.now r.0 r.1 r.2.now) }
+    ensures none { IfNone result (IsNoRequest line.now) }
+{
+    let Ok(line) = str::from_utf8(line) else {
+        return None;
+    };
+    let (from, rest) = split_form(line)?;
+    let (to, text) = split_form(rest?)?;
+    Some((from, to, text.unwrap_or("")))
+}
+
+/// The form that the first word names, and what follows the space behind it.
+fn split_form(text: &str) -> Option<(Form, Option<&str>)>
+    ensures found { IfSome result (λ r. IsNamed text.now r.0 (option_copied r.1)) }
+    ensures none { IfNone result ((form : AnyForm) (rest : Option (List ℕ)) → ¬ (IsNamed text.now form rest)) }
+{
+    let (name, rest) = split_word(text);
+    Some((Form::by_name(name)?, rest))
+}
+
+/// The bytes before the first space, and what follows it.
+fn split_word(text: &str) -> (&str, Option<&str>)
+    ensures word { NoSpace result.0.now }
+    ensures joined { text.now ≡ result.0.now ++ behind (option_copied result.1) }
+{
+    match text.split_once(' ') {
+        Some((word, rest)) => (word, Some(rest)),
+        None => (text, None),
+    }
+}
