@@ -1,5 +1,5 @@
 -- From the tally's answer to what a reader answers, for any shape that gives a text one list of counts.
-use Rattle.std.proofs.Common.{◌≡◌, ℕ, Bool, true, false, IsTrue, List, Option, Some, None, Result, Ok, Err, refl, sym, ◌∙◌, ap, subst}
+use Rattle.std.proofs.Common.{◌≡◌, ℕ, IsTrue, List, Some, None, Result, Ok, Err, sym, ◌∙◌, ap}
 use Rattle.scan_core.specs.Count.{Count}
 use Rattle.scan_core.specs.Sums.{fits, misfit}
 use Rattle.scan_core.specs.declared.share.Part.{Part}
@@ -7,7 +7,7 @@ use Rattle.scan_core.proofs.SumFacts.{misfit-none}
 use Rattle.pg_interval_2.specs.declared.interval.Interval.{Interval}
 use Rattle.pg_interval_2.specs.declared.error.ParseError.{ParseError}
 use Rattle.pg_interval_2.specs.declared.error.ParseError.TheVariants.{InvalidInterval, BadUnit, InvalidYearMonth, InvalidDay, InvalidTime}
-use Rattle.pg_interval_2.specs.Denotes.{Denotes, HasNoShape, sum_of}
+use Rattle.pg_interval_2.specs.Denotes.{Denotes, sum_of}
 use Rattle.pg_interval_2.specs.Tallies.{Answers}
 
 -- a text has one list of counts

@@ -1,24 +1,18 @@
 -- Where words spell no counts: letters that are no fresh name, and what begins no item.
-use Rattle.std.proofs.Common.{◌≡◌, ◌≢◌, if◌then◌else◌, ℕ, ◌+◌, ◌-◌, ◌<◌, ◌≤◌, ◌&&◌, ◌||◌, ◌==◌, ◌⊎◌, Bool, true, false, cond, not, IsTrue, nat_lt, List, [], ◌∷◌, ◌++◌, length, Option, Some, None, refl, sym, ◌∙◌, ap, subst, append_assoc, append-nil, length-append, arith, inl, inr, codes}
-use Rattle.std.specs.Char.{is_ascii_alphabetic}
+use Rattle.std.proofs.Common.{◌≡◌, ℕ, ◌+◌, ◌-◌, ◌<◌, Bool, true, false, cond, List, [], ◌∷◌, ◌++◌, length, Option, Some, None, refl, sym, ◌∙◌, ap, subst, append_assoc, append-nil, length-append, arith}
 use Rattle.std.specs.List.{list_all}
-use Rattle.std.proofs.lemmas.Bool.Decides.{nat_tests}
-use Rattle.scan_core.specs.Blanks.{is_blank, words, EndsWord, EndsInBlank}
+use Rattle.scan_core.specs.Blanks.{is_blank, words, EndsInBlank}
 use Rattle.scan_core.specs.Count.{Count}
-use Rattle.scan_core.specs.Number.{IsNumber}
 use Rattle.scan_core.specs.declared.share.Unit.{Unit as TimeUnit}
-use Rattle.scan_core.proofs.WordFacts.{NoBlanks, weight, ink, ink-append, ink-words, total_length, same_place, words-closed}
-use Rattle.pg_interval_2.specs.Clock.{IsClock, clock_counts}
-use Rattle.pg_interval_2.specs.Postgres.{IsItem, AreItems, IsFreshName, IsBadName, all_counts, counts_unit, has_distinct_units}
-use Rattle.pg_interval_2.specs.Reading.{Numeral, count_of, read_number}
-use Rattle.pg_interval_2.specs.ItemReading.{ClockFields, NextItem, ClockItem, NamedItem, NoItem, read_item, WordKind, ClockWord, GluedWord, NumberWord, OtherWord, kind_from, word_kind, Verdict, Spelled, BadLetters, Unspelled, judge_unit, judge_word, is_name, clock_of, verdict, after_blanks}
+use Rattle.scan_core.proofs.WordFacts.{NoBlanks, ink, ink-append, ink-words, total_length, same_place, words-closed}
+use Rattle.pg_interval_2.specs.Postgres.{AreItems, IsFreshName, IsBadName, all_counts, counts_unit, has_distinct_units}
+use Rattle.pg_interval_2.specs.Reading.{Numeral}
+use Rattle.pg_interval_2.specs.ItemReading.{Verdict, Spelled, BadLetters, judge_unit, verdict}
 use Rattle.pg_interval_2.specs.UnitNames.{unit_named}
-use Rattle.pg_interval_2.proofs.Numbers.{is_number}
-use Rattle.pg_interval_2.proofs.ItemFacts.{AreLetters, AreBlanks, both, are_skipped, letter_no_blank, first_letter}
-use Rattle.pg_interval_2.proofs.ItemsInFront.{named_read, clock_read}
-use Rattle.pg_interval_2.proofs.ItemsRead.{StandsNamed, StandsClock, Stands, item_stands}
-use Rattle.pg_interval_2.proofs.ItemWords.{number_no_blanks, clock_no_blanks, number_some, clock_some, letters_no_blanks, no_blanks-append, words_in_front, words-blanks, words-after_blanks, FirstWord, first_word}
-use Rattle.pg_interval_2.proofs.Verdicts.{Names, AreNames, glued_kind, number_kind, clock_kind, verdict-word, judge_pair, is_name_of, advance}
+use Rattle.pg_interval_2.proofs.ItemFacts.{AreLetters, AreBlanks, both, letter_no_blank, first_letter}
+use Rattle.pg_interval_2.proofs.ItemsRead.{StandsNamed}
+use Rattle.pg_interval_2.proofs.ItemWords.{number_no_blanks, number_some, letters_no_blanks, no_blanks-append, words_in_front, words-blanks}
+use Rattle.pg_interval_2.proofs.Verdicts.{Names, AreNames, glued_kind, number_kind, verdict-word, is_name_of, advance}
 
 -- ---- a number and letters, judged
 

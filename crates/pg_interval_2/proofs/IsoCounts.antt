@@ -1,16 +1,14 @@
 -- The pairs of an ISO text are read in one way.
-use Rattle.std.proofs.Common.{◌≡◌, ℕ, ◌+◌, ◌<◌, ◌≤◌, ◌&&◌, ◌==◌, ◌⊎◌, Bool, true, false, cond, List, [], ◌∷◌, ◌++◌, length, Option, Some, None, refl, sym, ◌∙◌, ap, subst, append_assoc, append-nil, arith, inl, inr, codes}
+use Rattle.std.proofs.Common.{◌≡◌, ℕ, ◌==◌, ◌⊎◌, Bool, true, false, List, [], ◌∷◌, ◌++◌, Option, Some, None, refl, sym, ◌∙◌, ap, subst, append_assoc, append-nil, arith, inl, inr, codes}
 use Rattle.std.specs.Char.{is_ascii_digit}
-use Rattle.std.specs.Option.{option_and_then}
 use Rattle.std.proofs.lemmas.Bool.Decides.{nat_tests}
 use Rattle.std.proofs.lemmas.Option.{option_and_then_some, some_pair_parts}
 use Rattle.scan_core.specs.Count.{Count}
-use Rattle.scan_core.specs.Join.{IsJoin}
 use Rattle.scan_core.specs.declared.share.Unit.{Unit as TimeUnit}
 use Rattle.scan_core.proofs.Joins.{Finds, join_same, join_values}
-use Rattle.pg_interval_2.specs.Iso.{unit_in, date_unit, time_unit, IsPair, ArePairs, IsIso, IsDateAlone, IsDateAndTime}
+use Rattle.pg_interval_2.specs.Iso.{unit_in, date_unit, time_unit, IsPair, ArePairs, IsIso}
 use Rattle.pg_interval_2.specs.Reading.{Numeral, count_of, read_letter, read_number, read_unsigned, read_pair}
-use Rattle.pg_interval_2.proofs.Numbers.{NoDigitFirst, NoPointFirst, finds_number, is_number}
+use Rattle.pg_interval_2.proofs.Numbers.{finds_number, is_number}
 
 date_letter : (letter : ℕ) (unit : TimeUnit) → date_unit letter ≡ Some unit → (is_ascii_digit letter ≡ false) × ((letter == 46) ≡ false)
 date_letter letter unit h = grind (arith, nat_tests)

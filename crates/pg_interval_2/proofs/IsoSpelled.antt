@@ -13,7 +13,7 @@ use Rattle.scan_core.proofs.DigitFacts.{digits_decimal}
 use Rattle.pg_interval_2.specs.Iso.{IsPair, ArePairs, IsIso, date_unit, time_unit}
 use Rattle.pg_interval_2.specs.IsoText.{iso_part, nonzero_digits, iso_decimal, iso_seconds, iso_date, iso_time, iso_text}
 use Rattle.pg_interval_2.specs.Parts.{minus, years_of, months_of, hours_of, minutes_of, seconds_of, subsecond_of}
-use Rattle.pg_interval_2.proofs.JoinLemmas.{IsJoin-append, IsJoin-one}
+use Rattle.scan_core.proofs.Joins.{IsJoin-append, IsJoin-one}
 use Rattle.pg_interval_2.proofs.WrittenDigits.{AreDigits-padded, length-padded}
 use Rattle.pg_interval_2.proofs.WrittenNumbers.{cond_two, IsNumber-whole, IsNumber-point}
 use Rattle.pg_interval_2.proofs.Signs.{abs_zero}

@@ -1,16 +1,10 @@
 -- An item that stands in front is read, and what is read is an item.
-use Rattle.std.proofs.Common.{◌≡◌, ◌≢◌, ℕ, ◌+◌, ◌<◌, ◌≤◌, ◌&&◌, ◌||◌, ◌==◌, ◌⊎◌, Bool, true, false, cond, IsTrue, nat_lt, List, [], ◌∷◌, ◌++◌, length, take, Option, Some, None, refl, sym, ◌∙◌, ap, subst, append_assoc, append-nil, length-append, arith, inl, inr, codes}
+use Rattle.std.proofs.Common.{◌≡◌, ℕ, ◌<◌, ◌&&◌, ◌==◌, Bool, true, false, cond, IsTrue, List, [], ◌∷◌, ◌++◌, length, refl, ap, arith}
 use Rattle.std.specs.Char.{is_ascii_digit, is_ascii_alphabetic}
 use Rattle.std.specs.List.{list_all}
 use Rattle.std.proofs.lemmas.Bool.Decides.{nat_tests}
 use Rattle.scan_core.specs.Blanks.{is_blank, EndsWord}
-use Rattle.scan_core.specs.Count.{Count}
-use Rattle.scan_core.specs.Digits.{AreDigits}
-use Rattle.scan_core.specs.Number.{IsSign, IsFraction, IsNumber}
-use Rattle.pg_interval_2.specs.Clock.{IsField, IsClock, clock_counts}
-use Rattle.pg_interval_2.specs.Reading.{Numeral, front_digits, after_digits, read_sign, read_fraction}
-use Rattle.pg_interval_2.specs.ItemReading.{after_blanks, front_letters, after_letters, ends_word, ClockFields, NextItem, ClockItem, NamedItem, NoItem, read_byte, closed_clock, read_seconds, read_clock, named_item, read_named, read_behind_digits, read_item}
-use Rattle.pg_interval_2.proofs.Numbers.{NoDigitFirst, NoPointFirst, NoSignFirst, front_of, after_of, front_are_digits, front_and_after, fraction_of, is_fraction, sign_of, is_sign, digits_no_sign, tail_no_digit, digit_is, is_digit, above_zero}
+use Rattle.pg_interval_2.specs.ItemReading.{after_blanks, front_letters, after_letters, ends_word}
 
 -- ---- letters and blanks
 

@@ -1,6 +1,6 @@
 -- The words that an item is.
-use Rattle.std.proofs.Common.{◌≡◌, ◌≢◌, ℕ, ◌+◌, ◌<◌, ◌≤◌, ◌&&◌, ◌||◌, ◌==◌, ◌⊎◌, Bool, true, false, cond, IsTrue, nat_lt, List, [], ◌∷◌, ◌++◌, length, Option, Some, None, refl, sym, ◌∙◌, ap, subst, append_assoc, append-nil, length-append, arith, inl, inr, codes}
-use Rattle.std.specs.Char.{is_ascii_digit, is_ascii_alphabetic, digit_value}
+use Rattle.std.proofs.Common.{◌≡◌, ℕ, ◌<◌, ◌≤◌, Bool, true, false, List, [], ◌∷◌, ◌++◌, length, refl, sym, ◌∙◌, ap, length-append, arith, inl, inr, codes}
+use Rattle.std.specs.Char.{is_ascii_alphabetic, digit_value}
 use Rattle.std.specs.List.{list_all}
 use Rattle.std.proofs.lemmas.Bool.Decides.{nat_tests}
 use Rattle.std.proofs.lemmas.Str.Parse.{digit_from_value}
@@ -9,9 +9,9 @@ use Rattle.scan_core.specs.Count.{Count}
 use Rattle.scan_core.specs.Digits.{AreDigits}
 use Rattle.scan_core.specs.Number.{IsSign, IsFraction, IsNumber}
 use Rattle.scan_core.proofs.WordFacts.{NoBlanks, words-blank, words-first}
-use Rattle.pg_interval_2.specs.Clock.{IsField, IsClock, clock_counts}
+use Rattle.pg_interval_2.specs.Clock.{IsClock}
 use Rattle.pg_interval_2.specs.ItemReading.{after_blanks}
-use Rattle.pg_interval_2.proofs.ItemFacts.{AreLetters, AreBlanks, both, letter_no_blank, are_skipped, first_blank}
+use Rattle.pg_interval_2.proofs.ItemFacts.{AreLetters, AreBlanks, both, letter_no_blank, are_skipped}
 
 -- ---- bytes that aren't blank
 

@@ -1,14 +1,12 @@
 -- What is read as an item stands in front.
-use Rattle.std.proofs.Common.{◌≡◌, ◌≢◌, ℕ, ◌+◌, ◌<◌, ◌≤◌, ◌&&◌, ◌||◌, ◌==◌, ◌⊎◌, Bool, true, false, cond, IsTrue, nat_lt, List, [], ◌∷◌, ◌++◌, length, take, Option, Some, None, refl, sym, ◌∙◌, ap, subst, append_assoc, append-nil, length-append, arith, inl, inr, codes}
-use Rattle.std.specs.Char.{is_ascii_digit, is_ascii_alphabetic}
+use Rattle.std.proofs.Common.{◌≡◌, ℕ, ◌+◌, ◌<◌, ◌&&◌, ◌==◌, Bool, true, false, cond, nat_lt, List, [], ◌∷◌, ◌++◌, length, Option, Some, None, refl, sym, ◌∙◌, ap, append_assoc, arith, inl, inr, codes}
 use Rattle.std.proofs.lemmas.Bool.Decides.{nat_tests}
-use Rattle.scan_core.specs.Blanks.{is_blank, EndsWord}
-use Rattle.scan_core.specs.Count.{Count}
+use Rattle.scan_core.specs.Blanks.{EndsWord}
 use Rattle.scan_core.specs.Digits.{AreDigits}
 use Rattle.scan_core.specs.Number.{IsSign, IsFraction, IsNumber}
-use Rattle.pg_interval_2.specs.Clock.{IsField, IsClock, clock_counts}
+use Rattle.pg_interval_2.specs.Clock.{IsClock, clock_counts}
 use Rattle.pg_interval_2.specs.Reading.{Numeral, front_digits, after_digits, read_sign, read_fraction}
-use Rattle.pg_interval_2.specs.ItemReading.{after_blanks, front_letters, after_letters, ends_word, ClockFields, NextItem, ClockItem, NamedItem, NoItem, read_byte, closed_clock, read_seconds, read_clock, named_item, read_named, read_behind_digits, read_item}
+use Rattle.pg_interval_2.specs.ItemReading.{after_blanks, front_letters, after_letters, ends_word, ClockFields, NextItem, ClockItem, NamedItem, NoItem, read_byte, read_seconds, read_clock, named_item, read_named, read_behind_digits, read_item}
 use Rattle.pg_interval_2.proofs.Numbers.{front_are_digits, front_and_after, is_fraction, is_sign, above_zero}
 use Rattle.pg_interval_2.proofs.ItemFacts.{AreLetters, AreBlanks, both, front_are_letters, letters_and_after, are_skipped, ends_from}
 

@@ -2,7 +2,6 @@ pub mod Widths
 pub mod WrittenDigits
 pub mod Signs
 pub mod AddsUp
-pub mod JoinLemmas
 pub mod WrittenCounts
 pub mod WrittenNumbers
 pub mod IsoSpelled

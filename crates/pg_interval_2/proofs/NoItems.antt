@@ -1,22 +1,20 @@
 -- What begins no item spells nothing.
-use Rattle.std.proofs.Common.{◌≡◌, ◌≢◌, if◌then◌else◌, ℕ, ◌+◌, ◌-◌, ◌<◌, ◌≤◌, ◌&&◌, ◌||◌, ◌==◌, ◌⊎◌, Bool, true, false, cond, not, IsTrue, nat_lt, List, [], ◌∷◌, ◌++◌, length, Option, Some, None, refl, sym, ◌∙◌, ap, subst, append_assoc, append-nil, length-append, arith, inl, inr, codes}
+use Rattle.std.proofs.Common.{◌≡◌, ℕ, ◌==◌, Bool, true, false, cond, nat_lt, List, [], ◌∷◌, ◌++◌, length, Option, Some, None, refl, sym, ◌∙◌, ap, subst, append_assoc, append-nil, arith}
 use Rattle.std.specs.Char.{is_ascii_alphabetic}
 use Rattle.std.specs.List.{list_all}
 use Rattle.std.proofs.lemmas.Bool.Decides.{nat_tests}
 use Rattle.scan_core.specs.Blanks.{is_blank, words, EndsWord}
 use Rattle.scan_core.specs.Count.{Count}
 use Rattle.scan_core.specs.Number.{IsNumber}
-use Rattle.scan_core.specs.declared.share.Unit.{Unit as TimeUnit}
-use Rattle.pg_interval_2.specs.Clock.{IsClock, clock_counts}
+use Rattle.pg_interval_2.specs.Clock.{clock_counts}
 use Rattle.pg_interval_2.specs.Postgres.{has_distinct_units}
 use Rattle.pg_interval_2.specs.Reading.{Numeral, read_number}
-use Rattle.pg_interval_2.specs.ItemReading.{ClockFields, NextItem, ClockItem, NamedItem, NoItem, read_item, WordKind, ClockWord, GluedWord, NumberWord, OtherWord, kind_from, word_kind, Verdict, Spelled, BadLetters, Unspelled, judge_unit, judge_word, is_name, clock_of, verdict, after_blanks}
-use Rattle.pg_interval_2.specs.UnitNames.{unit_named}
+use Rattle.pg_interval_2.specs.ItemReading.{ClockFields, NextItem, ClockItem, NamedItem, NoItem, read_item, NumberWord, OtherWord, kind_from, word_kind, Verdict, Unspelled, judge_word, is_name, clock_of, verdict, after_blanks}
 use Rattle.pg_interval_2.proofs.Numbers.{is_number, above_zero}
-use Rattle.pg_interval_2.proofs.ItemFacts.{AreLetters, AreBlanks, both, are_skipped}
+use Rattle.pg_interval_2.proofs.ItemFacts.{AreBlanks, both, are_skipped}
 use Rattle.pg_interval_2.proofs.ItemsInFront.{named_read, clock_read}
-use Rattle.pg_interval_2.proofs.ItemsRead.{StandsNamed, StandsClock, Stands, item_stands}
-use Rattle.pg_interval_2.proofs.ItemWords.{clock_no_blanks, clock_some, words_in_front, words-after_blanks, FirstWord, first_word}
+use Rattle.pg_interval_2.proofs.ItemsRead.{StandsClock, Stands, item_stands}
+use Rattle.pg_interval_2.proofs.ItemWords.{clock_no_blanks, clock_some, words_in_front, words-after_blanks, first_word}
 use Rattle.pg_interval_2.proofs.Verdicts.{Names, clock_kind, verdict-word, judge_pair}
 
 ends_both : (xs ys : List ℕ) → EndsWord xs → EndsWord ys → EndsWord (xs ++ ys)

@@ -1,11 +1,10 @@
 -- A text in `postgres` style has one list of counts.
-use Rattle.std.proofs.Common.{◌≡◌, ℕ, ◌<◌, Bool, true, false, cond, IsTrue, nat_lt, List, [], ◌∷◌, length, Option, Some, refl, sym, ◌∙◌, ap, subst, arith, ◌||◌}
+use Rattle.std.proofs.Common.{◌≡◌, ℕ, Bool, true, false, cond, IsTrue, nat_lt, List, [], ◌∷◌, length, Option, Some, refl, ◌∙◌, ap, ◌||◌}
 use Rattle.std.specs.Char.{is_ascii_alphabetic}
 use Rattle.std.specs.List.{list_all}
 use Rattle.std.specs.Prelude.{bytes_eq}
 use Rattle.std.proofs.lemmas.Slice.Eq.{bytes_eq-Decides}
 use Rattle.scan_core.specs.Blanks.{words}
-use Rattle.scan_core.specs.Count.{Count}
 use Rattle.scan_core.specs.declared.share.Unit.{Unit as TimeUnit}
 use Rattle.scan_core.specs.declared.share.Unit.TheVariants.{Year, Month, Day, Hour, Minute, Second}
 use Rattle.pg_interval_2.specs.ItemReading.{is_name}
@@ -13,7 +12,7 @@ use Rattle.pg_interval_2.specs.Postgres.{IsPostgres}
 use Rattle.pg_interval_2.specs.UnitNames.{postgres_names, is_one_of, unit_named}
 use Rattle.pg_interval_2.proofs.Answering.{HasOneList}
 use Rattle.pg_interval_2.proofs.BadNames.{one_counts}
-use Rattle.pg_interval_2.proofs.ItemFacts.{AreLetters, both}
+use Rattle.pg_interval_2.proofs.ItemFacts.{both}
 use Rattle.pg_interval_2.proofs.Numbers.{above_zero}
 use Rattle.pg_interval_2.proofs.Verdicts.{AreNames}
 

@@ -1,11 +1,11 @@
 -- How reading the items of a text ends: at its end, at a bad name, or at what is no item.
-use Rattle.std.proofs.Common.{◌≡◌, ◌≢◌, ℕ, ◌+◌, ◌-◌, ◌<◌, ◌≤◌, ◌⊎◌, Bool, true, false, List, [], ◌∷◌, ◌++◌, length, refl, sym, ◌∙◌, ap, subst, append_assoc, append-nil, length-append, arith, inl, inr}
-use Rattle.scan_core.specs.Blanks.{is_blank, words, EndsInBlank}
+use Rattle.std.proofs.Common.{◌≡◌, ◌≢◌, ℕ, ◌+◌, ◌-◌, ◌≤◌, ◌⊎◌, false, List, [], ◌∷◌, ◌++◌, length, refl, sym, ◌∙◌, ap, subst, append-nil, length-append, arith, inl, inr}
+use Rattle.scan_core.specs.Blanks.{is_blank, words}
 use Rattle.scan_core.specs.Count.{Count}
 use Rattle.scan_core.specs.declared.share.Unit.TheVariants.{Year}
 use Rattle.scan_core.proofs.WordFacts.{total_length}
 use Rattle.pg_interval_2.specs.declared.counted.Counted.{Counted}
-use Rattle.pg_interval_2.specs.ItemReading.{ClockFields, NextItem, ClockItem, NamedItem, NoItem, read_item, clock_of, verdict, Verdict, Spelled, BadLetters, Unspelled}
+use Rattle.pg_interval_2.specs.ItemReading.{ClockFields, ClockItem, NamedItem, NoItem, read_item, clock_of, verdict, Spelled, BadLetters, Unspelled}
 use Rattle.pg_interval_2.specs.Postgres.{IsFreshName, IsPostgres, IsPostgresBadName, has_distinct_units}
 use Rattle.pg_interval_2.specs.PostgresTally.{HasNoBadName, IsPostgresTally}
 use Rattle.pg_interval_2.specs.Reading.{Numeral, count_of}

@@ -18,7 +18,7 @@ use Rattle.pg_interval_2.specs.Postgres.{IsNamed, IsItem, AreItems, IsPostgres, 
 use Rattle.pg_interval_2.specs.PostgresText.{counted_name, part_words, clock_words, postgres_words, postgres_text}
 use Rattle.pg_interval_2.specs.UnitNames.{postgres_names, unit_named}
 use Rattle.pg_interval_2.proofs.ClockCounts.{micros_digits, three_counts}
-use Rattle.pg_interval_2.proofs.JoinLemmas.{IsJoin-append, IsJoin-one}
+use Rattle.scan_core.proofs.Joins.{IsJoin-append, IsJoin-one}
 use Rattle.pg_interval_2.proofs.PostgresWords.{AreWords-postgres_words}
 use Rattle.pg_interval_2.proofs.Spaces.{words-join}
 use Rattle.pg_interval_2.proofs.UnitOrder.{RisesFrom, rises_front, rises_filter, distinct_units}

@@ -1,26 +1,22 @@
 -- Item after item of a text in `postgres` style.
-use Rattle.std.proofs.Common.{◌≡◌, ◌≢◌, ℕ, ◌+◌, ◌<◌, ◌≤◌, ◌==◌, ◌⊎◌, Bool, true, false, IsTrue, List, [], ◌∷◌, ◌++◌, length, Some, refl, sym, ◌∙◌, ap, subst, append_assoc, append-nil, length-append, arith, inl, inr}
+use Rattle.std.proofs.Common.{◌≡◌, ◌≢◌, ℕ, ◌<◌, ◌≤◌, ◌⊎◌, true, false, IsTrue, List, [], ◌∷◌, ◌++◌, length, Some, refl, sym, ◌∙◌, ap, subst, append_assoc, append-nil, length-append, arith, inl, inr}
 use Rattle.std.specs.List.{list_all}
-use Rattle.std.proofs.lemmas.Bool.Decides.{nat_tests}
 use Rattle.scan_core.specs.Blanks.{is_blank, words, EndsWord, EndsInBlank}
 use Rattle.scan_core.specs.Count.{Count}
-use Rattle.scan_core.specs.Join.{IsJoin}
 use Rattle.scan_core.specs.declared.share.Unit.{Unit as TimeUnit}
 use Rattle.scan_core.proofs.Joins.{join_push}
-use Rattle.scan_core.proofs.WordFacts.{words-closed, words-behind, total_length}
+use Rattle.scan_core.proofs.WordFacts.{words-closed, words-behind}
 use Rattle.pg_interval_2.specs.declared.counted.Counted.{Counted}
 use Rattle.pg_interval_2.specs.CountedItems.{IsCounted, TakesItem}
-use Rattle.pg_interval_2.specs.ItemReading.{ClockFields, NextItem, ClockItem, NamedItem, NoItem, read_item, clock_of, verdict, Verdict, Spelled, BadLetters, Unspelled, after_blanks}
-use Rattle.pg_interval_2.specs.Postgres.{IsItem, IsNamed, AreItems, IsBadName, IsFreshName, IsPostgres, IsPostgresBadName, all_counts, has_distinct_units}
+use Rattle.pg_interval_2.specs.ItemReading.{ClockFields, clock_of, after_blanks}
+use Rattle.pg_interval_2.specs.Postgres.{IsItem, AreItems, all_counts, has_distinct_units}
 use Rattle.pg_interval_2.specs.Reading.{Numeral, count_of}
 use Rattle.pg_interval_2.specs.UnitNames.{postgres_names, unit_named}
-use Rattle.pg_interval_2.proofs.BadNames.{behind_items, items_verdict, bad_verdict}
 use Rattle.pg_interval_2.proofs.CountedFacts.{clock_long, named_long}
 use Rattle.pg_interval_2.proofs.ItemFacts.{AreBlanks, both, are_skipped}
 use Rattle.pg_interval_2.proofs.ItemsRead.{StandsNamed, StandsClock, Stands, item_stands}
 use Rattle.pg_interval_2.proofs.ItemWords.{number_no_blanks, clock_no_blanks, number_some, clock_some, letters_no_blanks, no_blanks-append, words_in_front, words-blanks}
-use Rattle.pg_interval_2.proofs.NoItems.{after_solid, no_item_verdict, clock_again_verdict}
-use Rattle.pg_interval_2.proofs.PostgresCounts.{are_names}
+use Rattle.pg_interval_2.proofs.NoItems.{after_solid}
 
 -- ---- an item and the words that it is
 

@@ -1,16 +1,17 @@
 -- A tally with one more count.
-use Rattle.std.proofs.Common.{◌≡◌, ◌≢◌, ℕ, ◌+◌, ◌&&◌, Bool, true, false, List, [], ◌∷◌, ◌++◌, ℤ, pos, ◌+ℤ◌, refl, sym, ◌∙◌, ap, arith}
+use Rattle.std.proofs.Common.{◌≡◌, ℕ, ◌&&◌, Bool, true, false, List, [], ◌∷◌, ◌++◌, ℤ, pos, ◌+ℤ◌, refl, sym, ◌∙◌, ap, arith}
 use Rattle.std.proofs.lemmas.Int.{ints}
 use Rattle.scan_core.specs.Count.{Count, count_of}
 use Rattle.scan_core.specs.Digits.{AreDigits}
-use Rattle.scan_core.specs.Shares.{share, signed, is_within, fits_type, main_part}
+use Rattle.scan_core.specs.Shares.{share, signed, fits_type, main_part}
 use Rattle.scan_core.specs.Sums.{total}
 use Rattle.scan_core.specs.declared.share.Part.{Part}
 use Rattle.scan_core.specs.declared.share.Part.TheVariants.{Months, Days, Micros}
 use Rattle.scan_core.specs.declared.share.Unit.{Unit as TimeUnit}
 use Rattle.scan_core.specs.declared.share.Unit.TheVariants.{Year, Month, Day, Hour, Minute, Second}
-use Rattle.scan_core.proofs.ShareFacts.{each_part_fits, other_part_fits}
+use Rattle.scan_core.proofs.ShareFacts.{each_part_fits}
 use Rattle.scan_core.proofs.SumFacts.{each_fits_push, total_push}
+use Rattle.pg_interval_2.proofs.Signs.{signed-zero, fits_type-signed_zero}
 use Rattle.pg_interval_2.specs.declared.tally.Tally.{Tally}
 use Rattle.pg_interval_2.specs.Tallies.{Tallies, each_fits, marked}
 
@@ -106,13 +107,8 @@ mark_micros tally counts c month_fits month_zero day_fits day_zero out h =
       micro_sum = λ m d u. absurd (not_both _ off u);
     }
 
-zero_fits_32 : (negative : Bool) → is_within 32 (signed negative 0) ≡ true
-zero_fits_32 true = refl
-zero_fits_32 false = refl
-
-signed_zero : (negative : Bool) → signed negative 0 ≡ pos 0
-signed_zero true = refl
-signed_zero false = refl
+zero_fits : (negative : Bool) → fits_type Months (signed negative 0) ≡ true
+zero_fits negative = fits_type-signed_zero Months negative
 
 -- one more count whose share doesn't fit, at the end
 pub tally_mark : (unit : TimeUnit) (negative : Bool) (whole fraction : List ℕ) (tally : Tally) (counts : List Count)
@@ -120,7 +116,7 @@ pub tally_mark : (unit : TimeUnit) (negative : Bool) (whole fraction : List ℕ)
     → Tallies (marked (main_part unit) tally) (counts ++ count_of negative whole fraction unit ∷ [])
 tally_mark Year n w f tally counts out h = mark_months tally counts (count_of n w f Year) out h
 tally_mark Month n w f tally counts out h = mark_months tally counts (count_of n w f Month) out h
-tally_mark Day n w f tally counts out h = mark_days tally counts (count_of n w f Day) (zero_fits_32 n) (signed_zero n) out h
-tally_mark Hour n w f tally counts out h = mark_micros tally counts (count_of n w f Hour) (zero_fits_32 n) (signed_zero n) (zero_fits_32 n) (signed_zero n) out h
-tally_mark Minute n w f tally counts out h = mark_micros tally counts (count_of n w f Minute) (zero_fits_32 n) (signed_zero n) (zero_fits_32 n) (signed_zero n) out h
-tally_mark Second n w f tally counts out h = mark_micros tally counts (count_of n w f Second) (zero_fits_32 n) (signed_zero n) (zero_fits_32 n) (signed_zero n) out h
+tally_mark Day n w f tally counts out h = mark_days tally counts (count_of n w f Day) (zero_fits n) (signed-zero n) out h
+tally_mark Hour n w f tally counts out h = mark_micros tally counts (count_of n w f Hour) (zero_fits n) (signed-zero n) (zero_fits n) (signed-zero n) out h
+tally_mark Minute n w f tally counts out h = mark_micros tally counts (count_of n w f Minute) (zero_fits n) (signed-zero n) (zero_fits n) (signed-zero n) out h
+tally_mark Second n w f tally counts out h = mark_micros tally counts (count_of n w f Second) (zero_fits n) (signed-zero n) (zero_fits n) (signed-zero n) out h

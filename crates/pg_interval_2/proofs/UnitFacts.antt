@@ -1,19 +1,15 @@
 -- Units as bits, and counts of units.
-use Rattle.std.proofs.Common.{◌≡◌, ◌≢◌, ℕ, ◌+◌, ◌*◌, ◌%◌, ◌^◌, ◌<◌, ◌≤◌, ◌&&◌, ◌||◌, ◌==◌, Bool, true, false, not, List, [], ◌∷◌, ◌++◌, refl, sym, ◌∙◌, ap, arith, bit_or}
-use Rattle.std.specs.Int.{bit_at, w8}
-use Rattle.std.specs.List.{list_all, list_any}
+use Rattle.std.proofs.Common.{◌≡◌, ◌≢◌, ℕ, ◌+◌, ◌*◌, ◌<◌, ◌≤◌, ◌&&◌, ◌==◌, Bool, true, false, List, [], ◌∷◌, refl, sym, arith}
+use Rattle.std.specs.List.{list_all}
 use Rattle.std.specs.Char.{digit_value}
 use Rattle.std.specs.Str.Parse.{digits_value_after}
 use Rattle.std.proofs.lemmas.Bool.Decides.{nat_tests}
-use Rattle.std.proofs.lemmas.Nat.Bits.{bit_at_set_same, bit_at_set_other}
 use Rattle.std.proofs.lemmas.Str.{digit_value_digit}
 use Rattle.std.proofs.lemmas.Str.Parse.{digit_from_value}
-use Rattle.std.proofs.lemmas.List.Folds.{list_any-append}
-use Rattle.scan_core.specs.Count.{Count}
 use Rattle.scan_core.specs.Digits.{AreDigits, number_of}
 use Rattle.scan_core.specs.declared.share.Unit.{Unit as TimeUnit}
 use Rattle.scan_core.specs.declared.share.Unit.TheVariants.{Year, Month, Day, Hour, Minute, Second}
-use Rattle.pg_interval_2.specs.Postgres.{place_of, counts_unit}
+use Rattle.pg_interval_2.specs.Postgres.{place_of}
 
 pub place_small : (unit : TimeUnit) → place_of unit < 8
 place_small Year = omega arith

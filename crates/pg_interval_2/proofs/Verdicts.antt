@@ -1,25 +1,20 @@
 -- What words spell: items are gone over, a bad name is found, and what begins no item spells nothing.
-use Rattle.std.proofs.Common.{◌≡◌, ◌≢◌, if◌then◌else◌, ℕ, ◌+◌, ◌-◌, ◌<◌, ◌≤◌, ◌&&◌, ◌||◌, ◌==◌, ◌⊎◌, Bool, true, false, cond, not, IsTrue, nat_lt, List, [], ◌∷◌, ◌++◌, length, Option, Some, None, refl, sym, ◌∙◌, ap, subst, append_assoc, append-nil, length-append, arith, inl, inr, codes}
-use Rattle.std.specs.Char.{is_ascii_alphabetic}
-use Rattle.std.specs.List.{list_all}
+use Rattle.std.proofs.Common.{◌≡◌, if◌then◌else◌, ℕ, ◌+◌, ◌<◌, ◌||◌, ◌==◌, Bool, true, false, not, List, [], ◌∷◌, ◌++◌, length, Some, refl, sym, ◌∙◌, ap, append_assoc, append-nil, arith, inl, inr}
 use Rattle.std.proofs.lemmas.Bool.Decides.{nat_tests}
 use Rattle.std.proofs.lemmas.List.Folds.{list_any-append}
-use Rattle.scan_core.specs.Blanks.{is_blank, words, EndsWord}
 use Rattle.scan_core.specs.Count.{Count}
 use Rattle.scan_core.specs.Join.{IsJoin}
 use Rattle.scan_core.specs.Number.{IsNumber}
 use Rattle.scan_core.specs.declared.share.Unit.{Unit as TimeUnit}
-use Rattle.scan_core.proofs.WordFacts.{NoBlanks, total_length, total_length-append}
+use Rattle.scan_core.proofs.WordFacts.{total_length, total_length-append}
 use Rattle.pg_interval_2.specs.Clock.{IsClock, clock_counts}
-use Rattle.pg_interval_2.specs.Postgres.{IsNamed, IsItem, AreItems, IsFreshName, IsBadName, all_counts, place_of, counts_unit, has_distinct_units}
-use Rattle.pg_interval_2.specs.Reading.{Numeral, count_of, read_number}
-use Rattle.pg_interval_2.specs.ItemReading.{ClockFields, NextItem, ClockItem, NamedItem, NoItem, read_item, WordKind, ClockWord, GluedWord, NumberWord, OtherWord, kind_from, word_kind, Verdict, Spelled, BadLetters, Unspelled, judge_unit, judge_word, is_name, clock_of, verdict, after_blanks}
+use Rattle.pg_interval_2.specs.Postgres.{IsItem, all_counts, place_of, counts_unit, has_distinct_units}
+use Rattle.pg_interval_2.specs.Reading.{Numeral, read_number}
+use Rattle.pg_interval_2.specs.ItemReading.{read_item, ClockWord, GluedWord, NumberWord, word_kind, Verdict, Unspelled, judge_unit, judge_word, is_name, verdict}
 use Rattle.pg_interval_2.specs.UnitNames.{unit_named}
-use Rattle.pg_interval_2.proofs.Numbers.{finds_number, is_number}
-use Rattle.pg_interval_2.proofs.ItemFacts.{AreLetters, AreBlanks, both, are_skipped}
+use Rattle.pg_interval_2.proofs.Numbers.{finds_number}
+use Rattle.pg_interval_2.proofs.ItemFacts.{AreLetters, both}
 use Rattle.pg_interval_2.proofs.ItemsInFront.{number_alone, named_read, clock_read, positive}
-use Rattle.pg_interval_2.proofs.ItemsRead.{StandsNamed, StandsClock, Stands, item_stands}
-use Rattle.pg_interval_2.proofs.ItemWords.{number_no_blanks, clock_no_blanks, number_some, clock_some, letters_no_blanks, words_in_front, words-blanks, words-after_blanks, FirstWord, first_word}
 
 -- ---- kinds of words
 

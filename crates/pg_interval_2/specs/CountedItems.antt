@@ -1,5 +1,5 @@
 -- Items counted, no unit twice: cited by private contracts alone.
-use Rattle.std.specs.Prelude.{◌≡◌, ◌⊎◌, ℕ, ◌+◌, ◌≤◌, length, Bool, true, false, IsTrue, List, [], ◌∷◌, ◌++◌, Some, filter}
+use Rattle.std.specs.Prelude.{◌≡◌, ◌⊎◌, ℕ, ◌+◌, ◌≤◌, length, Bool, true, false, List, [], ◌∷◌, ◌++◌, Some, filter}
 use Rattle.scan_core.specs.Count.{Count}
 use Rattle.scan_core.specs.Digits.{AreDigits}
 use Rattle.scan_core.specs.declared.share.Unit.{Unit as TimeUnit}

@@ -1,5 +1,5 @@
 -- What a text denotes, for any style. A style is a shape: a relation between a whole text and the counts that it spells.
-use Rattle.std.specs.Prelude.{◌≡◌, ℕ, IsTrue, List, Option, Some}
+use Rattle.std.specs.Prelude.{◌≡◌, ℕ, IsTrue, List, Some}
 use Rattle.scan_core.specs.Count.{Count}
 use Rattle.scan_core.specs.Sums.{total, fits, misfit}
 use Rattle.scan_core.specs.declared.share.Part.{Part}

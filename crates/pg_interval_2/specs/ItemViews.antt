@@ -1,5 +1,4 @@
 -- The items of the code, without where they lie in the text: cited by private contracts alone.
-use Rattle.std.specs.Prelude.{ℕ, List}
 use Rattle.pg_interval_2.specs.declared.items.Clock.{Clock}
 use Rattle.pg_interval_2.specs.declared.items.Item.{Item}
 use Rattle.pg_interval_2.specs.declared.items.Item.TheVariants as code

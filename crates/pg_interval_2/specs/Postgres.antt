@@ -1,6 +1,6 @@
 -- The `postgres` style, PostgreSQL's own default (its manual, section 8.5.5, "Interval Output"): items with blanks between them,
 -- each a number and the name of a unit, or a clock: `1 year 2 mons 3 days 04:05:06`. No unit is counted twice.
-use Rattle.std.specs.Prelude.{◌≡◌, ◌⊎◌, ℕ, ◌+◌, ◌<◌, length, Bool, true, false, ◌&&◌, not, ◌==◌, IsTrue, List, [], ◌∷◌, ◌++◌, Option, Some}
+use Rattle.std.specs.Prelude.{◌≡◌, ◌⊎◌, ℕ, ◌+◌, ◌<◌, length, Bool, true, false, ◌&&◌, not, ◌==◌, IsTrue, List, [], ◌∷◌, ◌++◌, Some}
 use Rattle.std.specs.List.{list_any, list_all}
 use Rattle.std.specs.Char.{is_ascii_alphabetic}
 use Rattle.scan_core.specs.Blanks.{is_blank, words, EndsWord, EndsInBlank}

@@ -1,5 +1,5 @@
 -- What reading the items of a text answers: cited by private contracts alone.
-use Rattle.std.specs.Prelude.{◌≡◌, ℕ, List}
+use Rattle.std.specs.Prelude.{ℕ, List}
 use Rattle.scan_core.specs.Count.{Count}
 use Rattle.pg_interval_2.specs.declared.postgres.Unread.{Unread}
 use Rattle.pg_interval_2.specs.declared.postgres.Unread.TheVariants.{Shape, Name}

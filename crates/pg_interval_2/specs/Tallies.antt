@@ -1,5 +1,5 @@
 -- What a tally of counts knows: cited by private contracts alone.
-use Rattle.std.specs.Prelude.{◌≡◌, ℕ, Bool, true, false, IsTrue, List, Option, Some, Result, Ok, Err}
+use Rattle.std.specs.Prelude.{◌≡◌, Bool, true, false, IsTrue, List, Some, Result, Ok, Err}
 use Rattle.std.specs.List.{list_all}
 use Rattle.scan_core.specs.Count.{Count}
 use Rattle.scan_core.specs.Shares.{share, fits_type}

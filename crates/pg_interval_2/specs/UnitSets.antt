@@ -1,5 +1,5 @@
 -- Sets of units, a bit for each: cited by private contracts alone.
-use Rattle.std.specs.Prelude.{ℕ, Bool, ◌==◌}
+use Rattle.std.specs.Prelude.{Bool, ◌==◌}
 use Rattle.std.specs.Int.{bit_at}
 use Rattle.scan_core.specs.declared.share.Unit.{Unit as TimeUnit}
 use Rattle.pg_interval_2.specs.declared.units.Units.{Units}

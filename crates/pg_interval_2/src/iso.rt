@@ -90,3 +90,76 @@ impl Interval {
         }
     }
 }
+
+#[cfg(test)]
+mod tests {
+    use super::*;
+    use std::test::Fail;
+
+    const NONE: ParseError = ParseError::InvalidInterval("not an iso interval");
+
+    const MONTHS: ParseError = ParseError::InvalidYearMonth(
+        "Invalid year/month interval overflow detected.",
+    );
+
+    const DAYS: ParseError = ParseError::InvalidDay("Invalid day interval overflow detected.");
+
+    const TIME: ParseError = ParseError::InvalidTime("Invalid time interval overflow detected.");
+
+    #[test]
+    fn reads_the_sum_of_all_counts(rt: HostRuntime) -> Result<(), Fail> {
+        for (text, want) in [
+            ("P1Y2M3DT4H5M6S", (14, 3, 14_706_000_000)),
+            ("PT", (0, 0, 0)),
+            ("PT5S5S", (0, 0, 10_000_000)),
+            ("P1Y1Y", (24, 0, 0)),
+            ("PT5.H", (0, 0, 18_000_000_000)),
+            ("P1H1M", (1, 0, 3_600_000_000)),
+            ("P1.99Y", (24, 0, 0)),
+            ("P1.2YT0S", (14, 0, 0)),
+            ("P1.2MT0S", (1, 6, 0)),
+            ("P0.5D", (0, 0, 43_200_000_000)),
+            ("PT0.999H", (0, 0, 3_600_000_000)),
+            ("PT1.123456S", (0, 0, 1_123_456)),
+            ("PT0.0000005S", (0, 0, 1)),
+            ("PT-0.0000005S", (0, 0, -1)),
+            ("P2147483647D1D-1D", (0, i32::MAX, 0)),
+            ("P-178956970Y-8M", (i32::MIN, 0, 0)),
+            ("P-2147483648D", (0, i32::MIN, 0)),
+            ("PT-2562047788H-54.775808S", (0, 0, i64::MIN)),
+        ] {
+            let want = Interval::new(want.0, want.1, want.2);
+            assert_eq!(rt; Interval::from_iso(text), Ok(want), "at {text}");
+        }
+        Ok(())
+    }
+
+    #[test]
+    fn refuses_by_cause(rt: HostRuntime) -> Result<(), Fail> {
+        for (text, want) in [
+            ("", NONE),
+            ("P", NONE),
+            ("p1d", NONE),
+            ("PP1D", NONE),
+            ("P1T2H", NONE),
+            ("PTT", NONE),
+            ("PT-", NONE),
+            ("PT10", NONE),
+            ("P+1D", NONE),
+            ("P1.2.3D", NONE),
+            ("PD", NONE),
+            ("P.D", NONE),
+            ("P1S", NONE),
+            ("P1D ", NONE),
+            ("P178956971Y", MONTHS),
+            ("P2147483648D", DAYS),
+            ("P9999999999D-9999999999D", DAYS),
+            ("PT2562047789H", TIME),
+            ("P2147483648DT2562047789H178956971Y", MONTHS),
+        ] {
+            assert_eq!(rt; Interval::from_iso(text), Err(want), "at {text}");
+            assert_eq!(rt; want.is_range(), want != NONE);
+        }
+        Ok(())
+    }
+}

@@ -64,3 +64,69 @@ impl Interval {
         }
     }
 }
+
+#[cfg(test)]
+mod tests {
+    use super::*;
+    use std::test::Fail;
+
+    const NONE: ParseError = ParseError::InvalidInterval("not a postgres interval");
+
+    const TIME: ParseError = ParseError::InvalidTime("Invalid time interval overflow detected.");
+
+    #[test]
+    fn reads_items_in_any_order(rt: HostRuntime) -> Result<(), Fail> {
+        for (text, want) in [
+            ("1 years 1 months 1 days 1 hours", (13, 1, 3_600_000_000)),
+            ("1 year 2 mons 3 days 04:05:06", (14, 3, 14_706_000_000)),
+            ("04:05:06 3 days 2 mons 1 year", (14, 3, 14_706_000_000)),
+            (
+                "-1 year -2 mons +3 days -04:05:06",
+                (-14, 3, -14_706_000_000),
+            ),
+            ("1 hours 00:02:03", (0, 0, 3_723_000_000)),
+            ("1.5years", (18, 0, 0)),
+            ("+1 day", (0, 1, 0)),
+            ("", (0, 0, 0)),
+            (" \t\r\n", (0, 0, 0)),
+            ("1 day\r", (0, 1, 0)),
+            ("23:59:59.5", (0, 0, 86_399_500_000)),
+            ("0:00:00.1234567", (0, 0, 123_456)),
+            ("0:00:00.", (0, 0, 0)),
+            ("1 day 00:00:00", (0, 1, 0)),
+        ] {
+            let want = Interval::new(want.0, want.1, want.2);
+            assert_eq!(rt; Interval::from_postgres(text), Ok(want), "at {text}");
+        }
+        Ok(())
+    }
+
+    #[test]
+    fn refuses_by_cause(rt: HostRuntime) -> Result<(), Fail> {
+        for (text, want) in [
+            ("1 day 2 day", ParseError::BadUnit { start: 8, end: 11 }),
+            ("1 day 2day", ParseError::BadUnit { start: 7, end: 10 }),
+            ("1 fortnight", ParseError::BadUnit { start: 2, end: 11 }),
+            ("1 month", ParseError::BadUnit { start: 2, end: 7 }),
+            (
+                "1 year 1 mon 1 day 1 hour 1 minute 1 second 5 x",
+                ParseError::BadUnit { start: 46, end: 47 },
+            ),
+            ("1 year 1 mon 1 day 1 hour 1 minute 1 second 5", NONE),
+            ("1 day x", NONE),
+            ("1 day 2", NONE),
+            ("1 hours 01:02:03", NONE),
+            ("1 day --2 hours", NONE),
+            ("5 00:00:00 days", NONE),
+            ("1\u{A0}day", NONE),
+            ("1 day 12:30", NONE),
+            ("1.:00:00", NONE),
+            ("day", NONE),
+            ("9223372036854775808:00:00", TIME),
+        ] {
+            assert_eq!(rt; Interval::from_postgres(text), Err(want), "at {text}");
+            assert_eq!(rt; want.is_range(), want == TIME);
+        }
+        Ok(())
+    }
+}

@@ -1,5 +1,5 @@
 -- Words: blanks before them don't count, and a word that ends is the first.
-use Rattle.std.proofs.Common.{◌≡◌, ◌≢◌, ℕ, ◌+◌, ◌<◌, ◌≤◌, Bool, true, false, cond, IsTrue, List, [], ◌∷◌, ◌++◌, length, refl, sym, ◌∙◌, ap, subst, append_assoc, append-nil, length-append, arith, inl, inr}
+use Rattle.std.proofs.Common.{◌≡◌, ℕ, ◌+◌, Bool, true, false, cond, List, [], ◌∷◌, ◌++◌, length, refl, sym, ◌∙◌, ap, append_assoc, append-nil, arith, inl, inr}
 use Rattle.std.specs.Prelude.{if◌then◌else◌}
 use Rattle.scan_core.specs.Blanks.{is_blank, onto_first, words, EndsWord, EndsInBlank}
 
@@ -106,7 +106,7 @@ behind_one true x all rest h = h
 behind_one false x all rest h = ap (λ (l : List (List ℕ)). (x ∷ []) ∷ l) h
 
 behind_two : (t u : Bool) (x : ℕ) (all front rest : List (List ℕ)) → all ≡ front ++ rest → (u ≡ false → onto_first x (front ++ rest) ≡ onto_first x front ++ rest)
-  → cond t all (cond u ((x ∷ []) ∷ all) (onto_first x all)) ≡ cond t front (cond u ((x ∷ []) ∷ front) (onto_first x front)) ++ rest
+    → cond t all (cond u ((x ∷ []) ∷ all) (onto_first x all)) ≡ cond t front (cond u ((x ∷ []) ∷ front) (onto_first x front)) ++ rest
 behind_two true u x all front rest h onto = h
 behind_two false true x all front rest h onto = ap (λ (l : List (List ℕ)). (x ∷ []) ∷ l) h
 behind_two false false x all front rest h onto = ap (onto_first x) h ∙ onto refl

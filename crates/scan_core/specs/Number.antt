@@ -1,6 +1,6 @@
 -- Decimal numbers: an optional sign, then ASCII digits with at most one point among, before or behind them, and at least one digit.
 -- `5.`, `.5` and `-.5` are numbers; `-`, `.`, `1-2`, `1e5` and `inf` aren't.
-use Rattle.std.specs.Prelude.{◌≡◌, ℕ, ◌+◌, ◌<◌, ◌⊎◌, Bool, true, false, List, [], ◌∷◌, ◌++◌, length, codes}
+use Rattle.std.specs.Prelude.{◌≡◌, ℕ, ◌+◌, ◌<◌, ◌⊎◌, Bool, true, false, List, [], ◌++◌, length, codes}
 use Rattle.scan_core.specs.Digits.{AreDigits}
 
 -- the sign of a number: a minus where it is negative, and else nothing or, where a plus may stand, a plus

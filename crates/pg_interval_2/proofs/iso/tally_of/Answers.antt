@@ -1,5 +1,4 @@
-use Rattle.std.proofs.Common.{◌≡◌, ℕ, List, [], sym, subst, false, true}
-use Rattle.pg_interval_2.specs.declared.tally.Tally.{Tally}
+use Rattle.std.proofs.Common.{ℕ, List, subst, false, true}
 use Rattle.pg_interval_2.specs.IsoTally.{TakesPairs}
 use Rattle.pg_interval_2.proofs.IsoSteps.{is_nothing, is_something, alone_tallied, timed_tallied, no_shape_behind_dates, no_shape_behind_times}
 use Rattle.pg_interval_2.proofs.iso.tally_of.Goals as goal

@@ -1,8 +1,7 @@
-use Rattle.std.proofs.Common.{sym, arith, subst, ℕ, List, ◌≡◌}
-use Rattle.pg_interval_2.specs.CountedItems.{TakesItem}
-use Rattle.pg_interval_2.proofs.IsoSteps.{is_nothing, is_something}
-use Rattle.pg_interval_2.proofs.PostgresSteps.{ItemsTaken, none_taken, one_taken, taken_shorter, after-le}
-use Rattle.pg_interval_2.proofs.PostgresEnds.{all_taken, nothing_next, name_within, bad_next}
+use Rattle.std.proofs.Common.{arith}
+use Rattle.pg_interval_2.proofs.IsoSteps.{is_something}
+use Rattle.pg_interval_2.proofs.PostgresSteps.{none_taken, one_taken, taken_shorter, after-le}
+use Rattle.pg_interval_2.proofs.PostgresEnds.{nothing_next, name_within, bad_next}
 use Rattle.pg_interval_2.proofs.postgres.tally_of.Goals as goal
 
 pub loop-rest-init : goal.loop-rest-init

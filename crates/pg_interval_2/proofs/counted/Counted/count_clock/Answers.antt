@@ -1,5 +1,5 @@
 use Rattle.std.proofs.Common.{ℕ, List, [], ◌++◌, subst, take}
-use Rattle.scan_core.specs.Count.{Count, count_of}
+use Rattle.scan_core.specs.Count.{count_of}
 use Rattle.scan_core.specs.declared.share.Unit.TheVariants.{Hour, Minute, Second}
 use Rattle.pg_interval_2.specs.CountedItems.{CountsAll}
 use Rattle.pg_interval_2.proofs.CountedFacts.{clock_first, clock_second, clock_last, field_counts, nonzero}

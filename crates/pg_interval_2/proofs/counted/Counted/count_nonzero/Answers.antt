@@ -1,4 +1,4 @@
-use Rattle.std.proofs.Common.{◌≡◌, true, false, not, ap, sym, ◌∙◌}
+use Rattle.std.proofs.Common.{not, ap, sym}
 use Rattle.pg_interval_2.specs.Reading.{count_of, numeral_of}
 use Rattle.pg_interval_2.proofs.CountedFacts.{perhaps_one, perhaps_none}
 use Rattle.pg_interval_2.proofs.counted.Counted.count_nonzero.Goals as goal

@@ -1,4 +1,4 @@
-use Rattle.std.proofs.Common.{◌≡◌, ℕ, List, refl, sym, subst}
+use Rattle.std.proofs.Common.{ℕ, List, refl, subst}
 use Rattle.pg_interval_2.specs.Denotes.{HasNoShape}
 use Rattle.pg_interval_2.specs.Postgres.{IsPostgres, IsPostgresBadName}
 use Rattle.pg_interval_2.specs.PostgresTally.{HasNoBadName}
