@@ -1,7 +1,8 @@
 -- Lists of counts of which one part fits and adds up to a number.
-use Rattle.std.proofs.Common.{◌≡◌, ℕ, Bool, true, false, ◌&&◌, IsTrue, List, [], ◌∷◌, ◌++◌, ℤ, pos, ◌+ℤ◌, refl, ap, ◌∙◌, arith}
+use Rattle.std.proofs.Common.{◌≡◌, ℕ, true, IsTrue, List, [], ◌∷◌, ◌++◌, ℤ, pos, ◌+ℤ◌, refl, ◌∙◌, arith}
 use Rattle.std.proofs.lemmas.Int.{ints}
-use Rattle.std.proofs.lemmas.Bool.{and_from, and_parts}
+use Rattle.std.proofs.lemmas.Bool.{and_from}
+use Rattle.std.proofs.lemmas.List.Folds.{list_all-append}
 use Rattle.std.specs.List.{list_all}
 use Rattle.scan_core.specs.Count.{Count}
 use Rattle.scan_core.specs.Digits.{number_of}
@@ -14,19 +15,13 @@ pub record AddsUp (part : Part) (counts : List Count) (sum : ℤ) : Type 0 where
   pub each : IsTrue (list_all (λ c. fits_type part (share part c)) counts)
   pub total_is : total part counts ≡ sum
 
-list_all-append : {X : Type 0} (test : X → Bool) (xs ys : List X) → IsTrue (list_all test xs) → IsTrue (list_all test ys) → IsTrue (list_all test (xs ++ ys))
-list_all-append test [] ys h k = k
-list_all-append test (x ∷ xs) ys h k =
-    let parts = and_parts (test x) (list_all test xs) h in
-    and_from (test x) (list_all test (xs ++ ys)) parts.0 (list_all-append test xs ys parts.1 k)
-
 total-append : (part : Part) (xs ys : List Count) → total part (xs ++ ys) ≡ total part xs +ℤ total part ys
 total-append part [] ys = omega (arith, ints)
 total-append part (x ∷ xs) ys = omega (arith, ints, total-append part xs ys)
 
 pub AddsUp-append : (part : Part) (xs ys : List Count) (y z : ℤ) → AddsUp part xs y → AddsUp part ys z → AddsUp part (xs ++ ys) (y +ℤ z)
 AddsUp-append part xs ys y z h k = record {
-  each = list_all-append _ xs ys h.each k.each;
+  each = list_all-append _ xs ys ∙ and_from _ _ h.each k.each;
   total_is = cc (total-append part xs ys);
 }
 

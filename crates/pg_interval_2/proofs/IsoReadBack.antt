@@ -1,10 +1,7 @@
 -- A text written in ISO style is read back as its interval, and as no other.
-use Rattle.std.proofs.Common.{◌≡◌, ℕ, Bool, true, false, ◌&&◌, List, [], ◌∷◌, ◌++◌, ℤ, pos, ◌+ℤ◌, refl, sym, arith, int_eq, IsTrue}
+use Rattle.std.proofs.Common.{◌≡◌, true, ◌&&◌, [], ◌∷◌, ℤ, pos, refl, sym, int_eq}
 use Rattle.std.proofs.lemmas.Bool.{cond_both, and_parts}
 use Rattle.std.proofs.lemmas.Bool.Decides.{Decides-int_eq}
-use Rattle.std.proofs.lemmas.Int.{ints}
-use Rattle.scan_core.specs.Count.{Count}
-use Rattle.scan_core.specs.Shares.{fits_type}
 use Rattle.scan_core.specs.declared.share.Part.{Part}
 use Rattle.scan_core.specs.declared.share.Part.TheVariants.{Months, Days, Micros}
 use Rattle.pg_interval_2.specs.declared.interval.Interval.{Interval}
@@ -15,10 +12,10 @@ use Rattle.pg_interval_2.specs.Ranges.{IsInRange}
 use Rattle.scan_core.proofs.RoundingFacts.{rounded-nil}
 use Rattle.pg_interval_2.proofs.IsoCounts.{one_list}
 use Rattle.pg_interval_2.proofs.Signs.{fits_type-zero, abs_fits}
-use Rattle.pg_interval_2.proofs.AddsUp.{AddsUp, AddsUp-one, AddsUp-append, AddsUp-same}
-use Rattle.pg_interval_2.proofs.WrittenCounts.{magnitude-zero, zero_count, date_counts, time_counts, date_counts-months, date_counts-days, date_counts-micros, time_counts-months, time_counts-days, time_counts-micros}
+use Rattle.pg_interval_2.proofs.AddsUp.{AddsUp, AddsUp-one, AddsUp-same}
+use Rattle.pg_interval_2.proofs.WrittenCounts.{magnitude-zero, zero_count, date_counts-sum, time_counts-sum}
 use Rattle.pg_interval_2.proofs.IsoSpelled.{iso_counts, iso_spelled}
-use Rattle.pg_interval_2.proofs.SumsTo.{SumsTo, fits_months, fits_micros, Denotes-SumsTo, alone-SumsTo}
+use Rattle.pg_interval_2.proofs.SumsTo.{SumsTo, SumsTo-date_time, fits_months, fits_micros, Denotes-SumsTo, alone-SumsTo}
 
 -- the count of zero, for a number that is 0
 zero_sum : (part : Part) (z : ℤ) → int_eq z (pos 0) ≡ true → AddsUp part (zero_count ∷ []) z
@@ -30,19 +27,8 @@ zero_sums t zero_is =
     let inner = and_parts _ _ outer.1 in
     record { months = zero_sum Months _ outer.0; days = zero_sum Days _ inner.0; micros = zero_sum Micros _ inner.1 }
 
-date_time_sums : (t : Interval) → IsInRange t → SumsTo (date_counts t.months t.days ++ time_counts t.microseconds) t
-date_time_sums t range =
-    let months : IsTrue (fits_type Months t.months) = fits_months t.months range.months in
-    let days : IsTrue (fits_type Days t.days) = fits_months t.days range.days in
-    let micros : IsTrue (fits_type Micros t.microseconds) = fits_micros t.microseconds range.microseconds in
-    record {
-      months = AddsUp-same Months _ _ _ (AddsUp-append Months _ _ _ _ (date_counts-months t.months t.days months days) (time_counts-months t.microseconds micros)) (omega (arith, ints));
-      days = AddsUp-same Days _ _ _ (AddsUp-append Days _ _ _ _ (date_counts-days t.months t.days months days) (time_counts-days t.microseconds micros)) (omega (arith, ints));
-      micros = AddsUp-same Micros _ _ _ (AddsUp-append Micros _ _ _ _ (date_counts-micros t.months t.days months days) (time_counts-micros t.microseconds micros)) (omega (arith, ints));
-    }
-
 iso_counts_sums : (t : Interval) → IsInRange t → SumsTo (iso_counts t.months t.days t.microseconds) t
-iso_counts_sums t range = cond_both _ _ _ (λ counts. SumsTo counts t) (zero_sums t) (λ _. date_time_sums t range)
+iso_counts_sums t range = cond_both _ _ _ (λ counts. SumsTo counts t) (zero_sums t) (λ _. SumsTo-date_time _ _ t (date_counts-sum t range) (time_counts-sum t range))
 
 spelled : (t : Interval) → IsInRange t → IsIso (iso_text t.months t.days t.microseconds) (iso_counts t.months t.days t.microseconds)
 spelled t range = iso_spelled t.months t.days t.microseconds (abs_fits Months t.months (fits_months t.months range.months)) (abs_fits Days t.days (fits_months t.days range.days)) (abs_fits Micros t.microseconds (fits_micros t.microseconds range.microseconds))

@@ -1,19 +1,17 @@
 -- A text written in ISO style spells the counts of its interval.
-use Rattle.std.proofs.Common.{◌≡◌, ◌≢◌, ℕ, ◌+◌, ◌*◌, ◌/◌, ◌%◌, ◌<◌, ◌≤◌, ◌^◌, Bool, true, false, cond, ◌&&◌, IsTrue, List, [], ◌∷◌, ◌++◌, length, length-append, codes, decimal, if◌then◌else◌, ◌==◌, ℤ, pos, negsuc, unsigned_abs, Option, Some, refl, ap, sym, arith, inl, inr, append_assoc, append-nil, eqb-true, int_eq, true≢false, ⊎_elim, ◌∙◌}
+use Rattle.std.proofs.Common.{◌≡◌, ◌≢◌, ℕ, ◌+◌, ◌<◌, ◌≤◌, ◌^◌, Bool, true, false, ◌&&◌, List, [], ◌∷◌, ◌++◌, length, length-append, codes, decimal, if◌then◌else◌, ◌==◌, ℤ, pos, unsigned_abs, Option, Some, refl, ap, sym, arith, inl, inr, append_assoc, append-nil, eqb-true, int_eq, true≢false, ⊎_elim, ◌∙◌}
 use Rattle.std.proofs.lemmas.Bool.{cond_both, cond-true, cond-false, cases_Bool}
 use Rattle.std.proofs.lemmas.Bool.Decides.{Decides-int_eq}
 use Rattle.std.proofs.lemmas.Fmt.{decimal_nonempty}
 use Rattle.std.specs.Int.{is_negative}
 use Rattle.scan_core.specs.Count.{Count}
 use Rattle.scan_core.specs.Digits.{AreDigits}
-use Rattle.scan_core.specs.Join.{IsJoin}
-use Rattle.scan_core.specs.Number.{IsNumber}
 use Rattle.scan_core.specs.Padded.{padded}
 use Rattle.scan_core.specs.declared.share.Unit.{Unit as TimeUnit}
 use Rattle.scan_core.specs.declared.share.Unit.TheVariants.{Year, Month, Day, Hour, Minute, Second}
 use Rattle.scan_core.proofs.DigitFacts.{digits_decimal}
-use Rattle.pg_interval_2.specs.Iso.{IsPair, ArePairs, IsDateAlone, IsDateAndTime, IsIso, date_unit, time_unit}
-use Rattle.pg_interval_2.specs.IsoText.{iso_part, iso_seconds, iso_date, iso_time, iso_text}
+use Rattle.pg_interval_2.specs.Iso.{IsPair, ArePairs, IsIso, date_unit, time_unit}
+use Rattle.pg_interval_2.specs.IsoText.{iso_part, nonzero_digits, iso_decimal, iso_seconds, iso_date, iso_time, iso_text}
 use Rattle.pg_interval_2.specs.Parts.{minus, years_of, months_of, hours_of, minutes_of, seconds_of, subsecond_of}
 use Rattle.pg_interval_2.proofs.JoinLemmas.{IsJoin-append, IsJoin-one}
 use Rattle.pg_interval_2.proofs.WrittenDigits.{AreDigits-padded, length-padded}
@@ -36,13 +34,15 @@ unfolding iso_part
 part_spelled unit_of negative n letter unit small means =
     cond_two (n == 0) (ArePairs unit_of) _ _ _ _ (λ _. refl) (λ _. IsJoin-one (IsPair unit_of) _ _ (whole_pair unit_of negative n letter unit small means))
 
-whole_digits : (n : ℕ) → n < 2 ^ 64 → AreDigits (if n == 0 then [] else decimal n)
+whole_digits : (n : ℕ) → n < 2 ^ 64 → AreDigits (nonzero_digits n)
+unfolding nonzero_digits
 whole_digits n small = cond_both (n == 0) _ _ AreDigits (λ _. tt) (λ _. digits_decimal n small)
 
 -- seconds with microseconds that aren't 0
-point_pair : (negative : Bool) (seconds micros : ℕ) → seconds < 2 ^ 64 → micros < 1_000_000 → IsPair time_unit (minus negative ++ ((if seconds == 0 then [] else decimal seconds) ++ (codes "." ++ (padded 6 micros ++ codes "S")))) (record { negative = negative; whole = if seconds == 0 then [] else decimal seconds; fraction = padded 6 micros; unit = Second })
+point_pair : (negative : Bool) (seconds micros : ℕ) → seconds < 2 ^ 64 → micros < 1_000_000 → IsPair time_unit (iso_decimal negative seconds micros) (record { negative = negative; whole = nonzero_digits seconds; fraction = padded 6 micros; unit = Second })
+unfolding iso_decimal
 point_pair negative seconds micros small below = record {
-  number = minus negative ++ ((if seconds == 0 then [] else decimal seconds) ++ (codes "." ++ padded 6 micros));
+  number = minus negative ++ (nonzero_digits seconds ++ (codes "." ++ padded 6 micros));
   letter = 83;
   digits = IsNumber-point false negative _ (padded 6 micros) (whole_digits seconds small) (AreDigits-padded 6 micros (omega arith)) (omega (arith, length-padded 6 micros));
   unit = refl;
@@ -133,7 +133,7 @@ some_time micros zero_is = cond-false _ _ _ zero_is
 date_alone : (months days micros : ℤ) → unsigned_abs months ≤ 2 ^ 63 → unsigned_abs days ≤ 2 ^ 63 → int_eq micros (pos 0) ≡ true → int_eq months (pos 0) && (int_eq days (pos 0) && int_eq micros (pos 0)) ≡ false → IsIso (codes "P" ++ (iso_date months days ++ iso_time micros)) (date_counts months days ++ time_counts micros)
 date_alone months days micros small_months small_days no_micros some =
     let none = no_time micros no_micros in
-    rw (none.0, none.1, append-nil, append-nil)
+    rw (none.0, none.1, append-nil (iso_date months days), append-nil (date_counts months days))
     (inl (iso_date months days, date_spelled months days small_months small_days, written, refl))
   where
     written : iso_date months days ≢ []

@@ -1,5 +1,5 @@
 -- Joins of pieces: two joins in a row are one, and a piece is a join of itself.
-use Rattle.std.proofs.Common.{◌≡◌, List, [], ◌∷◌, ◌++◌, refl, ap, ◌∙◌, sym, append_assoc, append-nil}
+use Rattle.std.proofs.Common.{List, [], ◌∷◌, ◌++◌, refl, ap, ◌∙◌, sym, append_assoc, append-nil}
 use Rattle.scan_core.specs.Join.{IsJoin}
 
 pub IsJoin-append : {A C : Type 0} (IsPiece : List A → C → Type 0) (a b : List A) (xs ys : List C) → IsJoin IsPiece a xs → IsJoin IsPiece b ys → IsJoin IsPiece (a ++ b) (xs ++ ys)

@@ -9,6 +9,12 @@ pub mod IsoSpelled
 pub mod SumsTo
 pub mod IsoReadBack
 pub mod ReadBack
+pub mod Spaces
+pub mod PostgresWords
+pub mod UnitOrder
+pub mod ClockCounts
+pub mod PostgresSpelled
+pub mod PostgresReadBack
 pub mod Numbers
 pub mod IsoCounts
 pub mod TallyFacts
@@ -26,3 +32,4 @@ pub mod UnitFacts
 pub mod CountedFacts
 pub mod PostgresSteps
 pub mod PostgresEnds
+pub mod OneList

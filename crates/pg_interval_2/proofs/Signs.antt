@@ -1,5 +1,5 @@
 -- A number by its sign and magnitude.
-use Rattle.std.proofs.Common.{◌≡◌, ℕ, zero, suc, ◌+◌, ◌≤◌, ◌<◌, ◌^◌, ◌-◌, Bool, true, false, IsTrue, ℤ, pos, negsuc, ◌+ℤ◌, neg_ℤ, unsigned_abs, nat_lt, refl, ap, arith, lt-ltb, ltb-true}
+use Rattle.std.proofs.Common.{◌≡◌, ℕ, zero, suc, ◌+◌, ◌≤◌, ◌^◌, ◌-◌, Bool, true, false, IsTrue, ℤ, pos, negsuc, ◌+ℤ◌, unsigned_abs, refl, ap, arith, lt-ltb, ltb-true}
 use Rattle.std.proofs.lemmas.Int.{ints}
 use Rattle.std.proofs.lemmas.Bool.Decides.{nat_tests}
 use Rattle.std.specs.Int.{is_negative}

@@ -1,23 +1,44 @@
 -- Counts whose sum is an interval: a text that spells them denotes it.
-use Rattle.std.proofs.Common.{◌≡◌, ℕ, List, IsTrue, ℤ, pos, negsuc, unsigned_abs, refl, ◌∙◌, sym, lt-ltb}
+use Rattle.std.proofs.Common.{◌≡◌, ℕ, List, [], ◌++◌, IsTrue, ℤ, pos, negsuc, refl, ◌∙◌, sym, arith, lt-ltb}
+use Rattle.std.proofs.lemmas.Int.{ints}
 use Rattle.std.proofs.lemmas.Bool.{and_from}
 use Rattle.std.specs.Int.{w32, w64}
 use Rattle.std.specs.Prelude.{FitsSigned}
 use Rattle.scan_core.specs.Count.{Count}
 use Rattle.scan_core.specs.Shares.{fits_type}
-use Rattle.scan_core.specs.Sums.{total, part_fits, fits}
-use Rattle.scan_core.specs.declared.share.Part.{Part}
+use Rattle.scan_core.specs.Sums.{fits}
 use Rattle.scan_core.specs.declared.share.Part.TheVariants.{Months, Days, Micros}
 use Rattle.pg_interval_2.specs.declared.interval.Interval.{Interval}
 use Rattle.pg_interval_2.specs.Denotes.{Denotes, sum_of}
 use Rattle.pg_interval_2.specs.Ranges.{IsInRange}
-use Rattle.pg_interval_2.proofs.AddsUp.{AddsUp, part_fits-AddsUp}
+use Rattle.pg_interval_2.proofs.AddsUp.{AddsUp, AddsUp-nil, AddsUp-append, AddsUp-same, part_fits-AddsUp}
 
 -- each part of the counts adds up to that of the interval
 pub record SumsTo (counts : List Count) (t : Interval) : Type 0 where
   pub months : AddsUp Months counts t.months
   pub days : AddsUp Days counts t.days
   pub micros : AddsUp Micros counts t.microseconds
+
+-- the months and days of an interval, and its time
+abbrev pub date_of : Interval → Interval
+date_of t = record { months = t.months; days = t.days; microseconds = pos 0 }
+
+abbrev pub time_of : Interval → Interval
+time_of t = record { months = pos 0; days = pos 0; microseconds = t.microseconds }
+
+pub SumsTo-nil : (t : Interval) → t.months ≡ pos 0 → t.days ≡ pos 0 → t.microseconds ≡ pos 0 → SumsTo [] t
+SumsTo-nil t months days micros = record {
+  months = AddsUp-same Months [] (pos 0) _ (AddsUp-nil Months) (sym months);
+  days = AddsUp-same Days [] (pos 0) _ (AddsUp-nil Days) (sym days);
+  micros = AddsUp-same Micros [] (pos 0) _ (AddsUp-nil Micros) (sym micros);
+}
+
+pub SumsTo-date_time : (dates times : List Count) (t : Interval) → SumsTo dates (date_of t) → SumsTo times (time_of t) → SumsTo (dates ++ times) t
+SumsTo-date_time dates times t date time = record {
+  months = AddsUp-same Months _ _ _ (AddsUp-append Months dates times t.months (pos 0) date.months time.months) (omega (arith, ints));
+  days = AddsUp-same Days _ _ _ (AddsUp-append Days dates times t.days (pos 0) date.days time.days) (omega (arith, ints));
+  micros = AddsUp-same Micros _ _ _ (AddsUp-append Micros dates times (pos 0) t.microseconds date.micros time.micros) (omega (arith, ints));
+}
 
 -- the numbers of a part's type pass its test
 pub fits_months : (z : ℤ) → FitsSigned w32 z → IsTrue (fits_type Months z)

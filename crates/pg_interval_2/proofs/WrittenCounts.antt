@@ -1,22 +1,26 @@
 -- The counts of written texts, and what they add up to.
-use Rattle.std.proofs.Common.{◌≡◌, ℕ, ◌+◌, ◌*◌, ◌<◌, ◌≤◌, ◌^◌, Bool, true, false, IsTrue, List, [], ◌∷◌, ◌++◌, length, decimal, codes, if◌then◌else◌, ◌==◌, ℤ, pos, unsigned_abs, refl, arith, eqb-true, sym}
+use Rattle.std.proofs.Common.{◌≡◌, ℕ, ◌+◌, ◌*◌, ◌<◌, ◌≤◌, ◌^◌, Bool, false, IsTrue, List, [], ◌∷◌, ◌++◌, decimal, codes, if◌then◌else◌, ◌==◌, ℤ, pos, unsigned_abs, refl, arith, eqb-true, sym}
 use Rattle.std.proofs.lemmas.Bool.{cond_both}
 use Rattle.std.proofs.lemmas.Int.{ints}
 use Rattle.std.specs.Int.{is_negative}
 use Rattle.scan_core.specs.Count.{Count}
-use Rattle.scan_core.specs.Digits.{AreDigits, number_of}
+use Rattle.scan_core.specs.Digits.{number_of}
 use Rattle.scan_core.specs.Padded.{padded}
 use Rattle.scan_core.specs.Shares.{signed, magnitude, fits_type}
 use Rattle.scan_core.specs.declared.share.Unit.{Unit as TimeUnit}
 use Rattle.scan_core.specs.declared.share.Unit.TheVariants.{Year, Month, Day, Hour, Minute, Second}
 use Rattle.scan_core.specs.declared.share.Part.{Part}
 use Rattle.scan_core.specs.declared.share.Part.TheVariants.{Months, Days, Micros}
+use Rattle.pg_interval_2.specs.declared.interval.Interval.{Interval}
+use Rattle.pg_interval_2.specs.Ranges.{IsInRange}
+use Rattle.pg_interval_2.specs.IsoText.{nonzero_digits}
 use Rattle.pg_interval_2.specs.Parts.{years_of, months_of, hours_of, minutes_of, seconds_of, subsecond_of}
 use Rattle.scan_core.proofs.DigitFacts.{number_of-decimal}
 use Rattle.scan_core.proofs.RoundingFacts.{rounded-nil}
 use Rattle.pg_interval_2.proofs.WrittenDigits.{rounded-padded}
 use Rattle.pg_interval_2.proofs.Signs.{signed-zero, fits_type-smaller, fits_type-signed_zero, abs_fits, signed-abs, signed_two, signed_three}
 use Rattle.pg_interval_2.proofs.AddsUp.{AddsUp, AddsUp-nil, AddsUp-one, AddsUp-append, AddsUp-same}
+use Rattle.pg_interval_2.proofs.SumsTo.{SumsTo, date_of, time_of, fits_months, fits_micros}
 
 -- the count of a number of a unit, or none where it is 0
 abbrev pub part_counts : Bool → ℕ → TimeUnit → List Count
@@ -25,7 +29,7 @@ part_counts negative n unit = if n == 0 then [] else (record { negative = negati
 -- the count of seconds and microseconds, or none where they are 0
 abbrev pub seconds_counts : Bool → ℕ → ℕ → List Count
 seconds_counts negative seconds micros =
-    if micros == 0 then part_counts negative seconds Second else (record { negative = negative; whole = if seconds == 0 then [] else decimal seconds; fraction = padded 6 micros; unit = Second } ∷ [])
+    if micros == 0 then part_counts negative seconds Second else (record { negative = negative; whole = nonzero_digits seconds; fraction = padded 6 micros; unit = Second } ∷ [])
 
 -- no seconds, as they are written of zero
 abbrev pub zero_count : Count
@@ -51,7 +55,8 @@ part_counts-sum part negative n unit small fits =
     (λ _. AddsUp-one part _ n 0 (number_of-decimal n small) (rounded-nil _) fits)
 
 -- the whole seconds are the digits of their number, or none where it is 0
-whole_seconds : (n : ℕ) → n < 2 ^ 64 → number_of (if n == 0 then [] else decimal n) ≡ n
+whole_seconds : (n : ℕ) → n < 2 ^ 64 → number_of (nonzero_digits n) ≡ n
+unfolding nonzero_digits
 whole_seconds n small =
     cond_both (n == 0) _ _ (λ digits. number_of digits ≡ n) (λ zero_is. sym (eqb-true n 0 zero_is)) (λ _. number_of-decimal n small)
 
@@ -80,7 +85,7 @@ uncounted : (part : Part) (negative : Bool) (n : ℕ) (unit : TimeUnit) → n < 
 uncounted part negative n unit small none =
     AddsUp-same part _ _ _ (part_counts-sum part negative n unit small (rw none (fits_type-signed_zero part negative))) (rw none (signed-zero negative))
 
-pub date_counts-months : (months days : ℤ) → IsTrue (fits_type Months months) → IsTrue (fits_type Days days) → AddsUp Months (date_counts months days) months
+date_counts-months : (months days : ℤ) → IsTrue (fits_type Months months) → IsTrue (fits_type Days days) → AddsUp Months (date_counts months days) months
 date_counts-months months days fit_months fit_days =
     let small : unsigned_abs months ≤ 2 ^ 63 = abs_fits Months months fit_months in
     AddsUp-same Months _ _ _
@@ -89,7 +94,7 @@ date_counts-months months days fit_months fit_days =
     (uncounted Months (is_negative days) (unsigned_abs days) Day (omega (arith, abs_fits Days days fit_days)) refl)))
     (omega (arith, ints, signed_two months (12 * years_of months + 0) (months_of months) (omega arith)))
 
-pub date_counts-days : (months days : ℤ) → IsTrue (fits_type Months months) → IsTrue (fits_type Days days) → AddsUp Days (date_counts months days) days
+date_counts-days : (months days : ℤ) → IsTrue (fits_type Months months) → IsTrue (fits_type Days days) → AddsUp Days (date_counts months days) days
 date_counts-days months days fit_months fit_days =
     let small : unsigned_abs months ≤ 2 ^ 63 = abs_fits Months months fit_months in
     AddsUp-same Days _ _ _
@@ -98,7 +103,7 @@ date_counts-days months days fit_months fit_days =
     (counted Days days (unsigned_abs days) Day (omega (arith, abs_fits Days days fit_days)) (omega arith) fit_days)))
     (omega (arith, ints, signed-abs days))
 
-pub date_counts-micros : (months days : ℤ) → IsTrue (fits_type Months months) → IsTrue (fits_type Days days) → AddsUp Micros (date_counts months days) (pos 0)
+date_counts-micros : (months days : ℤ) → IsTrue (fits_type Months months) → IsTrue (fits_type Days days) → AddsUp Micros (date_counts months days) (pos 0)
 date_counts-micros months days fit_months fit_days =
     let small : unsigned_abs months ≤ 2 ^ 63 = abs_fits Months months fit_months in
     AddsUp-append Micros _ _ _ _ (uncounted Micros (is_negative months) (years_of months) Year (omega arith) refl)
@@ -106,10 +111,10 @@ date_counts-micros months days fit_months fit_days =
     (uncounted Micros (is_negative days) (unsigned_abs days) Day (omega (arith, abs_fits Days days fit_days)) refl))
 
 -- the hours, minutes and seconds in microseconds
-time_parts : (micros : ℤ) → hours_of micros * 3_600_000_000 + (minutes_of micros * 60_000_000 + (seconds_of micros * 1_000_000 + subsecond_of micros)) ≡ unsigned_abs micros
+pub time_parts : (micros : ℤ) → hours_of micros * 3_600_000_000 + (minutes_of micros * 60_000_000 + (seconds_of micros * 1_000_000 + subsecond_of micros)) ≡ unsigned_abs micros
 time_parts micros = omega arith
 
-pub time_counts-micros : (micros : ℤ) → IsTrue (fits_type Micros micros) → AddsUp Micros (time_counts micros) micros
+time_counts-micros : (micros : ℤ) → IsTrue (fits_type Micros micros) → AddsUp Micros (time_counts micros) micros
 time_counts-micros micros fits =
     let small : unsigned_abs micros ≤ 2 ^ 63 = abs_fits Micros micros fits in
     AddsUp-same Micros _ _ _
@@ -118,16 +123,27 @@ time_counts-micros micros fits =
     (seconds_counts-sum Micros (is_negative micros) (seconds_of micros) (subsecond_of micros) (omega arith) (omega arith) (fits_type-smaller Micros micros _ (omega arith) fits))))
     (signed_three micros _ _ _ (omega (arith, time_parts micros)))
 
-pub time_counts-months : (micros : ℤ) → IsTrue (fits_type Micros micros) → AddsUp Months (time_counts micros) (pos 0)
+time_counts-months : (micros : ℤ) → IsTrue (fits_type Micros micros) → AddsUp Months (time_counts micros) (pos 0)
 time_counts-months micros fits =
     let small : unsigned_abs micros ≤ 2 ^ 63 = abs_fits Micros micros fits in
     AddsUp-append Months _ _ _ _ (uncounted Months (is_negative micros) (hours_of micros) Hour (omega arith) refl)
     (AddsUp-append Months _ _ _ _ (uncounted Months (is_negative micros) (minutes_of micros) Minute (omega arith) refl)
     (AddsUp-same Months _ _ _ (seconds_counts-sum Months (is_negative micros) (seconds_of micros) (subsecond_of micros) (omega arith) (omega arith) (fits_type-signed_zero Months (is_negative micros))) (signed-zero (is_negative micros))))
 
-pub time_counts-days : (micros : ℤ) → IsTrue (fits_type Micros micros) → AddsUp Days (time_counts micros) (pos 0)
+time_counts-days : (micros : ℤ) → IsTrue (fits_type Micros micros) → AddsUp Days (time_counts micros) (pos 0)
 time_counts-days micros fits =
     let small : unsigned_abs micros ≤ 2 ^ 63 = abs_fits Micros micros fits in
     AddsUp-append Days _ _ _ _ (uncounted Days (is_negative micros) (hours_of micros) Hour (omega arith) refl)
     (AddsUp-append Days _ _ _ _ (uncounted Days (is_negative micros) (minutes_of micros) Minute (omega arith) refl)
     (AddsUp-same Days _ _ _ (seconds_counts-sum Days (is_negative micros) (seconds_of micros) (subsecond_of micros) (omega arith) (omega arith) (fits_type-signed_zero Days (is_negative micros))) (signed-zero (is_negative micros))))
+
+pub date_counts-sum : (t : Interval) → IsInRange t → SumsTo (date_counts t.months t.days) (date_of t)
+date_counts-sum t range =
+    let months : IsTrue (fits_type Months t.months) = fits_months t.months range.months in
+    let days : IsTrue (fits_type Days t.days) = fits_months t.days range.days in
+    record { months = date_counts-months t.months t.days months days; days = date_counts-days t.months t.days months days; micros = date_counts-micros t.months t.days months days }
+
+pub time_counts-sum : (t : Interval) → IsInRange t → SumsTo (time_counts t.microseconds) (time_of t)
+time_counts-sum t range =
+    let micros : IsTrue (fits_type Micros t.microseconds) = fits_micros t.microseconds range.microseconds in
+    record { months = time_counts-months t.microseconds micros; days = time_counts-days t.microseconds micros; micros = time_counts-micros t.microseconds micros }

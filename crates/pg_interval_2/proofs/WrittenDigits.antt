@@ -1,6 +1,5 @@
 -- What written digits read back as: a number's digits, with leading zeros or not, and six digits behind a point.
-use Rattle.std.proofs.Common.{◌≡◌, ℕ, zero, suc, ◌+◌, ◌-◌, ◌*◌, ◌/◌, ◌^◌, ◌<◌, ◌≤◌, List, [], ◌∷◌, ◌++◌, length, decimal, replicate, arith, refl, ap, ◌∙◌, length-append, max}
-use Rattle.std.specs.Str.Parse.{digits_value_after, AllDigits}
+use Rattle.std.proofs.Common.{◌≡◌, ℕ, zero, suc, ◌-◌, ◌^◌, ◌<◌, List, ◌++◌, length, decimal, replicate, arith, refl, ap, ◌∙◌, length-append, max}
 use Rattle.scan_core.specs.Digits.{AreDigits, number_of}
 use Rattle.scan_core.specs.Padded.{padded}
 use Rattle.scan_core.specs.Shares.{rounded}

@@ -1,7 +1,7 @@
 -- Written numbers are numbers.
-use Rattle.std.proofs.Common.{◌≡◌, ℕ, ◌+◌, ◌<◌, Bool, true, false, cond, List, [], ◌∷◌, ◌++◌, length, codes, refl, arith, inl, inr}
+use Rattle.std.proofs.Common.{◌≡◌, ℕ, ◌<◌, Bool, true, false, cond, List, [], ◌++◌, length, codes, refl, arith, inl, inr}
 use Rattle.scan_core.specs.Digits.{AreDigits}
-use Rattle.scan_core.specs.Number.{IsSign, IsFraction, IsNumber}
+use Rattle.scan_core.specs.Number.{IsSign, IsNumber}
 use Rattle.pg_interval_2.specs.Parts.{minus}
 
 -- where one test chooses two values, each choice has what both values have together

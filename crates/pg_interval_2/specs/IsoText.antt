@@ -1,5 +1,5 @@
 -- The one text that is written of an interval in ISO style: `P1Y2M3DT4H5M6.500000S`, and `PT0S` of zero.
-use Rattle.std.specs.Prelude.{ℕ, ℤ, pos, unsigned_abs, Bool, List, [], ◌∷◌, ◌++◌, codes, decimal, ◌==◌, ◌&&◌, if◌then◌else◌}
+use Rattle.std.specs.Prelude.{ℕ, ℤ, pos, unsigned_abs, Bool, List, [], ◌++◌, codes, decimal, ◌==◌, ◌&&◌, if◌then◌else◌}
 use Rattle.std.specs.Ordering.{int_eq}
 use Rattle.std.specs.Int.{is_negative}
 use Rattle.scan_core.specs.Padded.{padded}
@@ -9,10 +9,17 @@ use Rattle.pg_interval_2.specs.Parts.{minus, years_of, months_of, hours_of, minu
 unfoldable pub iso_part : Bool → ℕ → List ℕ → List ℕ
 iso_part negative n letter = if n == 0 then [] else (minus negative ++ (decimal n ++ letter))
 
--- the seconds: `6S` without microseconds, `6.500000S` with both, `.500000S` with microseconds alone
+-- the digits of a number, or nothing where it is 0
+unfoldable pub nonzero_digits : ℕ → List ℕ
+nonzero_digits n = if n == 0 then [] else decimal n
+
+-- seconds with microseconds: `6.500000S`, and `.500000S` of microseconds alone
+unfoldable pub iso_decimal : Bool → ℕ → ℕ → List ℕ
+iso_decimal negative seconds micros = minus negative ++ (nonzero_digits seconds ++ (codes "." ++ (padded 6 micros ++ codes "S")))
+
+-- the seconds, with their microseconds where these aren't 0
 unfoldable pub iso_seconds : Bool → ℕ → ℕ → List ℕ
-iso_seconds negative seconds micros =
-    if micros == 0 then iso_part negative seconds (codes "S") else (minus negative ++ ((if seconds == 0 then [] else decimal seconds) ++ (codes "." ++ (padded 6 micros ++ codes "S"))))
+iso_seconds negative seconds micros = if micros == 0 then iso_part negative seconds (codes "S") else iso_decimal negative seconds micros
 
 -- the years, months and days
 unfoldable pub iso_date : ℤ → ℤ → List ℕ

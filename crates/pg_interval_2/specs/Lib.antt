@@ -2,6 +2,9 @@ pub mod Denotes
 pub mod Iso
 pub mod Parts
 pub mod IsoText
+pub mod ClockText
+pub mod PostgresText
+pub mod Writing
 pub mod Ranges
 pub mod Messages
 pub mod Styles

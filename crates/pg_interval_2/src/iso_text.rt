@@ -1,14 +1,12 @@
-ghost use Rattle.std.specs.Prelude.{◌≡◌, ◌+◌, ◌≤◌, ◌<◌, ◌==◌, if◌then◌else◌, [], ◌++◌, length, codes, decimal};
+ghost use Rattle.std.specs.Prelude.{◌≡◌, ◌+◌, ◌≤◌, ◌<◌, ◌++◌, length, codes};
 ghost use Rattle.arrayvec.specs.ArrayString.{array_string_len};
-ghost use Rattle.scan_core.specs.Padded.{padded};
-ghost use Rattle.pg_interval_2.specs.Parts.{minus};
-ghost use Rattle.pg_interval_2.specs.IsoText.{iso_part, iso_seconds, iso_date, iso_time, iso_text};
+ghost use Rattle.pg_interval_2.specs.IsoText.{iso_part, nonzero_digits, iso_decimal, iso_seconds, iso_date, iso_time, iso_text};
 
 use crate::parts::{
     hours_of, minutes_of, months_of, push_digits, push_fraction, push_minus, seconds_of,
     subsecond_of, years_of,
 };
-use scan_core::{Short, push_padded, push_text};
+use scan_core::{Short, push_text};
 
 /// Appends a number with its minus and its letter, or nothing where it is 0.
 #[tactic(auto, unfolding(crate::specs::IsoText::iso_part))]
@@ -26,9 +24,10 @@ fn push_part(out: &mut Short, negative: bool, value: u32, letter: &str)
 }
 
 /// Appends the digits of a number, or nothing where it is 0.
+#[tactic(auto, unfolding(crate::specs::IsoText::nonzero_digits))]
 fn push_nonzero(out: &mut Short, value: u32)
     requires { array_string_len out.old + 10 ≤ 128 }
-    ensures bytes { out.new.bytes ≡ out.old.bytes ++ (if value == 0 then [] else decimal value) }
+    ensures bytes { out.new.bytes ≡ out.old.bytes ++ nonzero_digits value }
     ensures len { array_string_len out.new ≤ array_string_len out.old + 10 }
 {
     if value != 0 {
@@ -37,10 +36,11 @@ fn push_nonzero(out: &mut Short, value: u32)
 }
 
 /// Appends seconds with microseconds that aren't 0.
+#[tactic(auto, unfolding(crate::specs::IsoText::iso_decimal))]
 fn push_decimal(out: &mut Short, negative: bool, seconds: u32, micros: u32)
     requires micros { micros < 1_000_000 }
     requires room { array_string_len out.old + 19 ≤ 128 }
-    ensures bytes { out.new.bytes ≡ out.old.bytes ++ (minus negative ++ ((if seconds == 0 then [] else decimal seconds) ++ (codes "." ++ (padded 6 micros ++ codes "S")))) }
+    ensures bytes { out.new.bytes ≡ out.old.bytes ++ iso_decimal negative seconds micros }
     ensures len { array_string_len out.new ≤ array_string_len out.old + 19 }
 {
     push_minus(out, negative);
@@ -84,6 +84,7 @@ fn push_time(out: &mut Short, micros: i64)
     }
 }
 
+/// The text of zero.
 fn zero_text() -> Short
     ensures bytes { result.bytes ≡ codes "PT0S" }
     ensures len { array_string_len result ≤ 96 }
@@ -105,6 +106,7 @@ fn push_date(out: &mut Short, months: i32, days: i32)
     push_part(out, days.is_negative(), days.unsigned_abs(), "D");
 }
 
+/// The text of an interval that isn't zero.
 fn nonzero_text(months: i32, days: i32, micros: i64) -> Short
     ensures bytes { result.bytes ≡ codes "P" ++ (iso_date months days ++ iso_time micros) }
     ensures len { array_string_len result ≤ 96 }

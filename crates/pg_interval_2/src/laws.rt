@@ -1,10 +1,16 @@
 //! Laws of the definitions, each the contract of a function with an empty body.
-ghost use Rattle.std.specs.Prelude.{◌≡◌};
+ghost use Rattle.std.specs.Prelude.{◌≡◌, ℕ, List};
+ghost use Rattle.scan_core.specs.Count.{Count};
 ghost use Rattle.pg_interval_2.specs.declared.interval.Interval.{Interval};
 ghost use Rattle.pg_interval_2.specs.declared.style.Style.{Style};
 ghost use Rattle.pg_interval_2.specs.Denotes.{Denotes};
 ghost use Rattle.pg_interval_2.specs.Ranges.{IsInRange};
 ghost use Rattle.pg_interval_2.specs.Styles.{Shape, written};
+
+/// No text spells two lists of counts in one style, so none denotes two intervals.
+pub fn text_has_one_list_of_counts()
+    ensures { (style : Style) (text : List ℕ) (a b : List Count) → Shape style text a → Shape style text b → a ≡ b }
+{}
 
 /// The written text of an interval, read in its own style, denotes this interval and no other.
 pub fn written_text_is_read_back()

@@ -5,6 +5,7 @@
 //! Ported from the crate `pg_interval_2` of Rust. Readers and `text` take no memory.
 #![tactic(auto)]
 
+mod clock_text;
 mod counted;
 mod error;
 mod interval;
@@ -14,6 +15,7 @@ mod items;
 pub mod laws;
 mod parts;
 mod postgres;
+mod postgres_text;
 mod scan;
 mod style;
 mod tally;

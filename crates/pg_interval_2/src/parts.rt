@@ -1,5 +1,4 @@
-ghost use Rattle.std.specs.Prelude.{◌≡◌, ◌+◌, ◌≤◌, ◌<◌, ◌^◌, ◌++◌, decimal, codes};
-ghost use Rattle.std.specs.Int.{is_negative};
+ghost use Rattle.std.specs.Prelude.{◌≡◌, ◌+◌, ◌≤◌, ◌<◌, ◌++◌, decimal, codes};
 ghost use Rattle.arrayvec.specs.ArrayString.{array_string_len};
 ghost use Rattle.scan_core.specs.Padded.{padded};
 ghost use Rattle.pg_interval_2.specs.Parts.{minus, years_of, months_of, hours_of, minutes_of, seconds_of, subsecond_of};

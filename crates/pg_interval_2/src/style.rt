@@ -3,4 +3,6 @@
 pub enum Style {
     /// `iso_8601`: `P1Y2M3DT4H5M6S`.
     Iso,
+    /// `postgres`, the server's own default: `1 year 2 mons 3 days 04:05:06`.
+    Postgres,
 }

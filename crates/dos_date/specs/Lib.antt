@@ -1,0 +1,6 @@
+pub mod Bits
+pub mod DateTime
+pub mod DateWord
+pub mod Text
+pub mod TimeWord
+pub mod Words

@@ -1,0 +1,79 @@
+-- What a unit weighs, by the part that it names.
+use Rattle.std.proofs.Common.{◌≡◌, ◌≢◌, ℕ, ◌+◌, ◌*◌, Bool, true, false, ◌||◌, List, [], ◌∷◌, codes, nat_eq, ◌-◌, ◌^◌, refl, sym, ◌∙◌, ap, arith, mul-zero}
+use Rattle.std.proofs.lemmas.Bool.{and_parts}
+use Rattle.std.proofs.lemmas.Bool.Decides.{nat_tests}
+use Rattle.scan_core.specs.Digits.{number_of}
+use Rattle.fancy_duration.specs.declared.part.DurationPart.{DurationPart}
+use Rattle.fancy_duration.specs.declared.part.DurationPart.TheVariants.{Years, Months, Weeks, Days, Hours, Minutes, Seconds, Milliseconds, Microseconds, Nanoseconds}
+use Rattle.fancy_duration.specs.Parts.{unit_of}
+use Rattle.fancy_duration.specs.Items.{Item}
+use Rattle.fancy_duration.specs.Sums.{same_letters, is_long, long_follows, weight_in, total}
+use Rattle.fancy_duration.specs.Reading.{weight_if, is_long_part, capped, sum_with}
+use Rattle.fancy_duration.proofs.Caps.{min_item}
+
+pub same_letters-sound : (xs ys : List ℕ) → same_letters xs ys ≡ true → xs ≡ ys
+same_letters-sound [] [] e = refl
+same_letters-sound [] (y ∷ ys) e = absurd (cc)
+same_letters-sound (x ∷ xs) [] e = absurd (cc)
+same_letters-sound (x ∷ xs) (y ∷ ys) e =
+    let parts = and_parts (nat_eq x y) (same_letters xs ys) e in
+    let first : x ≡ y = grind (arith, nat_tests, parts.0) in
+    let rest : xs ≡ ys = same_letters-sound xs ys parts.1 in
+    cc
+
+pub same_letters-false : (xs ys : List ℕ) → xs ≢ ys → same_letters xs ys ≡ false
+same_letters-false xs ys h = elim (same_letters xs ys) as (λ t. same_letters xs ys ≡ t → same_letters xs ys ≡ false) [ true ↦ λ e. absurd (h (same_letters-sound xs ys e)) | false ↦ λ e. e ] refl
+
+-- of a named part
+pub weight_in-unit_of : (part : DurationPart) (long : Bool) → part ≢ Months → weight_in (unit_of part) long ≡ weight_if part long
+weight_in-unit_of Years long h = refl
+weight_in-unit_of Months long h = absurd (h refl)
+weight_in-unit_of Weeks long h = refl
+weight_in-unit_of Days long h = refl
+weight_in-unit_of Hours long h = refl
+weight_in-unit_of Minutes long h = elim long as (λ long. weight_in (unit_of Minutes) long ≡ weight_if Minutes long) [ true ↦ refl | false ↦ refl ]
+weight_in-unit_of Seconds long h = refl
+weight_in-unit_of Milliseconds long h = refl
+weight_in-unit_of Microseconds long h = refl
+weight_in-unit_of Nanoseconds long h = refl
+
+pub is_long-unit_of : (part : DurationPart) → part ≢ Months → is_long (unit_of part) ≡ is_long_part part
+is_long-unit_of Years h = refl
+is_long-unit_of Months h = absurd (h refl)
+is_long-unit_of Weeks h = refl
+is_long-unit_of Days h = refl
+is_long-unit_of Hours h = refl
+is_long-unit_of Minutes h = refl
+is_long-unit_of Seconds h = refl
+is_long-unit_of Milliseconds h = refl
+is_long-unit_of Microseconds h = refl
+is_long-unit_of Nanoseconds h = refl
+
+-- of letters that are no unit
+pub weight_in-other : (unit : List ℕ) (long : Bool) → ((part : DurationPart) → unit ≢ unit_of part) → weight_in unit long ≡ 0
+weight_in-other unit long h =
+    simp (same_letters-false unit (codes "y") (h Years), same_letters-false unit (codes "m") (h Months), same_letters-false unit (codes "w") (h Weeks), same_letters-false unit (codes "d") (h Days), same_letters-false unit (codes "h") (h Hours), same_letters-false unit (codes "s") (h Seconds), same_letters-false unit (codes "ms") (h Milliseconds), same_letters-false unit (codes "us") (h Microseconds), same_letters-false unit (codes "ns") (h Nanoseconds))
+
+pub is_long-other : (unit : List ℕ) → ((part : DurationPart) → unit ≢ unit_of part) → is_long unit ≡ false
+is_long-other unit h =
+    simp (same_letters-false unit (codes "y") (h Years), same_letters-false unit (codes "m") (h Months), same_letters-false unit (codes "w") (h Weeks), same_letters-false unit (codes "d") (h Days), same_letters-false unit (codes "h") (h Hours))
+
+-- a sum after one more item
+pub sums_item : (item : Item) (later : List Item) (number : ℕ) (part : DurationPart) (nanos pending : ℕ) → part ≢ Months → item.unit ≡ unit_of part → number ≡ capped (number_of item.digits) → capped (sum_with nanos pending (is_long_part part || long_follows later) (number * weight_if part (long_follows later) + total later)) ≡ capped (sum_with nanos pending (long_follows (item ∷ later)) (total (item ∷ later)))
+sums_item item later number part nanos pending h unit e =
+    let l = long_follows later in
+    let n = number_of item.digits in
+    let long : is_long item.unit ≡ is_long_part part = ap is_long unit ∙ is_long-unit_of part h in
+    let weight : weight_in item.unit l ≡ weight_if part l = ap (λ u. weight_in u l) unit ∙ weight_in-unit_of part l h in
+    ap (λ k. capped (sum_with nanos pending (is_long_part part || l) (k * weight_if part l + total later))) e
+    ∙ min_item (nanos + pending * weight_if Minutes (is_long_part part || l)) n (weight_if part l) (total later) (2 ^ 128 - 1)
+    ∙ ap (λ b. capped (sum_with nanos pending (b || l) (n * weight_if part l + total later))) (sym long)
+    ∙ ap (λ w. capped (sum_with nanos pending (is_long item.unit || l) (n * w + total later))) (sym weight)
+
+pub passes_item : (item : Item) (later : List Item) (nanos pending : ℕ) → ((part : DurationPart) → item.unit ≢ unit_of part) → sum_with nanos pending (long_follows later) (total later) ≡ sum_with nanos pending (long_follows (item ∷ later)) (total (item ∷ later))
+passes_item item later nanos pending h =
+    let l = long_follows later in
+    let nothing : number_of item.digits * weight_in item.unit l ≡ 0 = ap (λ w. number_of item.digits * w) (weight_in-other item.unit l h) ∙ mul-zero _ in
+    let same_total : total later ≡ number_of item.digits * weight_in item.unit l + total later = omega (arith, nothing) in
+    ap (λ b. sum_with nanos pending (b || l) (total later)) (sym (is_long-other item.unit h))
+    ∙ ap (λ t. sum_with nanos pending (is_long item.unit || l) t) same_total

@@ -1,0 +1,5 @@
+use Rattle.fancy_duration.proofs.ReadBack.{read_back}
+use Rattle.fancy_duration.proofs.laws.read_back.Goals as goal
+
+pub returns : goal.returns
+returns c = read_back

@@ -1,0 +1,12 @@
+pub mod Parts
+pub mod Items
+pub mod Times
+pub mod Sums
+pub mod Meanings
+pub mod Strict
+pub mod Breakdown
+pub mod Written
+pub mod Collisions
+pub mod Durations
+pub mod Reading
+pub mod Writing

@@ -1,0 +1,142 @@
+ghost use Rattle.std.specs.Prelude.{◌≡◌, ◌≢◌, ℕ, ◌+◌, ◌*◌, ◌^◌, ◌<◌, ◌≤◌, ◌↔◌, IfOk, IsErrOf, Some, IsTrue};
+ghost use Rattle.std.specs.String.{string_bytes};
+ghost use Rattle.arrayvec.specs.ArrayString.{array_string_len};
+ghost use Rattle.fancy_duration.specs.Times.{nanos_of, times_of};
+ghost use Rattle.fancy_duration.specs.Meanings.{Denotes, IsTooBig, Parses};
+ghost use Rattle.fancy_duration.specs.Breakdown.{filtered, truncated};
+ghost use Rattle.fancy_duration.specs.Written.{written, compact};
+ghost use Rattle.fancy_duration.specs.Strict.{IsStrict};
+
+use crate::breakdown::{kept_nanos, leading_nanos};
+use crate::read::times_of;
+use crate::strict::is_strict;
+use crate::written::{without_spaces, written_text};
+use crate::{AsTimes, DurationPart, FancyError};
+use scan_core::Short;
+use std::alloc::{AllocError, Global};
+use std::fmt;
+use std::str::FromStr;
+
+/// A duration that is read and written as a short text such as `1h 20m 30s`.
+#[derive(Clone, Copy, Debug, PartialEq)]
+pub struct FancyDuration<D: AsTimes + Copy>(pub D);
+
+impl<D: AsTimes + Copy> FancyDuration<D> {
+    /// Wraps a duration.
+    pub fn new(d: D) -> Self
+        ensures { result.0 ≡ d }
+    {
+        FancyDuration(d)
+    }
+
+    /// The wrapped duration.
+    pub fn duration(&self) -> D
+        ensures { result ≡ self.now.0 }
+    {
+        self.0
+    }
+
+    /// The parts of the breakdown that the list holds, with all others 0: `1m 5s 10ms` by minutes and
+    /// milliseconds is `1m 10ms`.
+    pub fn filter(&self, filter: &[DurationPart]) -> Self
+        ensures { D.times result.0 ≡ times_of (filtered filter.now (nanos_of (D.times self.now.0))) }
+    {
+        self.shortened(kept_nanos(self.nanos(), filter))
+    }
+
+    /// From the first part above 0 on, `limit` consecutive parts stay, and all later ones are 0: `1h 1m 30us`
+    /// truncated to 3 is `1h 1m`.
+    pub fn truncate(&self, limit: usize) -> Self
+        ensures { D.times result.0 ≡ times_of (truncated limit (nanos_of (D.times self.now.0))) }
+    {
+        self.shortened(leading_nanos(self.nanos(), limit))
+    }
+
+    /// The duration that a text denotes.
+    pub fn parse(s: &str) -> Result<Self, FancyError>
+        ensures { Parses (λ fancy. D.times fancy.0) D.holds s.now result }
+    {
+        match D::parse_to_duration(s) {
+            Ok(d) => Ok(FancyDuration(d)),
+            Err(error) => Err(error),
+        }
+    }
+
+    /// The seconds and nanoseconds that a text's items add up to: `1m 30s` is 90 and 0.
+    ///
+    /// `TooBig` comes exactly where the seconds pass `u64::MAX`, and `NotHeld` never.
+    pub fn parse_to_ns(s: &str) -> Result<(u64, u64), FancyError>
+        ensures ok { IfOk result (Denotes s.now) }
+        ensures all { (times : ℕ × ℕ) → Denotes s.now times → result ≡ Ok times }
+        ensures too_big { IsErrOf result FancyError.TooBig ↔ IsTooBig s.now }
+        ensures held { result ≢ Err FancyError.NotHeld }
+    {
+        times_of(s)
+    }
+
+    /// The written text, of at most 96 bytes. It takes no memory.
+    pub fn text(&self) -> Short
+        ensures bytes { result.bytes ≡ written (nanos_of (D.times self.now.0)) }
+        ensures short { array_string_len result ≤ 96 }
+    {
+        written_text(self.nanos())
+    }
+
+    /// The written text: `3m 1w 2d 5m 24s`.
+    pub fn format(&self, alloc: Global) -> Result<String, AllocError>
+        ensures { IfOk result (λ text. string_bytes text ≡ written (nanos_of (D.times self.now.0))) }
+    {
+        String::from_str(alloc, self.text().as_str())
+    }
+
+    /// The written text without spaces: `3m1w2d5m24s`.
+    pub fn format_compact(&self, alloc: Global) -> Result<String, AllocError>
+        ensures { IfOk result (λ text. string_bytes text ≡ compact (nanos_of (D.times self.now.0))) }
+    {
+        without_spaces(alloc, self.text().as_str())
+    }
+
+    /// True exactly for the strict texts, which have nothing but counts, units and blanks: `1h 5m`, not `1h 5x`.
+    pub fn is_fancy_text(s: &str) -> bool
+        ensures { IsTrue result ↔ IsStrict s.now }
+    {
+        is_strict(s)
+    }
+
+    /// The length in nanoseconds.
+    fn nanos(&self) -> u128
+        ensures value { result ≡ nanos_of (D.times self.now.0) }
+        ensures within { result < 2 ^ 64 * 1_000_000_000 }
+    {
+        let (secs, nanos) = self.0.as_times();
+        u128::from(secs) * 1_000_000_000 + u128::from(nanos)
+    }
+
+    /// The duration with this length, which is no more than its own.
+    fn shortened(&self, nanos: u128) -> Self
+        requires fits { nanos < 2 ^ 64 * 1_000_000_000 }
+        requires within { nanos ≤ nanos_of (D.times self.now.0) }
+        ensures { D.times result.0 ≡ times_of nanos }
+    {
+        let secs = (nanos / 1_000_000_000) as u64;
+        FancyDuration(self.0.from_times(secs, (nanos % 1_000_000_000) as u64))
+    }
+}
+
+impl<D: AsTimes + Copy> fmt::Display for FancyDuration<D> {
+    ghost output = { λ fancy. Some (written (nanos_of (D.times fancy.0))) };
+
+    fn fmt<W: fmt::Write>(&self, f: &mut fmt::Formatter<W>) -> fmt::Result {
+        f.write_str(self.text().as_str())
+    }
+}
+
+impl<D: AsTimes + Copy> FromStr for FancyDuration<D> {
+    type Err = FancyError;
+
+    ghost from_str_gives = { λ bytes result. Parses (λ fancy. D.times fancy.0) D.holds bytes result };
+
+    fn from_str(s: &str) -> Result<Self, FancyError> {
+        FancyDuration::parse(s)
+    }
+}

@@ -1,0 +1,94 @@
+ghost use Rattle.std.specs.Prelude.{◌≡◌, ◌≢◌, ℕ, ◌<◌, [], ◌∷◌, length, IfOk, IfSome, IfNone, IsErrOf, ◌↔◌};
+ghost use Rattle.std.specs.Char.{is_ascii_digit as is_digit};
+ghost use Rattle.scan_core.specs.Digits.{number_of};
+ghost use Rattle.fancy_duration.specs.Items.{Item};
+ghost use Rattle.fancy_duration.specs.Sums.{total};
+ghost use Rattle.fancy_duration.specs.Meanings.{Denotes, IsTooBig};
+ghost use Rattle.fancy_duration.specs.Reading.{front, behind, unit_front, unit_behind, items_of, capped};
+
+use crate::tally::Tally;
+use crate::{DurationPart, FancyError};
+
+/// The seconds and nanoseconds of a text's sum, or `TooBig` exactly where the seconds pass `u64::MAX`.
+pub(crate) fn times_of(text: &str) -> Result<(u64, u64), FancyError>
+    ensures ok { IfOk result (Denotes text.now) }
+    ensures all { (times : ℕ × ℕ) → Denotes text.now times → result ≡ Ok times }
+    ensures big { IsErrOf result FancyError.TooBig ↔ IsTooBig text.now }
+    ensures held { result ≢ Err FancyError.NotHeld }
+{
+    let nanos = sum_of(text.as_bytes());
+    match u64::try_from(nanos / 1_000_000_000) {
+        Ok(seconds) => Ok((seconds, (nanos % 1_000_000_000) as u64)),
+        Err(_) => Err(FancyError::TooBig),
+    }
+}
+
+/// The nanoseconds of a text's items, or `u128::MAX` where they are more.
+fn sum_of(text: &[u8]) -> u128
+    ensures { result ≡ capped (total (items_of text.now)) }
+{
+    let mut tally = Tally::new();
+    let mut rest = text;
+    while let Some((number, unit, after)) = next_item(rest) {
+        if let Some(part) = DurationPart::named(unit) {
+            tally.add(number, part);
+        }
+        rest = after;
+    }
+    tally.sum()
+}
+
+/// A text's first item, as its number, its unit and what follows it.
+fn next_item(text: &[u8]) -> Option<(u128, &[u8], &[u8])>
+    ensures found { IfSome result (λ next. (item : Item) × (items_of text.now ≡ item ∷ items_of next.2.now) × (next.0 ≡ capped (number_of item.digits)) × (next.1.now ≡ item.unit)) }
+    ensures shorter { IfSome result (λ next. length next.2.now < length text.now) }
+    ensures none { IfNone result (items_of text.now ≡ []) }
+{
+    let mut rest = text;
+    while let Some((first, tail)) = rest.split_first() {
+        if first.is_ascii_digit() {
+            let (number, behind) = split_number(rest);
+            let (unit, after) = split_unit(behind);
+            if !unit.is_empty() {
+                return Some((number, unit, after));
+            }
+            rest = behind;
+        } else {
+            rest = tail;
+        }
+    }
+    None
+}
+
+/// The number that the digits at a text's front write, as `u128` holds it or `u128::MAX`, and what follows them.
+pub(crate) fn split_number(text: &[u8]) -> (u128, &[u8])
+    ensures number { result.0 ≡ capped (number_of (front is_digit text.now)) }
+    ensures rest { result.1.now ≡ behind is_digit text.now }
+{
+    let mut number: u128 = 0;
+    let mut rest = text;
+    while let Some((first, tail)) = rest.split_first() {
+        if !first.is_ascii_digit() {
+            break;
+        }
+        number = number
+            .saturating_mul(10)
+            .saturating_add(u128::from(*first - b'0'));
+        rest = tail;
+    }
+    (number, rest)
+}
+
+/// The one or two letters at a text's front, or none, and what follows them.
+pub(crate) fn split_unit(text: &[u8]) -> (&[u8], &[u8])
+    ensures unit { result.0.now ≡ unit_front text.now }
+    ensures rest { result.1.now ≡ unit_behind text.now }
+{
+    match text {
+        [first, second, ..] if first.is_ascii_alphabetic() && second.is_ascii_alphabetic() => {
+            text.split_at(2)
+        }
+        [first, ..] if first.is_ascii_alphabetic() => text.split_at(1),
+        _ => text.split_at(0),
+    }
+}

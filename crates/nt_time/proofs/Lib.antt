@@ -1,0 +1,3 @@
+pub mod CivilLemmas
+pub mod TextLemmas
+pub mod TickLemmas

@@ -1,0 +1,19 @@
+-- The text of a file time: its raw count in decimal digits.
+use Rattle.std.specs.Prelude.{◌≡◌, ◌≢◌, ℕ, ◌^◌, ◌<◌, ◌≤◌, ◌⊎◌, ◌↔◌, List, [], ◌++◌, codes, Result, Ok, IfOk, IsErrOf}
+use Rattle.std.specs.Str.Parse.{IsNumeral, digits_value}
+use Rattle.nt_time.specs.declared.error.ParseFileTimeCause.{ParseFileTimeCause}
+use Rattle.nt_time.specs.declared.error.ParseFileTimeCause.TheVariants.{Empty, InvalidDigit, Overflow}
+
+-- the text is one decimal digit or more, with a plus before them or without, and they write n
+abbrev pub IsTextOf : List ℕ → ℕ → Type 0
+IsTextOf text n =
+    (digits : List ℕ) × IsNumeral 10 digits × (n ≡ digits_value 10 digits)
+    × ((text ≡ digits) ⊎ (text ≡ codes "+" ++ digits))
+
+-- the raw count that the text writes, or why there is none: the grammar comes before the size
+pub record IsReadFrom (text : List ℕ) (result : Result ℕ ParseFileTimeCause) : Type 0 where
+  pub ok : IfOk result (IsTextOf text)
+  pub all : (n : ℕ) → IsTextOf text n → n < 2 ^ 64 → result ≡ Ok n
+  pub empty : IsErrOf result Empty ↔ (text ≡ [])
+  pub invalid : IsErrOf result InvalidDigit ↔ ((text ≢ []) × ((n : ℕ) → ¬ IsTextOf text n))
+  pub overflow : IsErrOf result Overflow ↔ ((n : ℕ) × IsTextOf text n × (2 ^ 64 ≤ n))

@@ -1,0 +1,68 @@
+//! File times as texts: the raw count in decimal.
+ghost use Rattle.std.specs.Prelude.{◌≡◌, ◌↔◌, Some, decimal, IsTrue};
+ghost use Rattle.std.specs.Char.{is_ascii_digit};
+ghost use Rattle.std.specs.List.{list_all};
+ghost use Rattle.std.specs.Str.Parse.{IsNumeral, without_leading_plus};
+ghost use Rattle.nt_time.specs.Text.{IsReadFrom};
+
+use crate::FileTime;
+use crate::error::{ParseFileTimeCause, ParseFileTimeError};
+use std::fmt;
+use std::fmt::Display;
+use std::str::FromStr;
+
+/// The raw count in decimal.
+impl Display for FileTime {
+    ghost output = { λ t. Some (decimal t) };
+
+    fn fmt<W: fmt::Write>(&self, f: &mut fmt::Formatter<W>) -> fmt::Result {
+        write!(f, "{}", self.to_raw())
+    }
+}
+
+/// Reads a raw count: decimal digits, as many as there are, with a `+` before them or without.
+///
+/// `Empty` exactly for the empty text, `InvalidDigit` exactly for another text that is not so, and
+/// `Overflow` exactly for a number above `u64::MAX`. `+5` is raw count 5.
+impl FromStr for FileTime {
+    type Err = ParseFileTimeError;
+
+    ghost from_str_gives = { IsReadFrom };
+
+    fn from_str(src: &str) -> Result<FileTime, ParseFileTimeError> {
+        if src.is_empty() {
+            return Err(ParseFileTimeError::new(ParseFileTimeCause::Empty));
+        }
+        // A bad digit behind too many digits is a bad digit: the size comes last.
+        if !is_number(src.as_bytes()) {
+            return Err(ParseFileTimeError::new(ParseFileTimeCause::InvalidDigit));
+        }
+        match src.parse::<u64>() {
+            Ok(raw) => Ok(FileTime::new(raw)),
+            Err(_) => Err(ParseFileTimeError::new(ParseFileTimeCause::Overflow)),
+        }
+    }
+}
+
+fn is_number(text: &[u8]) -> bool
+    ensures { IsTrue result ↔ IsNumeral 10 (without_leading_plus text.now) }
+{
+    let digits = without_plus(text);
+    !digits.is_empty() && are_digits(digits)
+}
+
+fn are_digits(bytes: &[u8]) -> bool
+    ensures { result ≡ list_all is_ascii_digit bytes.now }
+{
+    bytes.iter().all(|byte| byte.is_ascii_digit())
+}
+
+fn without_plus(text: &[u8]) -> &[u8]
+    ensures { result.now ≡ without_leading_plus text.now }
+{
+    if !text.is_empty() && text[0] == b'+' {
+        &text[1..]
+    } else {
+        text
+    }
+}

@@ -1,0 +1,104 @@
+-- The words of a text written in `postgres` style are words: none is empty, and none has a blank.
+use Rattle.std.proofs.Common.{◌≡◌, ℕ, ◌<◌, ◌^◌, Bool, true, false, List, [], ◌∷◌, ◌++◌, length, length-append, codes, decimal, ◌==◌, not, ◌&&◌, ℤ, pos, int_eq, unsigned_abs, ◌≤◌, refl, arith}
+use Rattle.std.proofs.lemmas.Bool.{cond_both}
+use Rattle.std.proofs.lemmas.Bool.Decides.{nat_tests}
+use Rattle.std.proofs.lemmas.Fmt.{decimal_nonempty}
+use Rattle.std.proofs.lemmas.Str.Parse.{digit_from_value}
+use Rattle.std.specs.Char.{digit_value}
+use Rattle.std.specs.Int.{is_negative}
+use Rattle.scan_core.specs.Blanks.{is_blank}
+use Rattle.scan_core.specs.Digits.{AreDigits}
+use Rattle.scan_core.specs.Padded.{padded}
+use Rattle.scan_core.proofs.DigitFacts.{digits_decimal}
+use Rattle.scan_core.proofs.WordFacts.{NoBlanks}
+use Rattle.pg_interval_2.specs.Parts.{minus, years_of, months_of, hours_of, minutes_of, seconds_of, subsecond_of}
+use Rattle.pg_interval_2.specs.PostgresText.{counted_name, part_words, clock_words, postgres_words}
+use Rattle.pg_interval_2.specs.ClockText.{hours_text, field_text, fraction_text, clock_text}
+use Rattle.pg_interval_2.proofs.WrittenDigits.{AreDigits-padded, length-padded}
+use Rattle.pg_interval_2.proofs.Spaces.{AreWords}
+
+no_blank-append : (xs ys : List ℕ) → NoBlanks xs → NoBlanks ys → NoBlanks (xs ++ ys)
+no_blank-append [] ys left right = right
+no_blank-append (x ∷ xs) ys left right = (left.0, no_blank-append xs ys left.1 right)
+
+digit_no_blank : (c : ℕ) → digit_value c < 10 → is_blank c ≡ false
+digit_no_blank c digit = let range = digit_from_value c digit in grind (arith, nat_tests)
+
+no_blank-digits : (digits : List ℕ) → AreDigits digits → NoBlanks digits
+no_blank-digits [] are = tt
+no_blank-digits (d ∷ ds) are = (digit_no_blank d are.0, no_blank-digits ds are.1)
+
+no_blank-minus : (negative : Bool) → NoBlanks (minus negative)
+no_blank-minus true = (refl, tt)
+no_blank-minus false = tt
+
+counted_name_is : (negative : Bool) (n : ℕ) (name : List ℕ) → 0 < length name → NoBlanks name → (0 < length (counted_name negative n name)) × NoBlanks (counted_name negative n name)
+unfolding counted_name
+counted_name_is negative n name some clear =
+    cond_both (not negative && n == 1) _ _ (λ (word : List ℕ). (0 < length word) × NoBlanks word) (λ _. (some, clear))
+    (λ _. (omega (arith, length-append name (codes "s")), no_blank-append name (codes "s") clear (refl, tt)))
+
+-- the words of a part
+pub AreWords-part_words : (negative : Bool) (n : ℕ) (name : List ℕ) → n < 2 ^ 64 → 0 < length name → NoBlanks name → AreWords (part_words negative n name)
+unfolding part_words
+AreWords-part_words negative n name small some clear =
+    let behind = counted_name_is negative n name some clear in
+    cond_both (n == 0) _ _ AreWords (λ _. tt)
+    (λ _. (
+      omega (arith, length-append (minus negative) (decimal n), decimal_nonempty n small),
+      no_blank-append (minus negative) (decimal n) (no_blank-minus negative) (no_blank-digits (decimal n) (digits_decimal n small)),
+      (behind.0, behind.1, tt),
+    ))
+
+pub year_words : (months : ℤ) → unsigned_abs months ≤ 2 ^ 63 → AreWords (part_words (is_negative months) (years_of months) (codes "year"))
+year_words months small = AreWords-part_words (is_negative months) (years_of months) (codes "year") (omega arith) (omega arith) (refl, (refl, (refl, (refl, tt))))
+
+pub month_words : (months : ℤ) → unsigned_abs months ≤ 2 ^ 63 → AreWords (part_words (is_negative months) (months_of months) (codes "mon"))
+month_words months small = AreWords-part_words (is_negative months) (months_of months) (codes "mon") (omega arith) (omega arith) (refl, (refl, (refl, tt)))
+
+pub day_words : (days : ℤ) → unsigned_abs days ≤ 2 ^ 63 → AreWords (part_words (is_negative days) (unsigned_abs days) (codes "day"))
+day_words days small = AreWords-part_words (is_negative days) (unsigned_abs days) (codes "day") (omega arith) (omega arith) (refl, (refl, (refl, tt)))
+
+-- ---- the word of a clock
+
+no_blank-padded : (width n : ℕ) → n < 2 ^ 64 → NoBlanks (padded width n)
+no_blank-padded width n small = no_blank-digits (padded width n) (AreDigits-padded width n small)
+
+no_blank-field : (n : ℕ) → n < 2 ^ 64 → NoBlanks (field_text n)
+unfolding field_text
+no_blank-field n small = no_blank-append (codes ":") (padded 2 n) (refl, tt) (no_blank-padded 2 n small)
+
+no_blank-fraction : (micros : ℕ) → micros < 2 ^ 64 → NoBlanks (fraction_text micros)
+unfolding fraction_text
+no_blank-fraction micros small =
+    cond_both (micros == 0) _ _ (λ text. NoBlanks text) (λ _. tt) (λ _. no_blank-append (codes ".") (padded 6 micros) (refl, tt) (no_blank-padded 6 micros small))
+
+no_blank-clock : (width : ℕ) (micros : ℤ) → unsigned_abs micros ≤ 2 ^ 63 → NoBlanks (clock_text width micros)
+unfolding clock_text hours_text
+no_blank-clock width micros small =
+    no_blank-append (padded width (hours_of micros)) _ (no_blank-padded width (hours_of micros) (omega arith))
+    (no_blank-append (field_text (minutes_of micros)) _ (no_blank-field (minutes_of micros) (omega arith))
+    (no_blank-append (field_text (seconds_of micros)) _ (no_blank-field (seconds_of micros) (omega arith)) (no_blank-fraction (subsecond_of micros) (omega arith))))
+
+clock_some : (width : ℕ) (micros : ℤ) → unsigned_abs micros ≤ 2 ^ 63 → 0 < length (clock_text width micros)
+unfolding clock_text hours_text
+clock_some width micros small =
+    omega (arith, length-append (padded width (hours_of micros)) (field_text (minutes_of micros) ++ (field_text (seconds_of micros) ++ fraction_text (subsecond_of micros))), length-padded width (hours_of micros), decimal_nonempty (hours_of micros) (omega arith))
+
+pub time_words : (micros : ℤ) → unsigned_abs micros ≤ 2 ^ 63 → AreWords (clock_words micros)
+unfolding clock_words
+time_words micros small =
+    cond_both (int_eq micros (pos 0)) _ _ AreWords (λ _. tt)
+    (λ _. (
+      omega (arith, length-append (minus (is_negative micros)) (clock_text 2 micros), clock_some 2 micros small),
+      no_blank-append (minus (is_negative micros)) (clock_text 2 micros) (no_blank-minus (is_negative micros)) (no_blank-clock 2 micros small),
+      tt,
+    ))
+
+pub AreWords-append : (xs ys : List (List ℕ)) → AreWords xs → AreWords ys → AreWords (xs ++ ys)
+AreWords-append [] ys left right = right
+AreWords-append (x ∷ xs) ys left right = (left.0, left.1, AreWords-append xs ys left.2 right)
+
+pub AreWords-postgres_words : (months days micros : ℤ) → unsigned_abs months ≤ 2 ^ 63 → unsigned_abs days ≤ 2 ^ 63 → unsigned_abs micros ≤ 2 ^ 63 → AreWords (postgres_words months days micros)
+AreWords-postgres_words months days micros small_months small_days small_micros =
+    AreWords-append _ _ (year_words months small_months) (AreWords-append _ _ (month_words months small_months) (AreWords-append _ _ (day_words days small_days) (time_words micros small_micros)))
