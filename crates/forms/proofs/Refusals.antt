@@ -6,7 +6,7 @@ use Rattle.scan_core.specs.declared.share.Part.{Part}
 use Rattle.scan_core.specs.declared.share.Part.TheVariants.{Months, Days, Micros}
 use Rattle.pg_interval_2.specs.declared.interval.Interval.{Interval}
 use Rattle.pg_interval_2.specs.declared.error.ParseError.{ParseError}
-use Rattle.pg_interval_2.specs.declared.error.ParseError.TheVariants.{InvalidInterval, InvalidYearMonth, InvalidDay, InvalidTime}
+use Rattle.pg_interval_2.specs.declared.error.ParseError.TheVariants.{InvalidInterval, BadUnit, InvalidYearMonth, InvalidDay, InvalidTime}
 use Rattle.pg_interval_2.specs.Denotes.{sum_of, HasNoShape, Misfits, Refuses}
 use Rattle.pg_interval_2.specs.Styles.{Shape}
 use Rattle.pg_interval_2.proofs.IsoCounts.{one_list}
@@ -57,16 +57,18 @@ refused_for form text Syntax no_shape misfits = no_shape refl
 refused_for form text Range no_shape misfits = misfits refl
 
 -- what a reader's error says, by its kind
-error_says : (form : Form) (message text : List ℕ) (error : ParseError) → Refuses (Shape (style_of form)) message text error → IsRefusedBy form text error
-error_says form message text (InvalidInterval m) h = record { range = λ r. absurd r; no_range = λ n. h.0 }
-error_says form message text (InvalidYearMonth m) h = record { range = λ r. (Months, h.0); no_range = λ n. absurd (n tt) }
-error_says form message text (InvalidDay m) h = record { range = λ r. (Days, h.0); no_range = λ n. absurd (n tt) }
-error_says form message text (InvalidTime m) h = record { range = λ r. (Micros, h.0); no_range = λ n. absurd (n tt) }
+error_says : (form : Form) (IsBadPlace : List ℕ → ℕ → ℕ → Type 0) (message text : List ℕ) (error : ParseError) → Refuses (Shape (style_of form)) IsBadPlace message text error → IsRefusedBy form text error
+error_says form IsBadPlace message text (InvalidInterval m) h = record { range = λ r. absurd r; no_range = λ n. h.0 }
+error_says form IsBadPlace message text (BadUnit start end) h = record { range = λ r. absurd r; no_range = λ n. h.0 }
+error_says form IsBadPlace message text (InvalidYearMonth m) h = record { range = λ r. (Months, h.0); no_range = λ n. absurd (n tt) }
+error_says form IsBadPlace message text (InvalidDay m) h = record { range = λ r. (Days, h.0); no_range = λ n. absurd (n tt) }
+error_says form IsBadPlace message text (InvalidTime m) h = record { range = λ r. (Micros, h.0); no_range = λ n. absurd (n tt) }
 
-means_refusal : (form : Form) (message text : List ℕ) (read : Result Interval ParseError) → IfErr read (Refuses (Shape (style_of form)) message text) → IfErr read (IsRefusedBy form text)
-means_refusal form message text (Ok t) h = tt
-means_refusal form message text (Err e) h = error_says form message text e h
+means_refusal : (form : Form) (IsBadPlace : List ℕ → ℕ → ℕ → Type 0) (message text : List ℕ) (read : Result Interval ParseError) → IfErr read (Refuses (Shape (style_of form)) IsBadPlace message text) → IfErr read (IsRefusedBy form text)
+means_refusal form IsBadPlace message text (Ok t) h = tt
+means_refusal form IsBadPlace message text (Err e) h = error_says form IsBadPlace message text e h
 
 -- what the reader of a form answers, where the form is known to be this one
-pub refused_by : (form known : Form) (message text : List ℕ) (read : Result Interval ParseError) → form ≡ known → IfErr read (Refuses (Shape (style_of known)) message text) → IfErr read (IsRefusedBy form text)
-refused_by form known message text read is h = let P : Form → Type 0 = λ f. IfErr read (IsRefusedBy f text) in subst P (sym is) (means_refusal known message text read h)
+pub refused_by : (form known : Form) (IsBadPlace : List ℕ → ℕ → ℕ → Type 0) (message text : List ℕ) (read : Result Interval ParseError) → form ≡ known → IfErr read (Refuses (Shape (style_of known)) IsBadPlace message text)
+    → IfErr read (IsRefusedBy form text)
+refused_by form known IsBadPlace message text read is h = let P : Form → Type 0 = λ f. IfErr read (IsRefusedBy f text) in subst P (sym is) (means_refusal known IsBadPlace message text read h)
