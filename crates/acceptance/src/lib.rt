@@ -9,4 +9,6 @@ mod hostile;
 #[cfg(test)]
 mod iso;
 #[cfg(test)]
+mod postgres;
+#[cfg(test)]
 mod program;

@@ -9,9 +9,8 @@ use Rattle.pg_interval_2.specs.declared.error.ParseError.{ParseError}
 use Rattle.pg_interval_2.specs.declared.error.ParseError.TheVariants.{InvalidInterval, BadUnit, InvalidYearMonth, InvalidDay, InvalidTime}
 use Rattle.pg_interval_2.specs.Denotes.{sum_of, HasNoShape, Misfits, Refuses}
 use Rattle.pg_interval_2.specs.Styles.{Shape}
-use Rattle.pg_interval_2.proofs.IsoCounts.{one_list}
+use Rattle.pg_interval_2.proofs.OneList.{one_list}
 use Rattle.forms.specs.declared.form.Form.{Form}
-use Rattle.forms.specs.declared.form.Form.TheVariants.{PgIso}
 use Rattle.forms.specs.declared.cause.Cause.{Cause}
 use Rattle.forms.specs.declared.cause.Cause.TheVariants.{Syntax, Range}
 use Rattle.forms.specs.Names.{style_of}
@@ -20,7 +19,7 @@ use Rattle.forms.specs.Reading.{IsRefusedBy}
 
 -- a text of a form spells one list of counts
 one_spelling : (form : Form) (text : List ℕ) (a b : List Count) → Shape (style_of form) text a → Shape (style_of form) text b → a ≡ b
-one_spelling PgIso = one_list
+one_spelling form = one_list (style_of form)
 
 none_false : (months days micros : Bool) (part : Part) → IsTrue (months && (days && micros)) → first_false months days micros ≡ Some part → ⊥
 none_false true true true part all one = cc

@@ -3,7 +3,7 @@ use Rattle.std.proofs.Common.{◌≡◌, ◌≢◌, ℕ, suc, ◌<◌, ◌==◌,
 use Rattle.std.specs.Prelude.{unwrap_or}
 use Rattle.std.proofs.lemmas.Bool.Decides.{nat_tests}
 use Rattle.forms.specs.declared.form.Form.{Form}
-use Rattle.forms.specs.declared.form.Form.TheVariants.{PgIso}
+use Rattle.forms.specs.declared.form.Form.TheVariants.{PgIso, Postgres}
 use Rattle.forms.specs.Names.{name_of}
 use Rattle.forms.specs.Replies.{IsTail}
 use Rattle.forms.specs.Reading.{NoSpace, behind, IsNamed}
@@ -22,6 +22,7 @@ no_space_at (byte ∷ bytes) h = (not_space byte (h 0 (omega arith)), no_space_a
 -- no form's name has a space
 name_no_space : (form : Form) → NoSpace (name_of form)
 name_no_space PgIso = (refl, (refl, (refl, (refl, (refl, tt)))))
+name_no_space Postgres = (refl, (refl, (refl, (refl, (refl, (refl, (refl, (refl, tt))))))))
 
 same_behind : (r s : Option (List ℕ)) → behind r ≡ behind s → r ≡ s
 same_behind None None h = refl

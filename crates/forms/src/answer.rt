@@ -59,6 +59,7 @@ fn read(form: Form, text: &str) -> Result<Interval, ParseError>
 {
     match form {
         Form::PgIso => Interval::from_iso(text),
+        Form::Postgres => Interval::from_postgres(text),
     }
 }
 
@@ -112,8 +113,12 @@ mod tests {
 
     #[test]
     fn converts_texts(rt: HostRuntime) -> Result<(), Fail> {
-        for (text, want) in [("P1Y1Y", "P2Y"), ("PT5S5S", "PT10S"), ("P1.99Y", "P2Y")] {
-            let text = convert(rt.alloc(), Form::PgIso, Form::PgIso, text)?;
+        for (text, to, want) in [
+            ("P1Y1Y", Form::PgIso, "P2Y"),
+            ("P1.99Y", Form::PgIso, "P2Y"),
+            ("P1Y1M1DT1H", Form::Postgres, "1 year 1 mon 1 day 01:00:00"),
+        ] {
+            let text = convert(rt.alloc(), Form::PgIso, to, text)?;
             assert_eq!(rt; text.as_str(), want);
         }
         for (text, want) in [("P", Cause::Syntax), ("P2147483648D", Cause::Range)] {

@@ -10,6 +10,8 @@ use pg_interval_2::Style;
 pub enum Form {
     /// PostgreSQL's `iso_8601`: `P1Y2M3DT4H5M6S`.
     PgIso,
+    /// PostgreSQL's `postgres`: `1 year 2 mons 3 days 04:05:06`.
+    Postgres,
 }
 
 impl Form {
@@ -19,6 +21,7 @@ impl Form {
     {
         match name {
             "PgIso" => Some(Form::PgIso),
+            "Postgres" => Some(Form::Postgres),
             _ => None,
         }
     }
@@ -29,6 +32,7 @@ impl Form {
     {
         match self {
             Form::PgIso => "PgIso",
+            Form::Postgres => "Postgres",
         }
     }
 
@@ -38,6 +42,7 @@ impl Form {
     {
         match self {
             Form::PgIso => Style::Iso,
+            Form::Postgres => Style::Postgres,
         }
     }
 }
