@@ -5,7 +5,8 @@ use Rattle.std.specs.List.{position_or_len}
 use Rattle.std.proofs.lemmas.Bool.Decides.{nat_tests}
 use Rattle.std.proofs.lemmas.List.Sums.{prefix_len-le-length}
 use Rattle.std.proofs.lemmas.Option.{cond_some}
-use Rattle.forms.specs.Lines.{lines, onto_first}
+use Rattle.scan_core.specs.Join.{onto_first}
+use Rattle.forms.specs.Lines.{lines}
 
 -- where the first line feed stands, or the length
 abbrev feed_at : List ℕ → ℕ

@@ -7,7 +7,7 @@ use Rattle.scan_core.specs.Count.{Count}
 use Rattle.scan_core.specs.declared.share.Unit.{Unit as TimeUnit}
 use Rattle.scan_core.proofs.Joins.{Finds, join_same, join_values}
 use Rattle.pg_interval_2.specs.Iso.{unit_in, date_unit, time_unit, IsPair, ArePairs, IsIso}
-use Rattle.pg_interval_2.specs.Reading.{Numeral, count_of, read_letter, read_number, read_unsigned, read_pair}
+use Rattle.pg_interval_2.specs.Reading.{Numeral, count_with, read_letter, read_number, read_unsigned, read_pair}
 use Rattle.pg_interval_2.proofs.Numbers.{finds_number, is_number}
 
 date_letter : (letter : ℕ) (unit : TimeUnit) → date_unit letter ≡ Some unit → (is_ascii_digit letter ≡ false) × ((letter == 46) ≡ false)
@@ -33,7 +33,7 @@ finds_pair in_time piece rest c h =
 
 -- what is read at a letter
 letter_is : (unit_of : ℕ → Option TimeUnit) (n : Numeral) (bytes : List ℕ) (c : Count) (rest : List ℕ) → read_letter unit_of n bytes ≡ Some (c, rest)
-    → (letter : ℕ) × (unit : TimeUnit) × (bytes ≡ letter ∷ rest) × (unit_of letter ≡ Some unit) × (c ≡ count_of n unit)
+    → (letter : ℕ) × (unit : TimeUnit) × (bytes ≡ letter ∷ rest) × (unit_of letter ≡ Some unit) × (c ≡ count_with n unit)
 letter_is unit_of n [] c rest h = cc
 letter_is unit_of n (b ∷ bs) c rest h =
     option_and_then_some _ _ _ h (λ unit found body.

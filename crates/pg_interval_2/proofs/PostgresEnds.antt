@@ -8,7 +8,7 @@ use Rattle.pg_interval_2.specs.declared.counted.Counted.{Counted}
 use Rattle.pg_interval_2.specs.ItemReading.{ClockFields, ClockItem, NamedItem, NoItem, read_item, clock_of, verdict, Spelled, BadLetters, Unspelled}
 use Rattle.pg_interval_2.specs.Postgres.{IsFreshName, IsPostgres, IsPostgresBadName, has_distinct_units}
 use Rattle.pg_interval_2.specs.PostgresTally.{HasNoBadName, IsPostgresTally}
-use Rattle.pg_interval_2.specs.Reading.{Numeral, count_of}
+use Rattle.pg_interval_2.specs.Reading.{Numeral, count_with}
 use Rattle.pg_interval_2.specs.UnitNames.{postgres_names}
 use Rattle.pg_interval_2.proofs.BadNames.{behind_items, items_verdict, bad_verdict}
 use Rattle.pg_interval_2.proofs.ItemsRead.{StandsNamed, Stands, item_stands}
@@ -74,7 +74,7 @@ bad_next text rest letters after state n taken some read bad =
       letters = letters;
       after = after;
       counts = taken.counts;
-      c = count_of n Year;
+      c = count_with n Year;
       items = taken.items;
       closed = closed_now text rest state taken some;
       digits = h.digits;

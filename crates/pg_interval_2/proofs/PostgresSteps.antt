@@ -10,7 +10,7 @@ use Rattle.pg_interval_2.specs.declared.counted.Counted.{Counted}
 use Rattle.pg_interval_2.specs.CountedItems.{IsCounted, TakesItem}
 use Rattle.pg_interval_2.specs.ItemReading.{ClockFields, clock_of, after_blanks}
 use Rattle.pg_interval_2.specs.Postgres.{IsItem, AreItems, all_counts, has_distinct_units}
-use Rattle.pg_interval_2.specs.Reading.{Numeral, count_of}
+use Rattle.pg_interval_2.specs.Reading.{Numeral, count_with}
 use Rattle.pg_interval_2.specs.UnitNames.{postgres_names, unit_named}
 use Rattle.pg_interval_2.proofs.CountedFacts.{clock_long, named_long}
 use Rattle.pg_interval_2.proofs.ItemFacts.{AreBlanks, both, are_skipped}
@@ -33,7 +33,7 @@ clock_front bytes fields rest h =
     record { front = h.word; item = inr (h.word, h.clock, alone); ends = h.ends; split = h.split }
 
 named_item : (n : Numeral) (letters bytes rest : List ℕ) (h : StandsNamed bytes n letters rest) (unit : TimeUnit) → unit_named postgres_names letters ≡ Some unit → (blanks : List ℕ) → h.blanks ≡ blanks
-    → IsItem postgres_names (words (h.number ++ (h.blanks ++ letters))) (count_of n unit ∷ [])
+    → IsItem postgres_names (words (h.number ++ (h.blanks ++ letters))) (count_with n unit ∷ [])
 named_item n letters bytes rest h unit found [] none =
     let word = h.number ++ letters in
     let lengths = length-append h.number letters in
@@ -41,17 +41,17 @@ named_item n letters bytes rest h unit found [] none =
     let solid = no_blanks-append h.number letters (number_no_blanks n.negative n.whole n.fraction h.number h.digits) (letters_no_blanks letters h.ascii) in
     let spelled : words (h.number ++ (h.blanks ++ letters)) ≡ word ∷ [] =
     ap (λ (l : List ℕ). words (h.number ++ (l ++ letters))) none ∙ ap words (sym (append-nil word)) ∙ words_in_front word [] (omega (arith, lengths, some)) solid tt in
-    inl (count_of n unit, record { number = h.number; name = letters; digits = h.digits; unit = found; spelled = inr spelled }, refl)
+    inl (count_with n unit, record { number = h.number; name = letters; digits = h.digits; unit = found; spelled = inr spelled }, refl)
 named_item n letters bytes rest h unit found (b ∷ bs) some =
     let blank : AreBlanks (b ∷ bs) = subst AreBlanks some h.blank in
     let first = words_in_front h.number ((b ∷ bs) ++ letters) (number_some n.negative n.whole n.fraction h.number h.digits) (number_no_blanks n.negative n.whole n.fraction h.number h.digits) (both (is_blank b) (list_all is_blank bs) blank).0 in
     let second = words-blanks (b ∷ bs) letters blank ∙ ap words (sym (append-nil letters)) ∙ words_in_front letters [] h.some (letters_no_blanks letters h.ascii) tt in
     let spelled : words (h.number ++ (h.blanks ++ letters)) ≡ h.number ∷ letters ∷ [] =
     ap (λ (l : List ℕ). words (h.number ++ (l ++ letters))) some ∙ first ∙ ap (λ (l : List (List ℕ)). h.number ∷ l) second in
-    inl (count_of n unit, record { number = h.number; name = letters; digits = h.digits; unit = found; spelled = inl spelled }, refl)
+    inl (count_with n unit, record { number = h.number; name = letters; digits = h.digits; unit = found; spelled = inl spelled }, refl)
 
 named_front : (bytes : List ℕ) (n : Numeral) (letters rest : List ℕ) (unit : TimeUnit) → StandsNamed bytes n letters rest → unit_named postgres_names letters ≡ Some unit
-    → IsItemInFront bytes rest (count_of n unit ∷ [])
+    → IsItemInFront bytes rest (count_with n unit ∷ [])
 named_front bytes n letters rest unit h found = record {
   front = h.number ++ (h.blanks ++ letters);
   item = named_item n letters bytes rest h unit found h.blanks refl;
@@ -147,7 +147,7 @@ pub one_taken : (text rest after : List ℕ) (old new : Counted) (taken : ItemsT
 one_taken text rest after old new taken some (inl (fields, read, counted)) =
     front_taken text rest after (clock_of fields) old new taken some (clock_front rest fields after (subst (Stands rest) read (item_stands rest))) counted
 one_taken text rest after old new taken some (inr (n, letters, unit, read, found, counted)) =
-    front_taken text rest after (count_of n unit ∷ []) old new taken some (named_front rest n letters after unit (subst (Stands rest) read (item_stands rest)) found) counted
+    front_taken text rest after (count_with n unit ∷ []) old new taken some (named_front rest n letters after unit (subst (Stands rest) read (item_stands rest)) found) counted
 
 -- what is left of a rest after an item is shorter
 pub taken_shorter : (rest after : List ℕ) (counts : List Count) (new : Counted) → TakesItem rest after counts new → length (after_blanks after) < length rest

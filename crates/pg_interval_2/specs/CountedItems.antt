@@ -9,7 +9,7 @@ use Rattle.pg_interval_2.specs.declared.counted.Step.TheVariants.{Taken, BadName
 use Rattle.pg_interval_2.specs.Clock.{is_nonzero}
 use Rattle.pg_interval_2.specs.ItemReading.{ClockFields, ClockItem, NamedItem, NoItem, clock_of, read_item}
 use Rattle.pg_interval_2.specs.Postgres.{IsFreshName, counts_unit, has_distinct_units}
-use Rattle.pg_interval_2.specs.Reading.{Numeral, count_of}
+use Rattle.pg_interval_2.specs.Reading.{Numeral, count_with}
 use Rattle.pg_interval_2.specs.Tallies.{Tallies}
 use Rattle.pg_interval_2.specs.UnitNames.{postgres_names, unit_named}
 use Rattle.pg_interval_2.specs.UnitSets.{holds_unit}
@@ -45,7 +45,7 @@ pub record AreClockDigits (fields : ClockFields) : Type 0 where
 -- an item in front of the bytes was counted
 abbrev pub TakesItem : List ℕ → List ℕ → List Count → Counted → Type 0
 TakesItem bytes rest counts new =
-    ((fields : ClockFields) × (read_item bytes ≡ ClockItem fields rest) × IsCounted new (counts ++ clock_of fields)) ⊎ ((n : Numeral) × (letters : List ℕ) × (unit : TimeUnit) × (read_item bytes ≡ NamedItem n letters rest) × (unit_named postgres_names letters ≡ Some unit) × IsCounted new (counts ++ count_of n unit ∷ []))
+    ((fields : ClockFields) × (read_item bytes ≡ ClockItem fields rest) × IsCounted new (counts ++ clock_of fields)) ⊎ ((n : Numeral) × (letters : List ℕ) × (unit : TimeUnit) × (read_item bytes ≡ NamedItem n letters rest) × (unit_named postgres_names letters ≡ Some unit) × IsCounted new (counts ++ count_with n unit ∷ []))
 
 -- what a step says of the bytes, behind these counts
 abbrev pub Takes : List ℕ → List Count → Counted → Step → Type 0

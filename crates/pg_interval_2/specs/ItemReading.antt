@@ -7,7 +7,7 @@ use Rattle.scan_core.specs.Count.{Count}
 use Rattle.scan_core.specs.declared.share.Unit.{Unit as TimeUnit}
 use Rattle.pg_interval_2.specs.Clock.{clock_counts}
 use Rattle.pg_interval_2.specs.Postgres.{counts_unit, has_distinct_units}
-use Rattle.pg_interval_2.specs.Reading.{Numeral, count_of, front_digits, after_digits, read_sign, read_fraction, read_number}
+use Rattle.pg_interval_2.specs.Reading.{Numeral, count_with, front_digits, after_digits, read_sign, read_fraction, read_number}
 use Rattle.pg_interval_2.specs.UnitNames.{unit_named}
 
 -- what follows the blanks in front
@@ -108,7 +108,7 @@ pub data Verdict : Type 0 where
 -- letters behind a number
 abbrev pub judge_unit : List Count → ℕ → List ℕ → Numeral → Option TimeUnit → (List Count → Verdict) → Verdict
 judge_unit counts ink letters n None next = BadLetters ink letters
-judge_unit counts ink letters n (Some unit) next = if counts_unit unit counts then BadLetters ink letters else next (count_of n unit ∷ [])
+judge_unit counts ink letters n (Some unit) next = if counts_unit unit counts then BadLetters ink letters else next (count_with n unit ∷ [])
 
 abbrev pub is_name : List ℕ → Bool
 is_name word = nat_lt 0 (length word) && list_all is_ascii_alphabetic word

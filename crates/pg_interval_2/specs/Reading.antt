@@ -43,14 +43,14 @@ read_unsigned negative bytes =
 unfoldable pub read_number : Bool → List ℕ → Option (Numeral × List ℕ)
 read_number plus bytes = let sign = read_sign plus bytes in read_unsigned sign.0 sign.1
 
--- the count of a number and a unit
-abbrev pub count_of : Numeral → TimeUnit → Count
-count_of n unit = record { negative = n.negative; whole = n.whole; fraction = n.fraction; unit = unit }
+-- a number with a unit is a count
+abbrev pub count_with : Numeral → TimeUnit → Count
+count_with n unit = record { negative = n.negative; whole = n.whole; fraction = n.fraction; unit = unit }
 
 -- the unit of the letter in front, and what follows it
 abbrev pub read_letter : (ℕ → Option TimeUnit) → Numeral → List ℕ → Option (Count × List ℕ)
 read_letter unit_of n [] = None
-read_letter unit_of n (letter ∷ rest) = option_and_then (λ unit. Some (count_of n unit, rest)) (unit_of letter)
+read_letter unit_of n (letter ∷ rest) = option_and_then (λ unit. Some (count_with n unit, rest)) (unit_of letter)
 
 -- a number and a letter
 unfoldable pub read_pair : (ℕ → Option TimeUnit) → List ℕ → Option (Count × List ℕ)

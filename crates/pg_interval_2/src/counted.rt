@@ -7,7 +7,7 @@ ghost use Rattle.pg_interval_2.specs.Clock.{is_nonzero};
 ghost use Rattle.pg_interval_2.specs.CountedItems.{AreClockDigits, CountsOne, CountsPerhaps, CountsAll, IsCounted, LeavesRoom, Takes};
 ghost use Rattle.pg_interval_2.specs.ItemReading.{clock_of};
 ghost use Rattle.pg_interval_2.specs.ItemViews.{fields_of};
-ghost use Rattle.pg_interval_2.specs.Reading.{count_of, numeral_of};
+ghost use Rattle.pg_interval_2.specs.Reading.{count_with, numeral_of};
 
 use crate::items::{Clock, Item, next_item};
 use crate::scan::Number;
@@ -79,7 +79,7 @@ impl Counted {
         requires fraction { AreDigits number.fraction.now }
         requires room { self.old.tally.totals.adds < 2 ^ 63 }
         ensures adds { self.new.tally.totals.adds ≤ self.old.tally.totals.adds + 1 }
-        ensures counted { (counts : List Count) → IsCounted self.old counts → CountsOne counts (count_of (numeral_of number.entry) unit) self.new result }
+        ensures counted { (counts : List Count) → IsCounted self.old counts → CountsOne counts (count_with (numeral_of number.entry) unit) self.new result }
     {
         if self.units.contains(unit) {
             return false;
@@ -95,7 +95,7 @@ impl Counted {
         requires fraction { AreDigits number.fraction.now }
         requires room { self.old.tally.totals.adds < 2 ^ 63 }
         ensures adds { self.new.tally.totals.adds ≤ self.old.tally.totals.adds + 1 }
-        ensures counted { (counts : List Count) → IsCounted self.old counts → CountsPerhaps counts (count_of (numeral_of number.entry) unit) self.new result }
+        ensures counted { (counts : List Count) → IsCounted self.old counts → CountsPerhaps counts (count_with (numeral_of number.entry) unit) self.new result }
     {
         if is_zero(number) {
             return true;

@@ -4,7 +4,7 @@ ghost use Rattle.pg_interval_2.specs.Denotes.{Denotes, HasNoShape, NoPlace, Refu
 ghost use Rattle.pg_interval_2.specs.Iso.{IsIso, unit_in};
 ghost use Rattle.pg_interval_2.specs.IsoTally.{IsTallied, TakesPairs};
 ghost use Rattle.pg_interval_2.specs.Messages.{not_iso};
-ghost use Rattle.pg_interval_2.specs.Reading.{count_of, numeral_of, read_pair};
+ghost use Rattle.pg_interval_2.specs.Reading.{count_with, numeral_of, read_pair};
 
 use crate::error::ParseError;
 use crate::interval::Interval;
@@ -30,7 +30,7 @@ fn unit_of(in_time: bool, letter: u8) -> Option<Unit>
 /// The number and the unit in front, and what follows them; None exactly where no such pair is there.
 #[tactic(auto, unfolding(crate::specs::Reading::read_pair))]
 fn split_pair(in_time: bool, bytes: &[u8]) -> Option<(Number<'_>, Unit, &[u8])>
-    ensures { option_map (λ r. (count_of (numeral_of r.0) r.1, r.2.now)) result ≡ read_pair (unit_in in_time) bytes.now }
+    ensures { option_map (λ r. (count_with (numeral_of r.0) r.1, r.2.now)) result ≡ read_pair (unit_in in_time) bytes.now }
 {
     let (number, rest) = split_number(false, bytes)?;
     let (letter, rest) = rest.split_first()?;

@@ -3,7 +3,7 @@ ghost use Rattle.std.specs.Prelude.{◌≡◌, ◌+◌, ◌<◌, ◌≤◌, ◌^
 ghost use Rattle.scan_core.specs.Count.{Count};
 ghost use Rattle.scan_core.specs.Digits.{AreDigits};
 ghost use Rattle.scan_core.specs.Shares.{main_part};
-ghost use Rattle.pg_interval_2.specs.Reading.{count_of, numeral_of};
+ghost use Rattle.pg_interval_2.specs.Reading.{count_with, numeral_of};
 ghost use Rattle.pg_interval_2.specs.Tallies.{Tallies, Answers, marked};
 
 use crate::error::ParseError;
@@ -40,7 +40,7 @@ impl Tally {
         requires fraction { AreDigits number.fraction.now }
         requires room { self.old.totals.adds < 2 ^ 63 }
         ensures adds { self.new.totals.adds ≤ self.old.totals.adds + 1 }
-        ensures tallied { (counts : List Count) → Tallies self.old counts → Tallies self.new (counts ++ count_of (numeral_of number.entry) unit ∷ []) }
+        ensures tallied { (counts : List Count) → Tallies self.old counts → Tallies self.new (counts ++ count_with (numeral_of number.entry) unit ∷ []) }
     {
         match count_share(number.whole, number.fraction, number.negative, unit) {
             Some(share) => self.totals.add(share),

@@ -1,14 +1,10 @@
 -- Blanks, which are the six white-space bytes of the C locale's `isspace`, and the words between them.
 use Rattle.std.specs.Prelude.{◌≡◌, ◌⊎◌, ℕ, Bool, ◌||◌, ◌&&◌, ◌==◌, nat_le, IsTrue, List, [], ◌∷◌, ◌++◌, if◌then◌else◌}
+use Rattle.scan_core.specs.Join.{onto_first}
 
 -- a tab, a line feed, a vertical tab, a form feed, a carriage return or a space
 abbrev pub is_blank : ℕ → Bool
 is_blank b = (nat_le 9 b && nat_le b 13) || (b == 32)
-
--- a byte in front of the first word
-abbrev pub onto_first : ℕ → List (List ℕ) → List (List ℕ)
-onto_first b [] = (b ∷ []) ∷ []
-onto_first b (word ∷ more) = (b ∷ word) ∷ more
 
 -- the words of a text: its maximal runs of bytes that aren't blank, in order
 abbrev pub words : List ℕ → List (List ℕ)

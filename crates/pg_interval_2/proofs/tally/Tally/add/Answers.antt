@@ -1,11 +1,11 @@
 use Rattle.std.proofs.Common.{refl, rules}
-use Rattle.pg_interval_2.specs.Reading.{count_of, numeral_of}
+use Rattle.pg_interval_2.specs.Reading.{count_with, numeral_of}
 use Rattle.pg_interval_2.proofs.TallyFacts.{tally_share, tally_mark, off_unless}
 use Rattle.pg_interval_2.proofs.tally.Tally.add.Goals as goal
 
 pub returns-in-Some-clause-tallied : goal.returns-in-Some-clause-tallied
 returns-in-Some-clause-tallied c =
-    λ counts h. tally_share c.args.self.now _ counts (count_of (numeral_of c.args.number) c.args.unit) c.requires.fraction (c.in-Some.ensures.fits.0 refl) (record {
+    λ counts h. tally_share c.args.self.now _ counts (count_with (numeral_of c.args.number) c.args.unit) c.requires.fraction (c.in-Some.ensures.fits.0 refl) (record {
       months_fit = refl;
       days_fit = refl;
       micros_fit = refl;
