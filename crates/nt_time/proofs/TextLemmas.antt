@@ -1,12 +1,12 @@
 -- Numbers in decimal digits, and what a text that may begin with a plus reads as.
-use Rattle.std.proofs.Common.{◌≡◌, ◌≢◌, ℕ, ◌^◌, ◌<◌, ◌≤◌, ◌&&◌, true, List, [], ◌∷◌, Ok, Err, ◌⊎◌, ⊎_elim, inl, inr, refl, sym, ap, ◌∙◌, arith}
+use Rattle.std.proofs.Common.{◌≡◌, ℕ, ◌^◌, ◌<◌, ◌≤◌, ◌&&◌, true, List, [], ◌∷◌, Ok, Err, ◌⊎◌, ⊎_elim, inl, inr, refl, sym, ap, ◌∙◌, arith}
 use Rattle.std.proofs.lemmas.Bool.{cases_eq}
 use Rattle.std.proofs.lemmas.Str.Parse.{IsNumeralModel, numerals_by_value, tells_all_ascii_digits, tells_digits, without_leading_plus_none, without_leading_plus_plus, not_in_digits}
 use Rattle.std.specs.Char.{is_ascii_digit}
 use Rattle.std.specs.List.{list_all}
 use Rattle.std.specs.Str.{all_ascii_digits}
 use Rattle.std.specs.Str.Parse.{AllDigits, IsNumeral, digits_value, without_leading_plus}
-use Rattle.nt_time.specs.declared.error.ParseFileTimeCause.TheVariants.{Empty, InvalidDigit, Overflow}
+use Rattle.nt_time.specs.declared.error.ParseFileTimeCause.TheVariants.{Overflow}
 use Rattle.nt_time.specs.Text.{IsTextOf, IsReadFrom}
 
 -- ---- digits
@@ -69,23 +69,3 @@ read_overflow text has large = record {
   invalid = (λ r. cc, λ h. absurd (h.1 _ (text_of_numeral text has)));
   overflow = (λ r. (_, text_of_numeral text has, large), λ h. refl);
 }
-
-pub read_invalid : (text : List ℕ) → text ≢ [] → ¬ IsNumeral 10 (without_leading_plus text) → IsReadFrom text (Err InvalidDigit)
-read_invalid text some has_none = record {
-  ok = tt;
-  all = λ n h small. absurd (has_none (numeral_of_text text n h).0);
-  empty = (λ r. cc, λ none. absurd (some none));
-  invalid = (λ r. (some, λ n h. has_none (numeral_of_text text n h).0), λ h. refl);
-  overflow = (λ r. cc, λ h. absurd (has_none (numeral_of_text text h.0 h.1).0));
-}
-
-pub read_empty : (text : List ℕ) → text ≡ [] → IsReadFrom text (Err Empty)
-read_empty text none =
-    let no_text = λ (n : ℕ) (h : IsTextOf text n). (let has = rw none at (numeral_of_text text n h).0 in let false' : ⊥ = omega (arith, has) in false') in
-    record {
-      ok = tt;
-      all = λ n h small. absurd (no_text n h);
-      empty = (λ r. none, λ h. refl);
-      invalid = (λ r. cc, λ h. absurd (h.0 none));
-      overflow = (λ r. cc, λ h. absurd (no_text h.0 h.1));
-    }
