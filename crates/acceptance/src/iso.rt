@@ -57,7 +57,8 @@ fn iso_lines(rt: HostRuntime) -> Result<(), Fail> {
         ("PgIso PgIso P1D\n\n", "P1D\nrefused Line\n"),
         ("", ""),
     ] {
-        for cut in [1, 4096] {
+        for byte_by_byte in [true, false] {
+            let cut = if byte_by_byte { 1 } else { 4096 };
             let outcome = outcome_of(rt.alloc(), line.as_bytes(), cut)?;
             assert_eq!(rt; outcome.status, 0, "at {line}");
             assert_eq!(rt; outcome.bytes.as_slice(), reply.as_bytes(), "at {line}");
