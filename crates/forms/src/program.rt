@@ -94,7 +94,7 @@ pub fn top<S: Source, K: Sink>(alloc: Global, words: &str, source: &mut S, sink:
     ensures read_fault { result ≡ 3 → Rose (S.faults source.old) (S.faults source.new) × (sink.new ≡ sink.old) }
 
     // A write failed once the end had come, and a front of the replies was written.
-    ensures write_fault { result ≡ 4 → Rose (K.faults sink.old) (K.faults sink.new) }
+    ensures write_fault { result ≡ 4 → Rose (K.faults sink.old) (K.faults sink.new) × IsAtEnd (S.left source.new) }
     ensures front { words.now ≡ [] → result ≡ 4 → IfSome (S.left source.old) (λ bytes. GainsFront (lines bytes) (K.held sink.old) (K.held sink.new)) }
 
     // More bytes than the limit were taken, and nothing was written.
