@@ -1,5 +1,6 @@
 pub mod Joins
 pub mod DigitFacts
+pub mod FrontFacts
 pub mod RoundingFacts
 pub mod ShareFacts
 pub mod SumFacts

@@ -1,4 +1,6 @@
 pub mod Digits
+pub mod Fronts
+pub mod Fields
 pub mod Blanks
 pub mod Join
 pub mod Count

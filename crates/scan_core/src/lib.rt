@@ -7,6 +7,7 @@
 
 mod blank;
 mod digits;
+mod front;
 mod rounding;
 mod share;
 mod text;
@@ -14,6 +15,7 @@ mod totals;
 
 pub use blank::is_blank;
 pub use digits::{digits_u32, n_digits_in};
+pub use front::split_digits;
 pub use share::{Part, Share, Unit, count_share};
 pub use text::{Short, push_num, push_padded, push_text};
 pub use totals::Totals;
