@@ -1,0 +1,11 @@
+pub mod Prefixes
+pub mod Defaults
+pub mod Fields
+pub mod Dates
+pub mod Times
+pub mod DateTimes
+pub mod Durations
+pub mod Written
+pub mod WrittenDurations
+pub mod Lengths
+pub mod inside

@@ -1,0 +1,58 @@
+-- Times: hours and minutes, perhaps seconds, perhaps a fraction, perhaps an offset.
+use Rattle.std.specs.Prelude.{◌≡◌, ℕ, ℤ, pos, ◌⊎◌, Bool, true, false, List, [], ◌++◌, take, codes}
+use Rattle.scan_core.specs.Digits.{AreDigits, number_of}
+use Rattle.scan_core.specs.Shares.{signed}
+use Rattle.scan_core.specs.Fields.{IsField}
+use Rattle.iso8601.specs.Fields.{IsMarked, IsOrZero}
+use Rattle.iso8601.specs.declared.types.Time.{Time}
+
+-- perhaps a colon, and two digits of a number up to hi
+abbrev pub IsLater : ℕ → List ℕ → ℕ → Type 0
+IsLater hi = IsMarked (codes ":") 2 0 hi
+
+-- a point or a comma
+abbrev pub IsPoint : List ℕ → Type 0
+IsPoint text = (text ≡ codes ".") ⊎ (text ≡ codes ",")
+
+-- a point and digits, of which three count; filled with zeros on the right they are milliseconds
+pub record IsFraction (text : List ℕ) (millis : ℕ) : Type 0 where
+  pub point : List ℕ
+  pub digits : List ℕ
+  pub mark : IsPoint point
+  pub all_digits : AreDigits digits
+  pub joined : text ≡ point ++ digits
+  pub value : millis ≡ number_of (take 3 (digits ++ codes "000"))
+
+abbrev pub sign_text : Bool → List ℕ
+sign_text true = codes "-"
+sign_text false = codes "+"
+
+-- a sign, which governs both, two digits of hours, and perhaps minutes
+pub record IsSignedOffset (text : List ℕ) (offset : ℤ × ℤ) : Type 0 where
+  pub negative : Bool
+  pub hour_text : List ℕ
+  pub minute_text : List ℕ
+  pub hour : ℕ
+  pub minute : ℕ
+  pub hours : IsField 2 0 24 hour_text hour
+  pub minutes : IsOrZero (IsLater 59) minute_text minute
+  pub joined : text ≡ sign_text negative ++ (hour_text ++ minute_text)
+  pub value : offset ≡ (signed negative hour, signed negative minute)
+
+-- hours and minutes of an offset: nothing, `Z`, or a signed one
+abbrev pub IsOffset : List ℕ → ℤ × ℤ → Type 0
+IsOffset text offset = ((text ≡ []) × (offset ≡ (pos 0, pos 0))) ⊎ (((text ≡ codes "Z") × (offset ≡ (pos 0, pos 0))) ⊎ IsSignedOffset text offset)
+
+-- the text is a time
+pub record IsTime (text : List ℕ) (time : Time) : Type 0 where
+  pub hour_text : List ℕ
+  pub minute_text : List ℕ
+  pub second_text : List ℕ
+  pub fraction : List ℕ
+  pub offset : List ℕ
+  pub hours : IsField 2 0 24 hour_text time.hour
+  pub minutes : IsLater 59 minute_text time.minute
+  pub seconds : IsOrZero (IsLater 60) second_text time.second
+  pub fractions : IsOrZero IsFraction fraction time.millisecond
+  pub offsets : IsOffset offset (time.tz_offset_hours, time.tz_offset_minutes)
+  pub joined : text ≡ hour_text ++ (minute_text ++ (second_text ++ (fraction ++ offset)))
