@@ -1,0 +1,190 @@
+-- The text of a well-formed date-time is in the grammar, with its value.
+use Rattle.std.proofs.Common.{◌≡◌, ℕ, zero, suc, ◌+◌, ◌-◌, ◌*◌, ◌/◌, ◌%◌, ◌^◌, ◌<◌, ◌≤◌, ◌==◌, ◌||◌, Bool, true, false, cond, ℤ, pos, negsuc, neg_ℤ, List, [], ◌∷◌, ◌++◌, length, take, replicate, decimal, Option, Some, None, append-nil, append_assoc, length-append, codes, refl, sym, ◌∙◌, ap, subst, arith, inl, inr}
+use Rattle.std.proofs.lemmas.Bool.Decides.{nat_tests}
+use Rattle.std.proofs.lemmas.Fmt.{length-decimal-le}
+use Rattle.std.proofs.lemmas.List.{take_at, length-replicate, replicate-append-replicate}
+use Rattle.scan_core.specs.Digits.{AreDigits, number_of}
+use Rattle.scan_core.specs.Padded.{padded}
+use Rattle.scan_core.proofs.DigitFacts.{digits-append, digits-zeros, digits_left, digits_decimal, number_of-zeros, number_of-decimal}
+use Rattle.port_toml_datetime.specs.declared.date.Date.{Date}
+use Rattle.port_toml_datetime.specs.declared.time.Time.{Time}
+use Rattle.port_toml_datetime.specs.declared.offset.Offset.{Offset}
+use Rattle.port_toml_datetime.specs.declared.offset.Offset.TheVariants.{Z, Custom}
+use Rattle.port_toml_datetime.specs.declared.datetime.Datetime.{Datetime}
+use Rattle.port_toml_datetime.specs.Fields.{IsField}
+use Rattle.port_toml_datetime.specs.Dates.{IsDate, is_leap_year, days_in_month}
+use Rattle.port_toml_datetime.specs.Times.{nanoseconds, IsSecondFraction, IsPerhapsSeconds, IsTime}
+use Rattle.port_toml_datetime.specs.Offsets.{IsOffset}
+use Rattle.port_toml_datetime.specs.Datetimes.{IsDatetime, datetime_of}
+use Rattle.port_toml_datetime.specs.Texts.{onto_trimmed, trimmed, or_zero, fraction_text, date_text, second_text, time_text, offset_text, part_text, delimiter_text, text_of}
+use Rattle.port_toml_datetime.specs.WellFormed.{IsRealDay, AreRealSeconds, IsRealTime, IsOffsetInRange, AreWellFormed, IsWellFormed}
+
+-- ---- fields
+
+padded_field : (count lo hi n : ℕ) → 0 < count → n < 10 ^ count → n < 2 ^ 64 → lo ≤ n → n ≤ hi → IsField count lo hi (padded count n) n
+padded_field count lo hi n some small fits least most =
+    let short = length-decimal-le count n some small fits in
+    let zeros = length-replicate {A = ℕ} (count - length (decimal n)) 48 in
+    let all : length (padded count n) ≡ length {A = ℕ} (replicate (count - length (decimal n)) 48) + length (decimal n) = rw length-append refl in
+    record {
+      long = omega (arith, all, zeros, short);
+      digits = digits-append (replicate (count - length (decimal n)) 48) (decimal n) (digits-zeros _) (digits_decimal n fits);
+      number = sym (number_of-zeros (count - length (decimal n)) (decimal n) ∙ number_of-decimal n fits);
+      least = least;
+      most = most;
+    }
+
+two_field : (lo hi n : ℕ) → hi < 100 → lo ≤ n → n ≤ hi → IsField 2 lo hi (padded 2 n) n
+two_field lo hi n small least most = padded_field 2 lo hi n (omega arith) (omega arith) (omega arith) least most
+
+-- ---- fractions
+
+-- a text that zeros fill up to the digits
+abbrev Fills : List ℕ → List ℕ → Type 0
+Fills text digits = (k : ℕ) × (digits ≡ text ++ replicate k 48)
+
+is_zero : (b : ℕ) → (b == 48) ≡ true → b ≡ 48
+is_zero b h = grind (arith, nat_tests)
+
+alone_if : (t : Bool) (b k : ℕ) (bs : List ℕ) → (t ≡ true → b ≡ 48) → bs ≡ replicate k 48 → Fills (cond {A = List ℕ} t [] (b ∷ [])) (b ∷ bs)
+alone_if true b k bs is e = (suc k, rw (is refl, e) refl)
+alone_if false b k bs is e = (k, rw e refl)
+
+onto_fills : (b k : ℕ) (front bs : List ℕ) → bs ≡ front ++ replicate k 48 → Fills (onto_trimmed b front) (b ∷ bs)
+onto_fills b k [] bs e = alone_if (b == 48) b k bs (is_zero b) e
+onto_fills b k (c ∷ cs) bs e = (k, ap (λ (l : List ℕ). b ∷ l) e)
+
+trimmed_fills : (ds : List ℕ) → Fills (trimmed ds) ds
+trimmed_fills [] = (0, refl)
+trimmed_fills (b ∷ bs) = let r = trimmed_fills bs in onto_fills b r.0 (trimmed bs) bs r.1
+
+zero_fills : (text ds : List ℕ) → 0 < length ds → Fills text ds → Fills (or_zero text) ds
+zero_fills [] ds some (zero, e) = let l = ap length e in absurd (omega (arith, l, some))
+zero_fills [] ds some (suc k, e) = (k, e)
+zero_fills (b ∷ bs) ds some r = r
+
+filled : (text ds : List ℕ) → length ds ≡ 9 → Fills text ds → take 9 (text ++ replicate 9 48) ≡ ds
+filled text ds nine r =
+    let l : length ds ≡ length text + length {A = ℕ} (replicate r.0 48) = rw (r.1, length-append) refl in
+    let j : ℕ = 9 - r.0 in
+    let e : 9 ≡ r.0 + j = omega (arith, l, nine, length-replicate {A = ℕ} r.0 48) in
+    let zeros : replicate 9 48 ≡ replicate r.0 48 ++ replicate j 48 = ap (λ (n : ℕ). replicate n 48) e ∙ sym {A = List ℕ} (replicate-append-replicate {A = ℕ} r.0 j 48) in
+    let split : text ++ replicate 9 48 ≡ ds ++ replicate j 48 = ap (λ (x : List ℕ). text ++ x) zeros ∙ sym (append_assoc text (replicate r.0 48) (replicate j 48)) ∙ ap (λ (x : List ℕ). x ++ replicate j 48) (sym r.1) in
+    rw split (take_at ds (replicate j 48) 9 nine)
+
+some_digit : (text : List ℕ) → 0 < length (or_zero text)
+some_digit [] = omega arith
+some_digit (b ∷ bs) = omega arith
+
+fraction_back : (n : ℕ) → n < 10 ^ 9 → IsSecondFraction (codes "." ++ fraction_text n) (Some n)
+unfolding nanoseconds fraction_text
+fraction_back n small =
+    let f = padded_field 9 0 (10 ^ 9) n (omega arith) small (omega arith) (omega arith) (omega arith) in
+    let fills = zero_fills (trimmed (padded 9 n)) (padded 9 n) (omega (arith, f.long)) (trimmed_fills (padded 9 n)) in
+    let text : List ℕ = or_zero (trimmed (padded 9 n)) in
+    let whole = filled text (padded 9 n) f.long fills in
+    record {
+      digits = text;
+      some = some_digit (trimmed (padded 9 n));
+      all_digits = digits_left text (replicate fills.0 48) (subst AreDigits fills.1 f.digits);
+      joined = refl;
+      value = ap (λ (m : ℕ). Some m) (f.number ∙ ap number_of (sym whole));
+    }
+
+-- ---- the parts
+
+month_if : (february leap short : Bool) → cond {A = ℕ} february (cond {A = ℕ} leap 29 28) (cond {A = ℕ} short 30 31) < 100
+month_if true true short = omega arith
+month_if true false short = omega arith
+month_if false leap true = omega arith
+month_if false leap false = omega arith
+
+days_short : (year month : ℕ) → days_in_month year month < 100
+unfolding days_in_month
+days_short year month = month_if (month == 2) (is_leap_year year) (((month == 4 || month == 6) || month == 9) || month == 11)
+
+date_back : (d : Date) → IsRealDay d → IsDate (date_text d) d
+unfolding date_text
+date_back d r =
+    record {
+      year_text = padded 4 d.year;
+      month_text = padded 2 d.month;
+      day_text = padded 2 d.day;
+      years = padded_field 4 0 9999 d.year (omega arith) (omega (arith, r.year)) (omega (arith, r.year)) (omega arith) r.year;
+      months = two_field 1 12 d.month (omega arith) r.month r.months;
+      days = two_field 1 _ d.day (days_short d.year d.month) r.day r.days;
+      joined = refl;
+    }
+
+seconds_back : (s n : Option ℕ) → AreRealSeconds s n → IsPerhapsSeconds (second_text s n) s n
+seconds_back None None a = inl (refl, refl, refl)
+seconds_back None (Some n) a = absurd a
+seconds_back (Some s) None a =
+    inr (record { digits = padded 2 s; fraction = []; number = s; field = two_field 0 60 s (omega arith) (omega arith) a; fractions = inl (refl, refl); joined = ap (λ (l : List ℕ). 58 ∷ l) (sym (append-nil (padded 2 s))); value = refl })
+seconds_back (Some s) (Some n) a =
+    inr (record { digits = padded 2 s; fraction = codes "." ++ fraction_text n; number = s; field = two_field 0 60 s (omega arith) (omega arith) a.0; fractions = inr (fraction_back n a.1); joined = refl; value = refl })
+
+time_back : (t : Time) → IsRealTime t → IsTime (time_text t) t
+unfolding time_text
+time_back t c =
+    record {
+      hour_text = padded 2 t.hour;
+      minute_text = padded 2 t.minute;
+      second_text = second_text t.second t.nanosecond;
+      hours = two_field 0 23 t.hour (omega arith) (omega arith) c.hour;
+      minutes = two_field 0 59 t.minute (omega arith) (omega arith) c.minute;
+      seconds = seconds_back t.second t.nanosecond c.seconds;
+      joined = refl;
+    }
+
+minutes_whole : (n : ℕ) → n ≡ 60 * (n / 60) + n % 60
+minutes_whole n = omega arith
+
+negative_is : (n : ℕ) → negsuc n ≡ neg_ℤ (pos (n + 1))
+negative_is n = let e : n + 1 ≡ suc n = omega arith in rw e refl
+
+offset_back : (o : Offset) → IsOffsetInRange o → IsOffset (offset_text o) o
+unfolding offset_text
+offset_back Z near = inl (inl refl, refl)
+offset_back (Custom (pos n)) near =
+    inr (record {
+      negative = false;
+      hour_text = padded 2 (n / 60);
+      minute_text = padded 2 (n % 60);
+      hour = n / 60;
+      minute = n % 60;
+      hours = two_field 0 23 (n / 60) (omega arith) (omega arith) (omega arith);
+      minutes = two_field 0 59 (n % 60) (omega arith) (omega arith) (omega arith);
+      joined = refl;
+      value = ap (λ (m : ℕ). Custom (pos m)) (minutes_whole n);
+    })
+offset_back (Custom (negsuc n)) near =
+    inr (record {
+      negative = true;
+      hour_text = padded 2 ((n + 1) / 60);
+      minute_text = padded 2 ((n + 1) % 60);
+      hour = (n + 1) / 60;
+      minute = (n + 1) % 60;
+      hours = two_field 0 23 ((n + 1) / 60) (omega arith) (omega arith) (omega arith);
+      minutes = two_field 0 59 ((n + 1) % 60) (omega arith) (omega arith) (omega arith);
+      joined = refl;
+      value = ap (λ (z : ℤ). Custom z) (negative_is n ∙ ap (λ (m : ℕ). neg_ℤ (pos m)) (minutes_whole (n + 1)));
+    })
+
+-- ---- the whole
+
+parts_back : (d : Option Date) (t : Option Time) (o : Option Offset) → AreWellFormed d t o
+    → IsDatetime (part_text date_text d ++ (delimiter_text d t ++ (part_text time_text t ++ part_text offset_text o))) (datetime_of d t o)
+parts_back (Some d) (Some t) (Some o) w =
+    inl (record { date_text = date_text d; delimiter = codes "T"; time_text = time_text t; offset_text = offset_text o; date = d; time = t; offset = Some o; dates = date_back d w.0; delimits = inl refl; times = time_back t w.1; offsets = inr (o, offset_back o w.2, refl); joined = refl; made = refl })
+parts_back (Some d) (Some t) None w =
+    inl (record { date_text = date_text d; delimiter = codes "T"; time_text = time_text t; offset_text = []; date = d; time = t; offset = None; dates = date_back d w.0; delimits = inl refl; times = time_back t w.1; offsets = inl (refl, refl); joined = refl; made = refl })
+parts_back (Some d) None None w = inr (inl (d, rw (append-nil (date_text d)) (date_back d w), refl))
+parts_back None (Some t) None w = inr (inr (t, rw (append-nil (time_text t)) (time_back t w), refl))
+parts_back (Some d) None (Some o) w = absurd w
+parts_back None None o w = absurd w
+parts_back None (Some t) (Some o) w = absurd w
+
+pub read_back : (d : Datetime) → IsWellFormed d → IsDatetime (text_of d) d
+unfolding text_of
+read_back d w = parts_back d.date d.time d.offset w

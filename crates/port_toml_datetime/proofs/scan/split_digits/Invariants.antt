@@ -1,0 +1,13 @@
+use Rattle.std.proofs.Common.{◌≡◌, ◌≤◌, ◌-◌, ◌++◌, length, take, drop}
+use Rattle.port_toml_datetime.specs.Tokens.{front_digits, after_digits}
+use Rattle.port_toml_datetime.proofs.scan.split_digits.Given as goal
+
+abbrev pub invariant-loop-len : goal.invariant-loop-len
+invariant-loop-len l = record {
+  within : l.len ≤ length l.bytes;
+  front : front_digits l.bytes ≡ take l.len l.bytes ++ front_digits (drop l.len l.bytes);
+  rest : after_digits l.bytes ≡ after_digits (drop l.len l.bytes);
+}
+
+abbrev pub decreases-loop-len : goal.decreases-loop-len
+decreases-loop-len l = length l.bytes - l.len

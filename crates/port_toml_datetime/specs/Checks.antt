@@ -1,0 +1,157 @@
+-- The table of checks, one line each: what must hold, which part is wrong where it doesn't, and what was expected. They stand in the
+-- order in which they are made, and the first that fails decides. TOML has no such table: order and words are those of the Rust crate.
+-- A check is total in the text. Behind one that fails, later checks may mean nothing; nobody looks at them.
+use Rattle.std.specs.Prelude.{ℕ, Bool, true, ◌||◌, ◌&&◌, ◌==◌, nat_le, List, [], ◌∷◌, ◌++◌, length, codes, Option, Some, None, option_map, if◌then◌else◌}
+use Rattle.scan_core.specs.Digits.{number_of}
+use Rattle.port_toml_datetime.specs.Dates.{days_in_month}
+use Rattle.port_toml_datetime.specs.Faults.{Fault, fault, bare_fault}
+use Rattle.port_toml_datetime.specs.Tokens.{after, token, is_end, is_digits, is_of}
+
+pub record Row : Type 0 where
+  pub holds : Bool
+  pub fault : Fault
+
+-- the fault of the first check that fails, or None where all hold
+abbrev pub first_failing : List Row → Option Fault
+first_failing [] = None
+first_failing (row ∷ rows) = if row.holds then first_failing rows else Some row.fault
+
+abbrev pub row : Bool → List ℕ → List ℕ → Row
+row holds what expected = record { holds = holds; fault = fault what expected }
+
+-- a row that doesn't say what is wrong
+abbrev pub bare_row : Bool → Option (List ℕ) → Row
+bare_row holds expected = record { holds = holds; fault = bare_fault expected }
+
+-- ---- tests
+
+abbrev pub has_length : ℕ → List ℕ → Bool
+has_length n text = length text == n
+
+abbrev pub is_within : ℕ → ℕ → ℕ → Bool
+is_within lo hi n = nat_le lo n && nat_le n hi
+
+-- it isn't there, or is such a one
+abbrev pub where_there : {A : Type 0} → (A → Bool) → Option A → Bool
+where_there test None = true
+where_there test (Some a) = test a
+
+-- ---- a date, from behind the `-` that follows the year
+
+-- for a month of this many days
+unfoldable pub day_words : ℕ → List ℕ
+day_words days =
+    if days == 28 then codes "day between 01 and 28"
+    else if days == 29 then codes "day between 01 and 29"
+    else if days == 30 then codes "day between 01 and 30"
+    else codes "day between 01 and 31"
+
+unfoldable pub date_rows : List ℕ → List ℕ → List Row
+date_rows year text =
+    let month = token 0 text in
+    let day = token 2 text in
+    let days = days_in_month (number_of year) (number_of month) in
+    row (is_digits month) (codes "date") (codes "month")
+    ∷ row (is_of (codes "-") (token 1 text)) (codes "date") (codes "`-` (MM-DD)")
+    ∷ row (is_digits day) (codes "date") (codes "day")
+    ∷ row (has_length 4 year) (codes "date") (codes "a four-digit year (YYYY)")
+    ∷ row (has_length 2 month) (codes "date") (codes "a two-digit month (MM)")
+    ∷ row (has_length 2 day) (codes "date") (codes "a two-digit day (DD)")
+    ∷ row (is_within 1 12 (number_of month)) (codes "date") (codes "month between 01 and 12")
+    ∷ row (is_within 1 days (number_of day)) (codes "date") (day_words days)
+    ∷ []
+
+abbrev pub after_date : List ℕ → List ℕ
+after_date text = after 3 text
+
+-- ---- a time, from behind the `:` that follows the hour: that the hour is digits and the colon is there was checked before
+
+-- what stands behind a mark, where the mark is there, and what follows both
+abbrev pub marked : List ℕ → List ℕ → Option (List ℕ)
+marked mark text = if is_of mark (token 0 text) then Some (token 1 text) else None
+
+abbrev pub after_marked : List ℕ → List ℕ → List ℕ
+after_marked mark text = if is_of mark (token 0 text) then after 2 text else text
+
+-- a fraction, which stands only behind a second
+abbrev pub fraction : Option (List ℕ) → List ℕ → Option (List ℕ)
+fraction None text = None
+fraction (Some second) text = marked (codes ".") text
+
+abbrev pub after_fraction : Option (List ℕ) → List ℕ → List ℕ
+after_fraction None text = text
+after_fraction (Some second) text = after_marked (codes ".") text
+
+unfoldable pub time_rows : List ℕ → List ℕ → List Row
+time_rows hour text =
+    let minute = token 0 text in
+    let second = marked (codes ":") (after 1 text) in
+    let nanosecond = fraction second (after_marked (codes ":") (after 1 text)) in
+    row (is_digits minute) (codes "time") (codes "minute")
+    ∷ row (where_there is_digits second) (codes "time") (codes "second")
+    ∷ row (where_there is_digits nanosecond) (codes "time") (codes "nanosecond")
+    ∷ row (has_length 2 hour) (codes "time") (codes "a two-digit hour (HH)")
+    ∷ row (has_length 2 minute) (codes "time") (codes "a two-digit minute (MM)")
+    ∷ row (where_there (has_length 2) second) (codes "time") (codes "a two-digit second (SS)")
+    ∷ row (nat_le (number_of hour) 23) (codes "time") (codes "hour between 00 and 23")
+    ∷ row (nat_le (number_of minute) 59) (codes "time") (codes "minute between 00 and 59")
+    ∷ row (where_there (λ n. nat_le n 60) (option_map number_of second)) (codes "time") (codes "second between 00 and 60")
+    ∷ []
+
+unfoldable pub after_time : List ℕ → List ℕ
+after_time text = after_fraction (marked (codes ":") (after 1 text)) (after_marked (codes ":") (after 1 text))
+
+-- ---- behind a date
+
+-- nothing is left
+abbrev pub end_row : List ℕ → Row
+end_row text = bare_row (is_end text) None
+
+-- behind the sign of an offset
+unfoldable pub numeric_offset_rows : List ℕ → List Row
+numeric_offset_rows text =
+    let hour = token 0 text in
+    let minute = token 2 text in
+    row (is_digits hour) (codes "offset") (codes "hour")
+    ∷ row (is_of (codes ":") (token 1 text)) (codes "offset") (codes "`:` (HH:MM)")
+    ∷ row (is_digits minute) (codes "offset") (codes "minute")
+    ∷ row (has_length 2 hour) (codes "offset") (codes "a two-digit hour (HH)")
+    ∷ row (has_length 2 minute) (codes "offset") (codes "a two-digit minute (MM)")
+    ∷ row (nat_le (number_of hour) 23) (codes "offset") (codes "hours between 00 and 23")
+    ∷ row (nat_le (number_of minute) 59) (codes "offset") (codes "minutes between 00 and 59")
+    ∷ end_row (after 3 text)
+    ∷ []
+
+-- the end, `Z`, or a signed offset
+unfoldable pub offset_rows : List ℕ → List Row
+offset_rows text =
+    row (is_end text || is_of (codes "Zz+-") (token 0 text)) (codes "offset") (codes "`Z`, +OFFSET, -OFFSET")
+    ∷ (if is_of (codes "+-") (token 0 text) then numeric_offset_rows (after 1 text) else end_row (after 1 text) ∷ [])
+
+-- a time from its start, and perhaps an offset
+unfoldable pub full_time_rows : List ℕ → List Row
+full_time_rows text =
+    row (is_digits (token 0 text)) (codes "time") (codes "hour")
+    ∷ row (is_of (codes ":") (token 1 text)) (codes "time") (codes "`:` (HH:MM)")
+    ∷ (time_rows (token 0 text) (after 2 text) ++ offset_rows (after_time (after 2 text)))
+
+-- the end, or a delimiter and a time
+unfoldable pub tail_rows : List ℕ → List Row
+tail_rows text =
+    row (is_end text || is_of (codes "Tt ") (token 0 text)) (codes "date-time") (codes "`T` between date and time")
+    ∷ (if is_end text then [] else full_time_rows (after 1 text))
+
+-- ---- the whole table
+
+unfoldable pub dated_rows : List ℕ → List ℕ → List Row
+dated_rows year text = date_rows year text ++ tail_rows (after_date text)
+
+unfoldable pub local_time_rows : List ℕ → List ℕ → List Row
+local_time_rows hour text = time_rows hour text ++ end_row (after_time text) ∷ []
+
+-- digits, which are a year where `-` follows, and an hour where `:` does
+unfoldable pub checks : List ℕ → List Row
+checks text =
+    bare_row (is_digits (token 0 text)) (Some (codes "year or hour"))
+    ∷ bare_row (is_of (codes "-:") (token 1 text)) (Some (codes "`-` (YYYY-MM) or `:` (HH:MM)"))
+    ∷ (if is_of (codes ":") (token 1 text) then local_time_rows (token 0 text) (after 2 text) else dated_rows (token 0 text) (after 2 text))

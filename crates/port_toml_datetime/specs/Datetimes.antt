@@ -1,0 +1,47 @@
+-- Date-times, by the TOML specification 1.1: sections "Offset Date-Time", "Local Date-Time", "Local Date" and "Local Time". A text is a
+-- date, a time, or both with an offset or without. None of these goes before another.
+use Rattle.std.specs.Prelude.{◌≡◌, ◌⊎◌, ℕ, List, [], ◌++◌, codes, Option, Some, None}
+use Rattle.port_toml_datetime.specs.Dates.{IsDate}
+use Rattle.port_toml_datetime.specs.Times.{IsTime}
+use Rattle.port_toml_datetime.specs.Offsets.{IsOffset}
+use Rattle.port_toml_datetime.specs.declared.date.Date.{Date}
+use Rattle.port_toml_datetime.specs.declared.time.Time.{Time}
+use Rattle.port_toml_datetime.specs.declared.offset.Offset.{Offset}
+use Rattle.port_toml_datetime.specs.declared.datetime.Datetime.{Datetime}
+
+-- `time-delim`, which stands between a date and a time
+abbrev pub IsDelimiter : List ℕ → Type 0
+IsDelimiter text = (text ≡ codes "T") ⊎ ((text ≡ codes "t") ⊎ (text ≡ codes " "))
+
+abbrev pub datetime_of : Option Date → Option Time → Option Offset → Datetime
+datetime_of d t o = record { date = d; time = t; offset = o }
+
+-- an offset, or nothing
+abbrev pub IsPerhapsOffset : List ℕ → Option Offset → Type 0
+IsPerhapsOffset text offset = ((text ≡ []) × (offset ≡ None)) ⊎ ((o : Offset) × IsOffset text o × (offset ≡ Some o))
+
+-- an offset date-time or a local date-time: a date, a delimiter and a time, with an offset or without
+pub record IsDateAndTime (text : List ℕ) (value : Datetime) : Type 0 where
+  pub date_text : List ℕ
+  pub delimiter : List ℕ
+  pub time_text : List ℕ
+  pub offset_text : List ℕ
+  pub date : Date
+  pub time : Time
+  pub offset : Option Offset
+  pub dates : IsDate date_text date
+  pub delimits : IsDelimiter delimiter
+  pub times : IsTime time_text time
+  pub offsets : IsPerhapsOffset offset_text offset
+  pub joined : text ≡ date_text ++ (delimiter ++ (time_text ++ offset_text))
+  pub made : value ≡ datetime_of (Some date) (Some time) offset
+
+abbrev pub IsLocalDate : List ℕ → Datetime → Type 0
+IsLocalDate text value = (date : Date) × IsDate text date × (value ≡ datetime_of (Some date) None None)
+
+abbrev pub IsLocalTime : List ℕ → Datetime → Type 0
+IsLocalTime text value = (time : Time) × IsTime text time × (value ≡ datetime_of None (Some time) None)
+
+-- the text is a date-time
+abbrev pub IsDatetime : List ℕ → Datetime → Type 0
+IsDatetime text value = IsDateAndTime text value ⊎ (IsLocalDate text value ⊎ IsLocalTime text value)

@@ -1,0 +1,12 @@
+pub mod Fields
+pub mod Dates
+pub mod Times
+pub mod Offsets
+pub mod Datetimes
+pub mod Tokens
+pub mod Faults
+pub mod Checks
+pub mod Reading
+pub mod Texts
+pub mod WellFormed
+pub mod inside

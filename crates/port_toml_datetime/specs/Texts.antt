@@ -1,0 +1,67 @@
+-- Written texts, by the same sections of the TOML specification 1.1: `1979-05-27T07:32:00.5-07:00`. Each width is a least width: a number
+-- with more digits is written whole.
+use Rattle.std.specs.Prelude.{ℕ, ◌+◌, ◌/◌, ◌%◌, ◌==◌, true, false, ℤ, pos, negsuc, List, [], ◌∷◌, ◌++◌, codes, Option, Some, None, if◌then◌else◌}
+use Rattle.scan_core.specs.Padded.{padded}
+use Rattle.port_toml_datetime.specs.Offsets.{sign_text}
+use Rattle.port_toml_datetime.specs.declared.date.Date.{Date}
+use Rattle.port_toml_datetime.specs.declared.time.Time.{Time}
+use Rattle.port_toml_datetime.specs.declared.offset.Offset.{Offset}
+use Rattle.port_toml_datetime.specs.declared.offset.Offset.TheVariants.{Z, Custom}
+use Rattle.port_toml_datetime.specs.declared.datetime.Datetime.{Datetime}
+
+-- a byte in front of digits whose zeros at the end are dropped, but for a zero with nothing behind it
+abbrev pub onto_trimmed : ℕ → List ℕ → List ℕ
+onto_trimmed b [] = if b == 48 then [] else (b ∷ [])
+onto_trimmed b (c ∷ cs) = b ∷ (c ∷ cs)
+
+-- without the zeros at the end
+abbrev pub trimmed : List ℕ → List ℕ
+trimmed [] = []
+trimmed (b ∷ bs) = onto_trimmed b (trimmed bs)
+
+-- at least one digit
+abbrev pub or_zero : List ℕ → List ℕ
+or_zero [] = codes "0"
+or_zero (b ∷ bs) = b ∷ bs
+
+unfoldable pub fraction_text : ℕ → List ℕ
+fraction_text nanosecond = or_zero (trimmed (padded 9 nanosecond))
+
+unfoldable pub date_text : Date → List ℕ
+date_text d = padded 4 d.year ++ (codes "-" ++ (padded 2 d.month ++ (codes "-" ++ padded 2 d.day)))
+
+-- the second, which is 0 where a nanosecond stands alone, and the fraction
+abbrev pub second_text : Option ℕ → Option ℕ → List ℕ
+second_text None None = []
+second_text (Some s) None = codes ":" ++ padded 2 s
+second_text None (Some n) = codes ":" ++ (padded 2 0 ++ (codes "." ++ fraction_text n))
+second_text (Some s) (Some n) = codes ":" ++ (padded 2 s ++ (codes "." ++ fraction_text n))
+
+unfoldable pub time_text : Time → List ℕ
+time_text t = padded 2 t.hour ++ (codes ":" ++ (padded 2 t.minute ++ second_text t.second t.nanosecond))
+
+-- `HH:MM` of so many minutes
+abbrev pub minutes_text : ℕ → List ℕ
+minutes_text minutes = padded 2 (minutes / 60) ++ (codes ":" ++ padded 2 (minutes % 60))
+
+-- a sign, and `HH:MM` of the magnitude
+abbrev pub signed_text : ℤ → List ℕ
+signed_text (pos n) = sign_text false ++ minutes_text n
+signed_text (negsuc n) = sign_text true ++ minutes_text (n + 1)
+
+unfoldable pub offset_text : Offset → List ℕ
+offset_text Z = codes "Z"
+offset_text (Custom minutes) = signed_text minutes
+
+abbrev pub part_text : {A : Type 0} → (A → List ℕ) → Option A → List ℕ
+part_text text None = []
+part_text text (Some a) = text a
+
+-- `T` stands between a date and a time
+abbrev pub delimiter_text : Option Date → Option Time → List ℕ
+delimiter_text (Some d) (Some t) = codes "T"
+delimiter_text None t = []
+delimiter_text (Some d) None = []
+
+unfoldable pub text_of : Datetime → List ℕ
+text_of d = part_text date_text d.date ++ (delimiter_text d.date d.time ++ (part_text time_text d.time ++ part_text offset_text d.offset))

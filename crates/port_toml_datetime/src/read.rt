@@ -1,0 +1,94 @@
+//! The whole text. The checks stand in the order of the table.
+ghost use Rattle.std.specs.Prelude.{◌≡◌, Some, None, IfOk, IfErr};
+ghost use Rattle.scan_core.specs.Digits.{AreDigits};
+ghost use Rattle.port_toml_datetime.specs.Datetimes.{datetime_of};
+ghost use Rattle.port_toml_datetime.specs.Faults.{fault_of};
+ghost use Rattle.port_toml_datetime.specs.Checks.{after_date, checks, dated_rows, first_failing, full_time_rows, local_time_rows, tail_rows};
+ghost use Rattle.port_toml_datetime.specs.inside.Values.{date_of, date_time_of, tail_of, time_of, value_of};
+
+use crate::read_date::read_date;
+use crate::read_offset::read_offset;
+use crate::read_time::read_time;
+use crate::scan::{digits, end, mark, start_digits};
+use crate::{Date, Datetime, DatetimeParseError};
+
+/// A time from its start, and perhaps an offset.
+#[tactic(auto, using(crate::proofs::Rows::failing_front, crate::proofs::Rows::failing_behind), unfolding(crate::specs::Checks::full_time_rows, crate::specs::inside::Values::date_time_of))]
+fn read_full_time(date: Date, bytes: &[u8]) -> Result<Datetime, DatetimeParseError>
+    ensures pass { IfOk result (λ r. first_failing (full_time_rows bytes.now) ≡ None) }
+    ensures value { IfOk result (λ r. r ≡ date_time_of date bytes.now) }
+    ensures err { IfErr result (λ e. first_failing (full_time_rows bytes.now) ≡ Some (fault_of e)) }
+{
+    let (hour, bytes) = digits(bytes, "time", "hour")?;
+    let bytes = mark(b':', bytes, "time", "`:` (HH:MM)")?;
+    let (time, bytes) = read_time(hour, bytes)?;
+    let offset = read_offset(bytes)?;
+    Ok(Datetime {
+        date: Some(date),
+        time: Some(time),
+        offset,
+    })
+}
+
+/// Behind a date: the end, or a delimiter and a time.
+#[tactic(auto, unfolding(crate::specs::Checks::tail_rows, crate::specs::inside::Values::tail_of))]
+fn read_tail(date: Date, bytes: &[u8]) -> Result<Datetime, DatetimeParseError>
+    ensures pass { IfOk result (λ r. first_failing (tail_rows bytes.now) ≡ None) }
+    ensures value { IfOk result (λ r. r ≡ tail_of date bytes.now) }
+    ensures err { IfErr result (λ e. first_failing (tail_rows bytes.now) ≡ Some (fault_of e)) }
+{
+    match bytes {
+        [] => Ok(Datetime {
+            date: Some(date),
+            time: None,
+            offset: None,
+        }),
+        [b'T', rest @ ..] => read_full_time(date, rest),
+        [b't', rest @ ..] => read_full_time(date, rest),
+        [b' ', rest @ ..] => read_full_time(date, rest),
+        _ => Err(DatetimeParseError::within("date-time", "`T` between date and time")),
+    }
+}
+
+/// A local time, from behind the `:` that follows the hour.
+#[tactic(auto, using(crate::proofs::Rows::failing_front, crate::proofs::Rows::failing_behind), unfolding(crate::specs::Checks::local_time_rows))]
+fn read_local_time(hour: &[u8], bytes: &[u8]) -> Result<Datetime, DatetimeParseError>
+    requires { AreDigits hour.now }
+    ensures pass { IfOk result (λ r. first_failing (local_time_rows hour.now bytes.now) ≡ None) }
+    ensures value { IfOk result (λ r. r ≡ datetime_of None (Some (time_of hour.now bytes.now)) None) }
+    ensures err { IfErr result (λ e. first_failing (local_time_rows hour.now bytes.now) ≡ Some (fault_of e)) }
+{
+    let (time, rest) = read_time(hour, bytes)?;
+    end(rest)?;
+    Ok(Datetime {
+        date: None,
+        time: Some(time),
+        offset: None,
+    })
+}
+
+/// A date, from behind the `-` that follows the year, and what follows it.
+#[tactic(auto, using(crate::proofs::Rows::failing_front, crate::proofs::Rows::failing_behind), unfolding(crate::specs::Checks::dated_rows))]
+fn read_dated(year: &[u8], bytes: &[u8]) -> Result<Datetime, DatetimeParseError>
+    requires { AreDigits year.now }
+    ensures pass { IfOk result (λ r. first_failing (dated_rows year.now bytes.now) ≡ None) }
+    ensures value { IfOk result (λ r. r ≡ tail_of (date_of year.now bytes.now) (after_date bytes.now)) }
+    ensures err { IfErr result (λ e. first_failing (dated_rows year.now bytes.now) ≡ Some (fault_of e)) }
+{
+    let (date, rest) = read_date(year, bytes)?;
+    read_tail(date, rest)
+}
+
+#[tactic(auto, unfolding(crate::specs::Checks::checks, crate::specs::inside::Values::value_of))]
+pub(crate) fn read(bytes: &[u8]) -> Result<Datetime, DatetimeParseError>
+    ensures pass { IfOk result (λ r. first_failing (checks bytes.now) ≡ None) }
+    ensures value { IfOk result (λ r. r ≡ value_of bytes.now) }
+    ensures err { IfErr result (λ e. first_failing (checks bytes.now) ≡ Some (fault_of e)) }
+{
+    let (first, rest) = start_digits(bytes)?;
+    match rest {
+        [b'-', rest @ ..] => read_dated(first, rest),
+        [b':', rest @ ..] => read_local_time(first, rest),
+        _ => Err(DatetimeParseError::at_start("`-` (YYYY-MM) or `:` (HH:MM)")),
+    }
+}

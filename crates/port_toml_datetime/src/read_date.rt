@@ -1,0 +1,65 @@
+//! Dates, from behind the `-` that follows the year. The checks stand in the order of the table.
+ghost use Rattle.std.specs.Prelude.{◌≡◌, Some, None, IfOk, IfErr};
+ghost use Rattle.scan_core.specs.Digits.{AreDigits};
+ghost use Rattle.port_toml_datetime.specs.Dates.{days_in_month, is_leap_year};
+ghost use Rattle.port_toml_datetime.specs.Faults.{fault_of};
+ghost use Rattle.port_toml_datetime.specs.Checks.{after_date, date_rows, day_words, first_failing};
+ghost use Rattle.port_toml_datetime.specs.inside.Values.{date_of};
+
+use crate::numbers::{four_digits, two_digits};
+use crate::scan::{check, digits, mark};
+use crate::{Date, DatetimeParseError};
+
+fn is_leap_year(year: u16) -> bool
+    ensures { result ≡ is_leap_year year }
+{
+    year % 4 == 0 && (year % 100 != 0 || year % 400 == 0)
+}
+
+#[tactic(auto, unfolding(crate::specs::Dates::days_in_month))]
+fn days_in_month(year: u16, month: u8) -> u8
+    ensures { result ≡ days_in_month year month }
+{
+    match month {
+        2 if is_leap_year(year) => 29,
+        2 => 28,
+        4 | 6 | 9 | 11 => 30,
+        _ => 31,
+    }
+}
+
+#[tactic(auto, unfolding(crate::specs::Checks::day_words))]
+fn day_words(days: u8) -> &'static str
+    ensures { result.now ≡ day_words days }
+{
+    match days {
+        28 => "day between 01 and 28",
+        29 => "day between 01 and 29",
+        30 => "day between 01 and 30",
+        _ => "day between 01 and 31",
+    }
+}
+
+/// A date, from behind the `-` that follows the year.
+#[tactic(auto, unfolding(crate::specs::Checks::date_rows, crate::specs::inside::Values::date_of))]
+pub(crate) fn read_date<'a>(year: &[u8], bytes: &'a [u8]) -> Result<(Date, &'a [u8]), DatetimeParseError>
+    requires { AreDigits year.now }
+    ensures pass { IfOk result (λ r. first_failing (date_rows year.now bytes.now) ≡ None) }
+    ensures date { IfOk result (λ r. r.0 ≡ date_of year.now bytes.now) }
+    ensures rest { IfOk result (λ r. r.1.now ≡ after_date bytes.now) }
+    ensures err { IfErr result (λ e. first_failing (date_rows year.now bytes.now) ≡ Some (fault_of e)) }
+{
+    let (month, bytes) = digits(bytes, "date", "month")?;
+    let bytes = mark(b'-', bytes, "date", "`-` (MM-DD)")?;
+    let (day, bytes) = digits(bytes, "date", "day")?;
+    check(year.len() == 4, "date", "a four-digit year (YYYY)")?;
+    check(month.len() == 2, "date", "a two-digit month (MM)")?;
+    check(day.len() == 2, "date", "a two-digit day (DD)")?;
+    let year = four_digits(year);
+    let month = two_digits(month);
+    let day = two_digits(day);
+    check(1 <= month && month <= 12, "date", "month between 01 and 12")?;
+    let days = days_in_month(year, month);
+    check(1 <= day && day <= days, "date", day_words(days))?;
+    Ok((Date { year, month, day }, bytes))
+}

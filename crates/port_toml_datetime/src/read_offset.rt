@@ -1,0 +1,64 @@
+//! Offsets. The checks stand in the order of the table.
+ghost use Rattle.std.specs.Prelude.{◌≡◌, ◌≤◌, Some, None, IfOk, IfErr};
+ghost use Rattle.port_toml_datetime.specs.Offsets.{signed};
+ghost use Rattle.port_toml_datetime.specs.Faults.{fault_of};
+ghost use Rattle.port_toml_datetime.specs.Checks.{first_failing, numeric_offset_rows, offset_rows};
+ghost use Rattle.port_toml_datetime.specs.inside.Values.{numeric_offset_of, offset_of};
+
+use crate::numbers::two_digits;
+use crate::scan::{check, digits, end, mark};
+use crate::{DatetimeParseError, Offset};
+
+fn with_sign(negative: bool, minutes: u16) -> i16
+    requires { minutes ≤ 1439 }
+    ensures { result ≡ signed negative minutes }
+{
+    let minutes = minutes as i16;
+    if negative { -minutes } else { minutes }
+}
+
+/// An offset, from behind its sign.
+#[tactic(auto, unfolding(crate::specs::Checks::numeric_offset_rows, crate::specs::inside::Values::numeric_offset_of))]
+fn read_numeric_offset(negative: bool, bytes: &[u8]) -> Result<Offset, DatetimeParseError>
+    ensures pass { IfOk result (λ r. first_failing (numeric_offset_rows bytes.now) ≡ None) }
+    ensures offset { IfOk result (λ r. r ≡ numeric_offset_of negative bytes.now) }
+    ensures err { IfErr result (λ e. first_failing (numeric_offset_rows bytes.now) ≡ Some (fault_of e)) }
+{
+    let (hours, bytes) = digits(bytes, "offset", "hour")?;
+    let bytes = mark(b':', bytes, "offset", "`:` (HH:MM)")?;
+    let (minutes, bytes) = digits(bytes, "offset", "minute")?;
+    check(hours.len() == 2, "offset", "a two-digit hour (HH)")?;
+    check(minutes.len() == 2, "offset", "a two-digit minute (MM)")?;
+    let hours = two_digits(hours);
+    let minutes = two_digits(minutes);
+    check(hours <= 23, "offset", "hours between 00 and 23")?;
+    check(minutes <= 59, "offset", "minutes between 00 and 59")?;
+    end(bytes)?;
+    let minutes = 60 * u16::from(hours) + u16::from(minutes);
+    Ok(Offset::Custom {
+        minutes: with_sign(negative, minutes),
+    })
+}
+
+/// Behind a date and a time: the end, `Z`, or a signed offset.
+#[tactic(auto, unfolding(crate::specs::Checks::offset_rows, crate::specs::inside::Values::offset_of))]
+pub(crate) fn read_offset(bytes: &[u8]) -> Result<Option<Offset>, DatetimeParseError>
+    ensures pass { IfOk result (λ r. first_failing (offset_rows bytes.now) ≡ None) }
+    ensures offset { IfOk result (λ r. r ≡ offset_of bytes.now) }
+    ensures err { IfErr result (λ e. first_failing (offset_rows bytes.now) ≡ Some (fault_of e)) }
+{
+    match bytes {
+        [] => Ok(None),
+        [b'Z', rest @ ..] => {
+            end(rest)?;
+            Ok(Some(Offset::Z))
+        }
+        [b'z', rest @ ..] => {
+            end(rest)?;
+            Ok(Some(Offset::Z))
+        }
+        [b'+', rest @ ..] => Ok(Some(read_numeric_offset(false, rest)?)),
+        [b'-', rest @ ..] => Ok(Some(read_numeric_offset(true, rest)?)),
+        _ => Err(DatetimeParseError::within("offset", "`Z`, +OFFSET, -OFFSET")),
+    }
+}

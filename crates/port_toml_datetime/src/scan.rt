@@ -1,0 +1,143 @@
+//! Tokens in front of bytes. All access to bytes goes through these.
+ghost use Rattle.std.specs.Prelude.{◌≡◌, Some, true, false, [], ◌∷◌, codes, IfOk, IfErr, IfSome, option_map};
+ghost use Rattle.scan_core.specs.Digits.{AreDigits};
+ghost use Rattle.port_toml_datetime.specs.Faults.{bare_fault, fault, fault_of};
+ghost use Rattle.port_toml_datetime.specs.Checks.{after_fraction, after_marked, fraction, marked, where_there};
+ghost use Rattle.port_toml_datetime.specs.Tokens.{after_digits, after_token, first_token, front_digits, is_digits, is_end, is_mark, is_of};
+
+use crate::error::DatetimeParseError;
+
+/// The digits in front, and what follows them.
+fn split_digits(bytes: &[u8]) -> (&[u8], &[u8])
+    ensures front { result.0.now ≡ front_digits bytes.now }
+    ensures rest { result.1.now ≡ after_digits bytes.now }
+{
+    let mut len = 0;
+    while len < bytes.len() && bytes[len].is_ascii_digit() {
+        len += 1;
+    }
+    bytes.split_at(len)
+}
+
+/// The digits that a date-time begins with, and what follows them.
+pub(crate) fn start_digits(bytes: &[u8]) -> Result<(&[u8], &[u8]), DatetimeParseError>
+    ensures is { IfOk result (λ r. is_digits (first_token bytes.now) ≡ true) }
+    ensures token { IfOk result (λ r. r.0.now ≡ first_token bytes.now) }
+    ensures rest { IfOk result (λ r. r.1.now ≡ after_token bytes.now) }
+    ensures digits { IfOk result (λ r. AreDigits r.0.now) }
+    ensures isnt { IfErr result (λ e. is_digits (first_token bytes.now) ≡ false) }
+    ensures err { IfErr result (λ e. fault_of e ≡ bare_fault (Some (codes "year or hour"))) }
+{
+    match bytes {
+        [b'0'..=b'9', ..] => Ok(split_digits(bytes)),
+        _ => Err(DatetimeParseError::at_start("year or hour")),
+    }
+}
+
+/// The digits in front and what follows them, or the error where there are none.
+pub(crate) fn digits<'a>(
+    bytes: &'a [u8],
+    what: &'static str,
+    expected: &'static str,
+) -> Result<(&'a [u8], &'a [u8]), DatetimeParseError>
+    ensures is { IfOk result (λ r. is_digits (first_token bytes.now) ≡ true) }
+    ensures token { IfOk result (λ r. r.0.now ≡ first_token bytes.now) }
+    ensures rest { IfOk result (λ r. r.1.now ≡ after_token bytes.now) }
+    ensures digits { IfOk result (λ r. AreDigits r.0.now) }
+    ensures isnt { IfErr result (λ e. is_digits (first_token bytes.now) ≡ false) }
+    ensures err { IfErr result (λ e. fault_of e ≡ fault what.now expected.now) }
+{
+    match bytes {
+        [b'0'..=b'9', ..] => Ok(split_digits(bytes)),
+        _ => Err(DatetimeParseError::within(what, expected)),
+    }
+}
+
+/// What follows the mark in front, or the error where it isn't there.
+pub(crate) fn mark<'a>(
+    mark: u8,
+    bytes: &'a [u8],
+    what: &'static str,
+    expected: &'static str,
+) -> Result<&'a [u8], DatetimeParseError>
+    requires { is_mark mark ≡ true }
+    ensures is { IfOk result (λ r. is_of (mark ∷ []) (first_token bytes.now) ≡ true) }
+    ensures rest { IfOk result (λ r. r.now ≡ after_token bytes.now) }
+    ensures isnt { IfErr result (λ e. is_of (mark ∷ []) (first_token bytes.now) ≡ false) }
+    ensures err { IfErr result (λ e. fault_of e ≡ fault what.now expected.now) }
+{
+    match bytes {
+        [byte, rest @ ..] if *byte == mark => Ok(rest),
+        _ => Err(DatetimeParseError::within(what, expected)),
+    }
+}
+
+/// The error where the check doesn't hold.
+pub(crate) fn check(
+    holds: bool,
+    what: &'static str,
+    expected: &'static str,
+) -> Result<(), DatetimeParseError>
+    ensures is { IfOk result (λ r. holds ≡ true) }
+    ensures isnt { IfErr result (λ e. holds ≡ false) }
+    ensures err { IfErr result (λ e. fault_of e ≡ fault what.now expected.now) }
+{
+    if holds {
+        Ok(())
+    } else {
+        Err(DatetimeParseError::within(what, expected))
+    }
+}
+
+/// The error where something is left.
+pub(crate) fn end(bytes: &[u8]) -> Result<(), DatetimeParseError>
+    ensures is { IfOk result (λ r. is_end bytes.now ≡ true) }
+    ensures isnt { IfErr result (λ e. is_end bytes.now ≡ false) }
+    ensures err { IfErr result (λ e. fault_of e ≡ bare_fault None) }
+{
+    match bytes {
+        [] => Ok(()),
+        _ => Err(DatetimeParseError::behind()),
+    }
+}
+
+/// The digits behind the mark in front, where the mark is there.
+pub(crate) fn marked<'a>(
+    mark: u8,
+    bytes: &'a [u8],
+    expected: &'static str,
+) -> Result<(Option<&'a [u8]>, &'a [u8]), DatetimeParseError>
+    requires { is_mark mark ≡ true }
+    ensures is { IfOk result (λ r. where_there is_digits (marked (mark ∷ []) bytes.now) ≡ true) }
+    ensures token { IfOk result (λ r. option_map (λ s. s.now) r.0 ≡ marked (mark ∷ []) bytes.now) }
+    ensures rest { IfOk result (λ r. r.1.now ≡ after_marked (mark ∷ []) bytes.now) }
+    ensures digits { IfOk result (λ r. IfSome r.0 (λ s. AreDigits s.now)) }
+    ensures isnt { IfErr result (λ e. where_there is_digits (marked (mark ∷ []) bytes.now) ≡ false) }
+    ensures err { IfErr result (λ e. fault_of e ≡ fault (codes "time") expected.now) }
+{
+    match bytes {
+        [byte, rest @ ..] if *byte == mark => {
+            let (found, rest) = digits(rest, "time", expected)?;
+            Ok((Some(found), rest))
+        }
+        _ => Ok((None, bytes)),
+    }
+}
+
+/// The digits of a fraction, which stands only behind a second.
+pub(crate) fn fraction<'a>(
+    second: Option<&[u8]>,
+    bytes: &'a [u8],
+) -> Result<(Option<&'a [u8]>, &'a [u8]), DatetimeParseError>
+    ensures is { IfOk result (λ r. where_there is_digits (fraction (option_map (λ s. s.now) second.entry) bytes.now) ≡ true) }
+    ensures token { IfOk result (λ r. option_map (λ s. s.now) r.0 ≡ fraction (option_map (λ s. s.now) second.entry) bytes.now) }
+    ensures rest { IfOk result (λ r. r.1.now ≡ after_fraction (option_map (λ s. s.now) second.entry) bytes.now) }
+    ensures digits { IfOk result (λ r. IfSome r.0 (λ s. AreDigits s.now)) }
+    ensures isnt { IfErr result (λ e. where_there is_digits (fraction (option_map (λ s. s.now) second.entry) bytes.now) ≡ false) }
+    ensures err { IfErr result (λ e. fault_of e ≡ fault (codes "time") (codes "nanosecond")) }
+{
+    match second {
+        Some(_) => marked(b'.', bytes, "nanosecond"),
+        None => Ok((None, bytes)),
+    }
+}

@@ -1,0 +1,3 @@
+//! Rows.
+use crate::{Date, Datetime, Offset, Time};
+use std::test::Fail;
