@@ -6,7 +6,8 @@ use Rattle.port_toml_datetime.specs.Dates.{IsDate, days_in_month}
 use Rattle.port_toml_datetime.specs.Tokens.{token, after, after_token}
 use Rattle.port_toml_datetime.specs.Checks.{first_failing, date_rows, after_date}
 use Rattle.port_toml_datetime.specs.inside.Values.{date_of}
-use Rattle.port_toml_datetime.proofs.TokenFacts.{NoDigitFirst, run_sound}
+use Rattle.scan_core.specs.Fronts.{NoDigitFirst}
+use Rattle.port_toml_datetime.proofs.TokenFacts.{run_sound}
 use Rattle.port_toml_datetime.proofs.Marks.{mark_sound}
 use Rattle.port_toml_datetime.proofs.Rows.{all_hold, none_fails}
 use Rattle.port_toml_datetime.proofs.FieldFacts.{is_length, within_is, is_within_them, field_made, four_made, field_run}

@@ -3,9 +3,10 @@ use Rattle.std.proofs.Common.{◌≡◌, ℕ, ◌<◌, ◌≤◌, ◌==◌, ◌^
 use Rattle.std.proofs.lemmas.Bool.Decides.{nat_tests}
 use Rattle.scan_core.specs.Digits.{AreDigits, number_of}
 use Rattle.scan_core.proofs.DigitFacts.{number_of-lt}
-use Rattle.port_toml_datetime.specs.Fields.{IsField}
+use Rattle.scan_core.specs.Fields.{IsField}
 use Rattle.port_toml_datetime.specs.Checks.{has_length, is_within}
-use Rattle.port_toml_datetime.proofs.TokenFacts.{NoDigitFirst, IsRun, run_exact}
+use Rattle.scan_core.specs.Fronts.{NoDigitFirst}
+use Rattle.port_toml_datetime.proofs.TokenFacts.{IsRun, run_exact}
 
 equal_is : (n m : ℕ) → (n == m) ≡ true → n ≡ m
 equal_is n m h = grind (arith, nat_tests)

@@ -2,7 +2,8 @@
 use Rattle.std.proofs.Common.{◌≡◌, ℕ, ◌||◌, ◌==◌, ◌⊎◌, Bool, true, false, cond, List, [], ◌∷◌, refl, sym, ◌∙◌, arith, inl, inr}
 use Rattle.std.specs.Char.{is_ascii_digit}
 use Rattle.std.proofs.lemmas.Bool.Decides.{nat_tests}
-use Rattle.port_toml_datetime.specs.Tokens.{first_token, after_token, front_digits, is_of, is_mark, is_one_of, is_end}
+use Rattle.scan_core.specs.Fronts.{front_digits}
+use Rattle.port_toml_datetime.specs.Tokens.{first_token, after_token, is_of, is_mark, is_one_of, is_end}
 
 pub either : (b : Bool) → (b ≡ true) ⊎ (b ≡ false)
 either true = inl refl

@@ -11,7 +11,7 @@ use Rattle.port_toml_datetime.specs.declared.time.Time.{Time}
 use Rattle.port_toml_datetime.specs.declared.offset.Offset.{Offset}
 use Rattle.port_toml_datetime.specs.declared.offset.Offset.TheVariants.{Z, Custom}
 use Rattle.port_toml_datetime.specs.declared.datetime.Datetime.{Datetime}
-use Rattle.port_toml_datetime.specs.Fields.{IsField}
+use Rattle.scan_core.specs.Fields.{IsField}
 use Rattle.port_toml_datetime.specs.Dates.{IsDate, is_leap_year, days_in_month}
 use Rattle.port_toml_datetime.specs.Times.{nanoseconds, IsSecondFraction, IsPerhapsSeconds, IsTime}
 use Rattle.port_toml_datetime.specs.Offsets.{IsOffset}

@@ -15,7 +15,8 @@ use Rattle.port_toml_datetime.specs.Datetimes.{IsDelimiter, IsPerhapsOffset, IsD
 use Rattle.port_toml_datetime.specs.Tokens.{first_token, after_token, token, after, is_of, is_one_of}
 use Rattle.port_toml_datetime.specs.Checks.{Row, first_failing, time_rows, after_time, date_rows, after_date, full_time_rows, tail_rows, dated_rows, local_time_rows, end_row, checks}
 use Rattle.port_toml_datetime.specs.inside.Values.{time_of, date_of, offset_of, date_time_of, tail_of, value_of}
-use Rattle.port_toml_datetime.proofs.TokenFacts.{NoDigitFirst, IsFront, run_sound}
+use Rattle.scan_core.specs.Fronts.{NoDigitFirst}
+use Rattle.port_toml_datetime.proofs.TokenFacts.{IsFront, run_sound}
 use Rattle.port_toml_datetime.proofs.Marks.{mark_sound, either_sound, end_sound, of_first}
 use Rattle.port_toml_datetime.proofs.Rows.{none_if, all_hold, none_in_both, failing_behind}
 use Rattle.port_toml_datetime.proofs.FieldFacts.{field_run}

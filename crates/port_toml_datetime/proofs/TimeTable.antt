@@ -7,7 +7,8 @@ use Rattle.port_toml_datetime.specs.Times.{nanoseconds, IsPerhapsSecondFraction,
 use Rattle.port_toml_datetime.specs.Tokens.{first_token, after_token, token, after, is_digits, is_of}
 use Rattle.port_toml_datetime.specs.Checks.{first_failing, has_length, where_there, marked, after_marked, fraction, after_fraction, time_rows, after_time}
 use Rattle.port_toml_datetime.specs.inside.Values.{time_of}
-use Rattle.port_toml_datetime.proofs.TokenFacts.{NoDigitFirst, run_exact, run_sound}
+use Rattle.scan_core.specs.Fronts.{NoDigitFirst}
+use Rattle.port_toml_datetime.proofs.TokenFacts.{run_exact, run_sound}
 use Rattle.port_toml_datetime.proofs.Marks.{mark_sound}
 use Rattle.port_toml_datetime.proofs.Rows.{all_hold, none_fails}
 use Rattle.port_toml_datetime.proofs.FieldFacts.{is_length, two_made, field_run, most_of}

@@ -4,50 +4,15 @@ use Rattle.std.specs.Char.{is_ascii_digit, digit_value}
 use Rattle.std.proofs.lemmas.Bool.Decides.{nat_tests}
 use Rattle.std.proofs.lemmas.Str.Parse.{digit_from_value}
 use Rattle.scan_core.specs.Digits.{AreDigits}
-use Rattle.port_toml_datetime.specs.Tokens.{front_digits, after_digits, first_token, after_token, is_digits, is_mark}
-
--- the text doesn't begin with a digit
-abbrev pub NoDigitFirst : List ℕ → Type 0
-NoDigitFirst [] = Unit {0}
-NoDigitFirst (b ∷ bs) = is_ascii_digit b ≡ false
+use Rattle.scan_core.specs.Fronts.{front_digits, after_digits, NoDigitFirst}
+use Rattle.scan_core.proofs.FrontFacts.{front_of, after_of, front_are_digits, front_and_after}
+use Rattle.port_toml_datetime.specs.Tokens.{first_token, after_token, is_digits, is_mark}
 
 is_digit : (c : ℕ) → digit_value c < 10 → is_ascii_digit c ≡ true
 is_digit c h = let r = digit_from_value c h in grind (arith, nat_tests)
 
 digit_is : (c : ℕ) → is_ascii_digit c ≡ true → digit_value c < 10
 digit_is c h = grind (arith, nat_tests)
-
-no_front : (rest : List ℕ) → NoDigitFirst rest → front_digits rest ≡ []
-no_front [] n = refl
-no_front (b ∷ bs) n = rw n refl
-
-none_after : (rest : List ℕ) → NoDigitFirst rest → after_digits rest ≡ rest
-none_after [] n = refl
-none_after (b ∷ bs) n = rw n refl
-
-front_of : (digits rest : List ℕ) → AreDigits digits → NoDigitFirst rest → front_digits (digits ++ rest) ≡ digits
-front_of [] rest d n = no_front rest n
-front_of (c ∷ cs) rest d n = let yes = is_digit c d.0 in rw yes (ap (λ (ds : List ℕ). c ∷ ds) (front_of cs rest d.1 n))
-
-after_of : (digits rest : List ℕ) → AreDigits digits → NoDigitFirst rest → after_digits (digits ++ rest) ≡ rest
-after_of [] rest d n = none_after rest n
-after_of (c ∷ cs) rest d n = let yes = is_digit c d.0 in rw yes (after_of cs rest d.1 n)
-
-digits_if : (t : Bool) (b : ℕ) (ds : List ℕ) → (t ≡ true → digit_value b < 10) → AreDigits ds → AreDigits (cond t (b ∷ ds) [])
-digits_if true b ds is h = (is refl, h)
-digits_if false b ds is h = tt
-
-parts_if : (t : Bool) (b : ℕ) (bs ds rest : List ℕ) → ds ++ rest ≡ bs → cond t (b ∷ ds) [] ++ cond t rest (b ∷ bs) ≡ b ∷ bs
-parts_if true b bs ds rest h = ap (λ (l : List ℕ). b ∷ l) h
-parts_if false b bs ds rest h = refl
-
-pub front_are_digits : (bytes : List ℕ) → AreDigits (front_digits bytes)
-front_are_digits [] = tt
-front_are_digits (b ∷ bs) = digits_if (is_ascii_digit b) b (front_digits bs) (digit_is b) (front_are_digits bs)
-
-front_and_after : (bytes : List ℕ) → front_digits bytes ++ after_digits bytes ≡ bytes
-front_and_after [] = refl
-front_and_after (b ∷ bs) = parts_if (is_ascii_digit b) b bs (front_digits bs) (after_digits bs) (front_and_after bs)
 
 -- ---- digits in front are a token
 

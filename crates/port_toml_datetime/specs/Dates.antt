@@ -1,7 +1,7 @@
 -- Dates, by the TOML specification 1.1, section "Local Date", and `full-date` of its grammar: a real day of a year from 0000 to 9999.
 -- Leap years are those of RFC 3339, appendix C.
 use Rattle.std.specs.Prelude.{◌≡◌, ℕ, ◌%◌, Bool, not, ◌&&◌, ◌||◌, ◌==◌, if◌then◌else◌, List, ◌++◌, codes}
-use Rattle.port_toml_datetime.specs.Fields.{IsField}
+use Rattle.scan_core.specs.Fields.{IsField}
 use Rattle.port_toml_datetime.specs.declared.date.Date.{Date}
 
 -- a year divisible by 4 and not by 100, or by 400

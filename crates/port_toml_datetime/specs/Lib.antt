@@ -1,4 +1,3 @@
-pub mod Fields
 pub mod Dates
 pub mod Times
 pub mod Offsets

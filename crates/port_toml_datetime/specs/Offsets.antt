@@ -1,6 +1,6 @@
 -- Offsets, by the TOML specification 1.1, section "Offset Date-Time", and `time-offset` of its grammar.
 use Rattle.std.specs.Prelude.{◌≡◌, ℕ, ◌+◌, ◌*◌, ℤ, pos, neg_ℤ, ◌⊎◌, Bool, true, false, List, ◌++◌, codes}
-use Rattle.port_toml_datetime.specs.Fields.{IsField}
+use Rattle.scan_core.specs.Fields.{IsField}
 use Rattle.port_toml_datetime.specs.declared.offset.Offset.{Offset}
 use Rattle.port_toml_datetime.specs.declared.offset.Offset.TheVariants.{Z, Custom}
 

@@ -2,7 +2,7 @@
 -- and behind these perhaps a fraction. Seconds go to 60, for leap seconds; RFC 3339, section 5.7.
 use Rattle.std.specs.Prelude.{◌≡◌, ℕ, ◌<◌, ◌⊎◌, List, [], ◌++◌, length, take, codes, Option, Some, None}
 use Rattle.scan_core.specs.Digits.{AreDigits, number_of}
-use Rattle.port_toml_datetime.specs.Fields.{IsField}
+use Rattle.scan_core.specs.Fields.{IsField}
 use Rattle.port_toml_datetime.specs.declared.time.Time.{Time}
 
 -- the first nine digits of a fraction, filled with zeros on the right. The rest is cut: "truncated, not rounded", says the section

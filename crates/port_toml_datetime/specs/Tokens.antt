@@ -2,20 +2,12 @@
 -- is its bytes, and the token at the end of the text is empty: it fails each check for a token.
 use Rattle.std.specs.Prelude.{ℕ, zero, suc, Bool, true, false, ◌||◌, ◌==◌, List, [], ◌∷◌, codes, if◌then◌else◌}
 use Rattle.std.specs.Char.{is_ascii_digit}
+use Rattle.scan_core.specs.Fronts.{front_digits, after_digits}
 
 -- the byte is among these
 abbrev pub is_one_of : List ℕ → ℕ → Bool
 is_one_of [] b = false
 is_one_of (m ∷ ms) b = (b == m) || is_one_of ms b
-
--- the digits in front, and what follows them
-abbrev pub front_digits : List ℕ → List ℕ
-front_digits [] = []
-front_digits (b ∷ bs) = if is_ascii_digit b then (b ∷ front_digits bs) else []
-
-abbrev pub after_digits : List ℕ → List ℕ
-after_digits [] = []
-after_digits (b ∷ bs) = if is_ascii_digit b then after_digits bs else (b ∷ bs)
 
 -- the marks, each of which is a token
 abbrev pub is_mark : ℕ → Bool

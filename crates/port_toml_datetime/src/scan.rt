@@ -3,21 +3,10 @@ ghost use Rattle.std.specs.Prelude.{◌≡◌, Some, true, false, [], ◌∷◌,
 ghost use Rattle.scan_core.specs.Digits.{AreDigits};
 ghost use Rattle.port_toml_datetime.specs.Faults.{bare_fault, fault, fault_of};
 ghost use Rattle.port_toml_datetime.specs.Checks.{after_fraction, after_marked, fraction, marked, where_there};
-ghost use Rattle.port_toml_datetime.specs.Tokens.{after_digits, after_token, first_token, front_digits, is_digits, is_end, is_mark, is_of};
+ghost use Rattle.port_toml_datetime.specs.Tokens.{after_token, first_token, is_digits, is_end, is_mark, is_of};
 
-use crate::error::DatetimeParseError;
-
-/// The digits in front, and what follows them.
-fn split_digits(bytes: &[u8]) -> (&[u8], &[u8])
-    ensures front { result.0.now ≡ front_digits bytes.now }
-    ensures rest { result.1.now ≡ after_digits bytes.now }
-{
-    let mut len = 0;
-    while len < bytes.len() && bytes[len].is_ascii_digit() {
-        len += 1;
-    }
-    bytes.split_at(len)
-}
+use crate::DatetimeParseError;
+use scan_core::split_digits;
 
 /// The digits that a date-time begins with, and what follows them.
 pub(crate) fn start_digits(bytes: &[u8]) -> Result<(&[u8], &[u8]), DatetimeParseError>

@@ -1,4 +1,4 @@
-use Rattle.port_toml_datetime.proofs.TokenFacts.{front_are_digits}
+use Rattle.scan_core.proofs.FrontFacts.{front_are_digits}
 use Rattle.port_toml_datetime.proofs.scan.start_digits.Goals as goal
 
 pub returns-in-48-to-57-clause-digits : goal.returns-in-48-to-57-clause-digits
