@@ -1,3 +1,4 @@
+//! Days over one date word.
 ghost use Rattle.std.specs.Prelude.{◌≡◌, ◌↔◌, ◌+◌, ◌*◌, ◌^◌, ◌<◌, pos, IsSome, IfSome, Some};
 ghost use Rattle.jiff.specs.Words.{IsBetween};
 ghost use Rattle.dos_date.specs.Bits.{bits};
@@ -15,7 +16,7 @@ use std::marker::Model;
 /// 1980 in bits 9 to 15. The order of dates is that of their words.
 #[derive(Clone, Copy, Debug, PartialEq, Eq, PartialOrd, Ord, Hash)]
 pub struct Date {
-    word: u16,
+    pub(crate) word: u16,
 }
 
 impl Model for Date {
@@ -32,8 +33,10 @@ impl Model for Date {
 }
 
 impl Date {
+    /// 1980-01-01.
     pub(crate) const MIN: Date = Date { word: 0x0021 };
 
+    /// 2107-12-31.
     pub(crate) const MAX: Date = Date { word: 0xff9f };
 
     /// The date over this word. `None` exactly where the word is no real day.
@@ -57,12 +60,14 @@ impl Date {
         self.word
     }
 
+    /// The civil date that the word holds.
     pub(crate) fn to_civil(self) -> civil::Date
         ensures { IsDateWord self result }
     {
         civil_of(self.word).unwrap()
     }
 
+    /// The date of a civil one in the years 1980 to 2107.
     pub(crate) fn from_civil(date: civil::Date) -> Date
         requires { IsBetween (pos 1980) (pos 2107) date.year }
         ensures { IsDateWord result date }
@@ -84,6 +89,7 @@ impl Display for Date {
     }
 }
 
+/// The civil date whose fields a word holds, or `None` where the calendar has none.
 fn civil_of(word: u16) -> Option<civil::Date>
     ensures some { IsSome result ↔ IsRealDay word }
     ensures value { IfSome result (IsDateWord word) }
@@ -95,6 +101,7 @@ fn civil_of(word: u16) -> Option<civil::Date>
     }
 }
 
+/// The years since 1980, the month and the day of a word.
 fn fields(word: u16) -> (u16, u8, u8)
     ensures years { result.0 ≡ bits 9 7 word }
     ensures month { result.1 ≡ bits 5 4 word }
@@ -103,6 +110,7 @@ fn fields(word: u16) -> (u16, u8, u8)
     (word >> 9, (word >> 5 & 0xf) as u8, (word & 0x1f) as u8)
 }
 
+/// The word of these fields.
 fn word_of(years: u16, month: u8, day: u8) -> u16
     requires years { years < 2 ^ 7 }
     requires month { month < 2 ^ 4 }

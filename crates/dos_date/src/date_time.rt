@@ -1,3 +1,4 @@
+//! Date-times over both words.
 ghost use Rattle.std.specs.Prelude.{◌≡◌, ◌↔◌, IsSome, IfSome, ◌++◌, Some, codes};
 ghost use Rattle.dos_date.specs.DateWord.{IsRealDay};
 ghost use Rattle.dos_date.specs.TimeWord.{IsRealTime};
@@ -111,6 +112,11 @@ impl DateTime {
         civil::DateTime::from_parts(self.date.to_civil(), self.time.to_civil())
     }
 }
+
+// The constants have the words that the laws speak of.
+const _: () = prove!(DateTime::MIN.date.word == 0x0021 && DateTime::MIN.time.word == 0x0000);
+
+const _: () = prove!(DateTime::MAX.date.word == 0xff9f && DateTime::MAX.time.word == 0xbf7d);
 
 /// `YYYY-MM-DD HH:MM:SS`.
 impl Display for DateTime {

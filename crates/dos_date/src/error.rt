@@ -1,3 +1,4 @@
+//! Why a civil date-time has no words.
 ghost use Rattle.std.specs.Prelude.{◌≡◌};
 
 use std::marker::Model;

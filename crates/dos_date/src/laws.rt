@@ -1,14 +1,16 @@
 //! Laws of the words, each for every value: functions that do nothing.
-ghost use Rattle.std.specs.Prelude.{◌≡◌, ℕ, ◌^◌, ◌<◌, ◌≤◌, ◌↔◌, Result, Ok, unsigned_abs};
+ghost use Rattle.std.specs.Prelude.{◌≡◌, ℕ, ◌^◌, ◌<◌, ◌≤◌, ◌↔◌, Result, Ok, IsTrue, unsigned_abs};
 ghost use Rattle.jiff.specs.Types.{Date as CivilDate, Time as CivilTime, DateTime as CivilDateTime};
+ghost use Rattle.std.specs.Ordering.{nat_cmp, ordering_then};
 ghost use Rattle.dos_date.specs.declared.error.DosRangeErrorKind.{DosRangeErrorKind};
 ghost use Rattle.dos_date.specs.DateWord.{IsDateWord, IsRealDay};
 ghost use Rattle.dos_date.specs.TimeWord.{IsTimeWord, IsRealTime};
 ghost use Rattle.dos_date.specs.DateTime.{IsMomentOf, IsFromCivil, IsAt};
+ghost use Rattle.dos_date.specs.Order.{IsEarlierDay, IsEarlierTime};
 ghost use Rattle.dos_date.specs.Text.{date_text, time_text, day_text, clock_text};
 ghost use Rattle.dos_date.specs.Words.{Words};
 
-use crate::DateTime;
+use crate::{Date, DateTime, Time};
 
 /// A word is a date word exactly where some civil date has it. It names one day, and a day has one
 /// date word.
@@ -45,15 +47,41 @@ pub fn texts_are_those_of_civil_moments()
         → time_text word ≡ clock_text time.hour time.minute time.second }
 {}
 
-/// Every DOS date-time lies from 1980-01-01 00:00:00 to 2107-12-31 23:59:58, and the constants are
-/// these two. A clause cannot name a constant of `DateTime`, so they are handed out here.
-pub fn constants() -> (DateTime, DateTime)
-    ensures min { result.0 ≡ record { date = 0x0021; time = 0x0000 } }
-    ensures max { result.1 ≡ record { date = 0xFF9F; time = 0xBF7D } }
-    ensures first { (civil : CivilDateTime) → IsMomentOf result.0 civil → IsAt 1980 1 1 0 0 0 civil }
-    ensures last { (civil : CivilDateTime) → IsMomentOf result.1 civil → IsAt 2107 12 31 23 59 58 civil }
+/// Dates are equal and ordered as their words are.
+pub fn dates_are_ordered_by_word()
+    ensures equal { (a b : ℕ) → IsTrue (⟦<Date as PartialEq>⟧.eq a b) ↔ (a ≡ b) }
+    ensures order { (a b : ℕ) → ⟦<Date as Ord>⟧.cmp a b ≡ nat_cmp a b }
+{}
+
+/// Times of day are equal and ordered as their words are.
+pub fn times_are_ordered_by_word()
+    ensures equal { (a b : ℕ) → IsTrue (⟦<Time as PartialEq>⟧.eq a b) ↔ (a ≡ b) }
+    ensures order { (a b : ℕ) → ⟦<Time as Ord>⟧.cmp a b ≡ nat_cmp a b }
+{}
+
+/// Date-times are equal where both words are, and ordered by their date, and on one day by their time.
+pub fn date_times_are_ordered_by_date_and_time()
+    ensures equal { (a b : Words) → IsTrue (⟦<DateTime as PartialEq>⟧.eq a b) ↔ (a ≡ b) }
+    ensures order { (a b : Words) → ⟦<DateTime as Ord>⟧.cmp a b
+        ≡ ordering_then (nat_cmp a.date b.date) (nat_cmp a.time b.time) }
+{}
+
+/// A later day has the greater date word, and a later time on an even second the greater time word.
+pub fn words_rise_with_days_and_times()
+    ensures days { (v w : ℕ) (a b : CivilDate) → IsDateWord v a → IsDateWord w b
+        → (v < w) ↔ IsEarlierDay a b }
+    ensures times { (v w : ℕ) (a b : CivilTime) → IsTimeWord v a → IsTimeWord w b
+        → (v < w) ↔ IsEarlierTime a b }
+{}
+
+/// The words of [`DateTime::MIN`] name 1980-01-01 00:00:00, those of [`DateTime::MAX`] 2107-12-31
+/// 23:59:58, and every DOS date-time lies between them.
+pub fn first_and_last_moment()
+    ensures first { (civil : CivilDateTime)
+        → IsMomentOf (record { date = 0x0021; time = 0x0000 }) civil → IsAt 1980 1 1 0 0 0 civil }
+    ensures last { (civil : CivilDateTime)
+        → IsMomentOf (record { date = 0xFF9F; time = 0xBF7D }) civil
+        → IsAt 2107 12 31 23 59 58 civil }
     ensures within { (words : Words) (civil : CivilDateTime) → IsMomentOf words civil
         → (0x0021 ≤ words.date) × (words.date ≤ 0xFF9F) × (words.time ≤ 0xBF7D) }
-{
-    (DateTime::MIN, DateTime::MAX)
-}
+{}

@@ -1,3 +1,4 @@
+//! Rows of words, moments, texts and errors.
 use crate::DosRangeErrorKind::{Negative, Overflow};
 use crate::{Date, DateTime, Time};
 use jiff::civil;

@@ -1,3 +1,4 @@
+//! Times of day over one time word.
 ghost use Rattle.std.specs.Prelude.{◌≡◌, ◌↔◌, ◌+◌, ◌*◌, ◌^◌, ◌<◌, IsSome, IfSome, Some};
 ghost use Rattle.dos_date.specs.Bits.{bits};
 ghost use Rattle.dos_date.specs.TimeWord.{IsTimeWord, IsCutTimeWord, IsRealTime};
@@ -14,7 +15,7 @@ use std::marker::Model;
 /// bits 11 to 15. The order of times is that of their words.
 #[derive(Clone, Copy, Debug, PartialEq, Eq, PartialOrd, Ord, Hash)]
 pub struct Time {
-    word: u16,
+    pub(crate) word: u16,
 }
 
 impl Model for Time {
@@ -31,8 +32,10 @@ impl Model for Time {
 }
 
 impl Time {
+    /// 00:00:00.
     pub(crate) const MIN: Time = Time { word: 0x0000 };
 
+    /// 23:59:58.
     pub(crate) const MAX: Time = Time { word: 0xbf7d };
 
     /// The time over this word. `None` exactly where the hour is above 23, the minute above 59 or
@@ -57,12 +60,14 @@ impl Time {
         self.word
     }
 
+    /// The civil time that the word holds.
     pub(crate) fn to_civil(self) -> civil::Time
         ensures { IsTimeWord self result }
     {
         civil_of(self.word).unwrap()
     }
 
+    /// The last time that is not after a civil one.
     pub(crate) fn cut_from(time: civil::Time) -> Time
         ensures { IsCutTimeWord result time }
     {
@@ -83,6 +88,7 @@ impl Display for Time {
     }
 }
 
+/// The civil time whose fields a word holds, or `None` where no clock shows it.
 fn civil_of(word: u16) -> Option<civil::Time>
     ensures some { IsSome result ↔ IsRealTime word }
     ensures value { IfSome result (IsTimeWord word) }
@@ -94,6 +100,7 @@ fn civil_of(word: u16) -> Option<civil::Time>
     }
 }
 
+/// The hour, the minute and the halved second of a word.
 fn fields(word: u16) -> (u8, u8, u8)
     ensures hour { result.0 ≡ bits 11 5 word }
     ensures minute { result.1 ≡ bits 5 6 word }
@@ -106,6 +113,7 @@ fn fields(word: u16) -> (u8, u8, u8)
     )
 }
 
+/// The word of these fields.
 fn word_of(hour: u8, minute: u8, halved: u8) -> u16
     requires hour { hour < 2 ^ 5 }
     requires minute { minute < 2 ^ 6 }

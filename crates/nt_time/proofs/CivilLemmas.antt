@@ -1,17 +1,23 @@
--- Where the DOS years begin and end.
-use Rattle.std.proofs.Common.{◌≡◌, ℕ, ◌<◌, ◌≤◌, pos, ◌*ℤ◌, ◌<ℤ◌, ◌≤ℤ◌, ◌↔◌, refl, inl, inr, ⊎_elim, Result, Ok, Err, IsOk, IsErrOf, arith}
+-- Where the civil years begin, and where the DOS years begin and end.
+use Rattle.std.proofs.Common.{◌≡◌, ℕ, ◌<◌, ◌≤◌, pos, neg_ℤ, ◌*ℤ◌, ◌<ℤ◌, ◌≤ℤ◌, ◌↔◌, refl, inl, inr, ⊎_elim, Result, Ok, Err, IsOk, IsErrOf, arith}
 use Rattle.std.proofs.lemmas.Bool.{cases_lt}
 use Rattle.std.proofs.lemmas.Int.{ints, by_lt_z}
-use Rattle.jiff.proofs.Family.{epoch_day-lt, epoch_day_same, civil_nanos-parts, time_nanos_bound}
+use Rattle.jiff.proofs.Family.{days_from_civil-min, epoch_day-lt, epoch_day_same, civil_nanos-parts, time_nanos_bound}
 use Rattle.jiff.proofs.OnLiterals.{jiff_on_literals}
 use Rattle.jiff.specs.Types.{Date, DateTime}
-use Rattle.jiff.specs.Words.{epoch_day, civil_nanos}
+use Rattle.jiff.specs.Words.{epoch_day, civil_nanos, time_nanos}
 use Rattle.dos_date.specs.DateTime.{IsFromCivil}
 use Rattle.dos_date.specs.Words.{Words}
 use Rattle.dos_date.specs.declared.error.DosRangeErrorKind.{DosRangeErrorKind}
 use Rattle.nt_time.specs.declared.error.FileTimeRangeErrorKind.{FileTimeRangeErrorKind}
 use Rattle.nt_time.specs.declared.error.FileTimeRangeErrorKind.TheVariants.{Negative, Overflow}
 use Rattle.nt_time.specs.Civil.{IsUtcOf, IsDosFrom, past_civil}
+
+-- the first civil date-time
+pub first_nanos : (civil : DateTime) → civil.date.year ≡ neg_ℤ (pos 9999) → civil.date.month ≡ 1 → civil.date.day ≡ 1 → time_nanos civil.time ≡ 0 → civil_nanos civil ≡ neg_ℤ (pos 377_705_116_800_000_000_000)
+first_nanos civil year month day midnight =
+    let first : epoch_day civil.date ≡ neg_ℤ (pos 4_371_587) = rw (year, month, day) days_from_civil-min in
+    omega (arith, ints, first, midnight, civil_nanos-parts civil)
 
 first_of_1980 : Date
 first_of_1980 = record {

@@ -48,6 +48,9 @@ text_of_numeral (c ∷ cs) has = ⊎_elim
     (λ isnt. (without_leading_plus (c ∷ cs), has, refl, inl (sym (without_leading_plus_none (c ∷ cs) isnt))))
     (cases_eq c 43)
 
+pub one_number : (text : List ℕ) (m n : ℕ) → IsTextOf text m → IsTextOf text n → m ≡ n
+one_number text m n first second = (numeral_of_text text m first).1 ∙ sym (numeral_of_text text n second).1
+
 -- ---- what a text reads as
 
 pub read_ok : (text : List ℕ) (t : ℕ) → IsNumeral 10 (without_leading_plus text) → digits_value 10 (without_leading_plus text) < 2 ^ 64 → t ≡ digits_value 10 (without_leading_plus text) → IsReadFrom text (Ok t)
@@ -55,6 +58,7 @@ read_ok text t has fits e =
     let written : IsTextOf text t = rw e (text_of_numeral text has) in
     record {
       ok = written;
+      fits = rw e fits;
       all = λ n h small. ap (λ (m : ℕ). Ok m) (e ∙ sym (numeral_of_text text n h).1);
       empty = (λ r. cc, λ none. absurd (let h = rw none at has in omega (arith, h)));
       invalid = (λ r. cc, λ h. absurd (h.1 t written));
@@ -64,6 +68,7 @@ read_ok text t has fits e =
 pub read_overflow : (text : List ℕ) → IsNumeral 10 (without_leading_plus text) → 2 ^ 64 ≤ digits_value 10 (without_leading_plus text) → IsReadFrom text (Err Overflow)
 read_overflow text has large = record {
   ok = tt;
+  fits = tt;
   all = λ n h small. absurd (let value = (numeral_of_text text n h).1 in omega (arith, value));
   empty = (λ r. cc, λ none. absurd (let h = rw none at has in omega (arith, h)));
   invalid = (λ r. cc, λ h. absurd (h.1 _ (text_of_numeral text has)));

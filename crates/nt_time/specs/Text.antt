@@ -13,6 +13,7 @@ IsTextOf text n =
 -- the raw count that the text writes, or why there is none: the grammar comes before the size
 pub record IsReadFrom (text : List ℕ) (result : Result ℕ ParseFileTimeCause) : Type 0 where
   pub ok : IfOk result (IsTextOf text)
+  pub fits : IfOk result (λ n. n < 2 ^ 64)
   pub all : (n : ℕ) → IsTextOf text n → n < 2 ^ 64 → result ≡ Ok n
   pub empty : IsErrOf result Empty ↔ (text ≡ [])
   pub invalid : IsErrOf result InvalidDigit ↔ ((text ≢ []) × ((n : ℕ) → ¬ IsTextOf text n))

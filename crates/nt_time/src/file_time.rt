@@ -1,6 +1,10 @@
+//! The count of ticks, and its constants.
 ghost use Rattle.std.specs.Prelude.{◌≡◌};
 
 use std::marker::Model;
+
+/// How long a tick is.
+pub(crate) const NANOSECONDS_PER_TICK: u64 = 100;
 
 /// A moment as Windows counts it: whole ticks of 100 nanoseconds since 1601-01-01 00:00:00 UTC.
 ///
@@ -51,6 +55,15 @@ impl FileTime {
         self.raw
     }
 }
+
+// The constants have the counts that the laws speak of.
+const _: () = prove!(FileTime::NT_TIME_EPOCH.raw == 0);
+
+const _: () = prove!(FileTime::UNIX_EPOCH.raw == 116_444_736_000_000_000);
+
+const _: () = prove!(FileTime::SIGNED_MAX.raw == 9_223_372_036_854_775_807);
+
+const _: () = prove!(FileTime::MAX.raw == 18_446_744_073_709_551_615);
 
 /// 1601-01-01 00:00:00 UTC.
 impl Default for FileTime {

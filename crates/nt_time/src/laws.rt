@@ -1,20 +1,26 @@
 //! Laws of file times, each for every value: functions that do nothing.
-ghost use Rattle.std.specs.Prelude.{◌≡◌, ℕ, ◌+◌, ◌-◌, ◌^◌, ◌<◌, ◌≤◌, ℤ, pos, neg_ℤ, ◌<ℤ◌, ◌≤ℤ◌, ◌↔◌, List, length, Result, Ok, IsTrue, decimal, slice_index};
+ghost use Rattle.std.specs.Prelude.{◌≡◌, ℕ, ◌+◌, ◌-◌, ◌^◌, ◌<◌, ◌≤◌, ℤ, pos, neg_ℤ, ◌<ℤ◌, ◌≤ℤ◌};
+ghost use Rattle.std.specs.Prelude.{◌↔◌, List, length, Result, Ok, IsTrue, decimal, slice_index};
 ghost use Rattle.std.specs.Int.{w64, to_be_bytes, to_le_bytes, from_be_bytes, from_le_bytes};
-ghost use Rattle.std.specs.Ordering.{nat_cmp};
+ghost use Rattle.std.specs.Ordering.{nat_cmp, int_cmp};
+ghost use Rattle.jiff.specs.Types.{DateTime as CivilDateTime};
+ghost use Rattle.jiff.specs.Words.{civil_nanos};
 ghost use Rattle.nt_time.specs.declared.error.FileTimeRangeErrorKind.{FileTimeRangeErrorKind};
 ghost use Rattle.nt_time.specs.declared.error.ParseFileTimeCause.{ParseFileTimeCause};
 ghost use Rattle.nt_time.specs.FileTime.{IsFileTime, unix_nanos, HasParts};
-ghost use Rattle.nt_time.specs.Text.{IsReadFrom};
+ghost use Rattle.nt_time.specs.Text.{IsTextOf, IsReadFrom};
 ghost use Rattle.nt_time.specs.Ticks.{IsWholeTicks, CanAddTicks, CanSubTicks};
 ghost use Rattle.nt_time.specs.UnixTime.{IsFromUnixNanos};
 
-use crate::FileTime;
+use crate::{FileTime, UtcDateTime};
 use std::hash::Hash;
 
-/// The nanoseconds of the first and the last tick.
-pub fn first_and_last_nanosecond()
+/// The nanoseconds of the ticks of [`FileTime::NT_TIME_EPOCH`], [`FileTime::UNIX_EPOCH`],
+/// [`FileTime::SIGNED_MAX`] and [`FileTime::MAX`].
+pub fn nanoseconds_of_constants()
     ensures first { unix_nanos 0 ≡ neg_ℤ (pos 11_644_473_600_000_000_000) }
+    ensures unix_epoch { unix_nanos 116_444_736_000_000_000 ≡ pos 0 }
+    ensures signed_max { unix_nanos (2 ^ 63 - 1) ≡ pos 910_692_730_085_477_580_700 }
     ensures last { unix_nanos (2 ^ 64 - 1) ≡ pos 1_833_029_933_770_955_161_500 }
 {}
 
@@ -47,8 +53,10 @@ pub fn order_and_hash_are_those_of_raw_counts()
 
 /// Both byte orders of a file time are read back, and so are eight bytes.
 pub fn bytes_are_read_back()
-    ensures be { (ticks : ℕ) → IsFileTime ticks → from_be_bytes w64 (to_be_bytes w64 ticks) ≡ ticks }
-    ensures le { (ticks : ℕ) → IsFileTime ticks → from_le_bytes w64 (to_le_bytes w64 ticks) ≡ ticks }
+    ensures be { (ticks : ℕ) → IsFileTime ticks
+        → from_be_bytes w64 (to_be_bytes w64 ticks) ≡ ticks }
+    ensures le { (ticks : ℕ) → IsFileTime ticks
+        → from_le_bytes w64 (to_le_bytes w64 ticks) ≡ ticks }
     ensures be_bytes { (bytes : List ℕ) → length bytes ≡ 8 → ((i : ℕ) → slice_index bytes i < 256)
         → to_be_bytes w64 (from_be_bytes w64 bytes) ≡ bytes }
     ensures le_bytes { (bytes : List ℕ) → length bytes ≡ 8 → ((i : ℕ) → slice_index bytes i < 256)
@@ -76,18 +84,16 @@ pub fn texts_are_read_back()
         → IsReadFrom (decimal ticks) result → result ≡ Ok ticks }
 {}
 
-/// The constants `NT_TIME_EPOCH`, `UNIX_EPOCH`, `SIGNED_MAX` and `MAX`. A clause cannot name a
-/// constant of `FileTime`, so they are handed out here.
-pub fn constants() -> [FileTime; 4]
-    ensures nt_time_epoch { slice_index result 0 ≡ 0 }
-    ensures unix_epoch { unix_nanos (slice_index result 1) ≡ pos 0 }
-    ensures signed_max { slice_index result 2 ≡ 2 ^ 63 - 1 }
-    ensures max { slice_index result 3 ≡ 2 ^ 64 - 1 }
-{
-    [
-        FileTime::NT_TIME_EPOCH,
-        FileTime::UNIX_EPOCH,
-        FileTime::SIGNED_MAX,
-        FileTime::MAX,
-    ]
-}
+/// A text writes one number at most, and the decimal digits of a count are a text of it.
+pub fn texts_write_one_number()
+    ensures alone { (text : List ℕ) (m n : ℕ) → IsTextOf text m → IsTextOf text n → m ≡ n }
+    ensures digits { (ticks : ℕ) → IsFileTime ticks → IsTextOf (decimal ticks) ticks }
+{}
+
+/// Civil date-times in UTC are equal and ordered as their moments are.
+pub fn civil_order_is_that_of_moments()
+    ensures equal { (a b : CivilDateTime) → IsTrue (⟦<UtcDateTime as PartialEq>⟧.eq a b)
+        ↔ (civil_nanos a ≡ civil_nanos b) }
+    ensures order { (a b : CivilDateTime) → ⟦<UtcDateTime as Ord>⟧.cmp a b
+        ≡ int_cmp (civil_nanos a) (civil_nanos b) }
+{}

@@ -6,18 +6,17 @@ ghost use Rattle.nt_time.specs.Ticks.{IsWholeTicks, IsAfterBy, IsMovedBy, CanAdd
 
 use crate::FileTime;
 use crate::error::{FileTimeRangeError, FileTimeRangeErrorKind};
+use crate::file_time::NANOSECONDS_PER_TICK;
 use jiff::SignedDuration;
 use std::ops::{Add, AddAssign, Sub, SubAssign};
 use std::time::Duration;
-
-const NANOSECONDS_PER_TICK: u128 = 100;
 
 impl FileTime {
     /// The length since the first tick, 100 nanoseconds for each tick.
     pub fn to_duration(self) -> Duration
         ensures { as_nanos result ≡ 100 * self }
     {
-        Duration::from_nanos_u128(self.to_raw() as u128 * NANOSECONDS_PER_TICK)
+        Duration::from_nanos_u128(self.to_raw() as u128 * NANOSECONDS_PER_TICK as u128)
     }
 
     /// The file time that is the whole ticks of the length after the first tick.
@@ -65,7 +64,8 @@ impl FileTime {
 
     /// As [`FileTime::checked_sub`], and [`FileTime::NT_TIME_EPOCH`] where that is `None`.
     pub fn saturating_sub(self, rhs: Duration) -> FileTime
-        ensures difference { CanSubTicks self (as_nanos rhs) → IsAfterBy (as_nanos rhs) result self }
+        ensures difference { CanSubTicks self (as_nanos rhs)
+            → IsAfterBy (as_nanos rhs) result self }
         ensures saturated { ¬ CanSubTicks self (as_nanos rhs) → result ≡ 0 }
     {
         self.checked_sub(rhs).unwrap_or(FileTime::NT_TIME_EPOCH)
@@ -100,11 +100,12 @@ impl FileTime {
     }
 }
 
+/// The whole ticks of a length. `None` exactly where they pass `u64::MAX`.
 fn whole_ticks(duration: Duration) -> Option<u64>
     ensures none { IsNone result ↔ (100 * 2 ^ 64 ≤ as_nanos duration) }
     ensures value { IfSome result (IsWholeTicks (as_nanos duration)) }
 {
-    u64::try_from(duration.as_nanos() / NANOSECONDS_PER_TICK).ok()
+    u64::try_from(duration.as_nanos() / NANOSECONDS_PER_TICK as u128).ok()
 }
 
 /// As [`FileTime::checked_add`], which must be `Some`.

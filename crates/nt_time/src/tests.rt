@@ -1,3 +1,4 @@
+//! Rows of conversions at their bounds, texts, sums and turns.
 use crate::error::FileTimeRangeErrorKind::{Negative, Overflow};
 use crate::error::{FileTimeRangeError, FileTimeRangeErrorKind, OutOfCivil, ParseFileTimeCause};
 use crate::{FileTime, UtcDateTime};

@@ -44,6 +44,7 @@ impl FromStr for FileTime {
     }
 }
 
+/// Whether a text is one digit or more, with a plus before them or without.
 fn is_number(text: &[u8]) -> bool
     ensures { IsTrue result ↔ IsNumeral 10 (without_leading_plus text.now) }
 {
@@ -51,18 +52,16 @@ fn is_number(text: &[u8]) -> bool
     !digits.is_empty() && are_digits(digits)
 }
 
+/// Whether each byte is an ASCII digit.
 fn are_digits(bytes: &[u8]) -> bool
     ensures { result ≡ list_all is_ascii_digit bytes.now }
 {
     bytes.iter().all(|byte| byte.is_ascii_digit())
 }
 
+/// A text without the plus at its front.
 fn without_plus(text: &[u8]) -> &[u8]
     ensures { result.now ≡ without_leading_plus text.now }
 {
-    if !text.is_empty() && text[0] == b'+' {
-        &text[1..]
-    } else {
-        text
-    }
+    text.strip_prefix(b"+").unwrap_or(text)
 }

@@ -5,24 +5,24 @@ ghost use Rattle.nt_time.specs.UnixTime.{IsFloor, IsLatestNotAfter, IsFromUnixNa
 
 use crate::FileTime;
 use crate::error::{FileTimeRangeError, FileTimeRangeErrorKind};
+use crate::file_time::NANOSECONDS_PER_TICK;
 
-const TICKS_PER_SECOND: u64 = 10_000_000;
+const TICKS_PER_SECOND: u64 = 1_000_000_000 / NANOSECONDS_PER_TICK;
 
-const TICKS_PER_MILLISECOND: u64 = 10_000;
+const TICKS_PER_MILLISECOND: u64 = TICKS_PER_SECOND / 1000;
 
-const TICKS_PER_MICROSECOND: u64 = 10;
+const TICKS_PER_MICROSECOND: u64 = TICKS_PER_SECOND / 1_000_000;
 
-const NANOSECONDS_PER_TICK: u64 = 100;
-
-// From 1601-01-01 to 1970-01-01.
+/// The seconds from 1601-01-01 to 1970-01-01.
 const EPOCH_SECONDS: i64 = 11_644_473_600;
 
-const FIRST_NANOSECOND: i128 = -11_644_473_600_000_000_000;
+/// The Unix second with the last tick in it.
+const LAST_SECOND: i64 = (u64::MAX / TICKS_PER_SECOND) as i64 - EPOCH_SECONDS;
 
-const LAST_NANOSECOND: i128 = 1_833_029_933_770_955_161_500;
+/// The Unix nanoseconds of the first and of the last tick.
+const FIRST_NANOSECOND: i128 = EPOCH_SECONDS as i128 * -1_000_000_000;
 
-// The second with the last tick in it.
-const LAST_SECOND: i64 = 1_833_029_933_770;
+const LAST_NANOSECOND: i128 = FIRST_NANOSECOND + u64::MAX as i128 * NANOSECONDS_PER_TICK as i128;
 
 impl FileTime {
     /// Whole seconds since 1970, rounded down, and the nanoseconds beyond them, below 10^9.
@@ -67,9 +67,10 @@ impl FileTime {
     /// The greatest file time not after that many seconds and nanoseconds since 1970. The
     /// nanoseconds may be 10^9 and more.
     ///
-    /// The seconds are judged first: `Negative` exactly where they are before the first tick, as in
-    /// [`FileTime::from_unix_time_secs`]. Then `Overflow` exactly where the sum of the whole ticks
-    /// passes the last one. `from_unix_time(0, 199)` is one tick after [`FileTime::UNIX_EPOCH`].
+    /// `Negative` exactly where the seconds alone are before the first tick, whatever the nanoseconds
+    /// would make up; `Overflow` exactly where the seconds, or their sum with the whole ticks of the
+    /// nanoseconds, pass the last tick. `from_unix_time(0, 199)` is one tick after
+    /// [`FileTime::UNIX_EPOCH`].
     pub fn from_unix_time(secs: i64, nanos: u32) -> Result<FileTime, FileTimeRangeError>
         ensures ok { IfOk result (IsLatestNotAfter (secs *ℤ pos 1_000_000_000 +ℤ pos nanos)) }
         ensures negative { IsErrOf result FileTimeRangeErrorKind.Negative

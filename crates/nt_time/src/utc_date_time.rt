@@ -1,3 +1,4 @@
+//! Civil date-times in UTC, over the whole of `jiff`'s years.
 ghost use Rattle.std.specs.Prelude.{◌≡◌, ◌↔◌, pos, neg_ℤ, IsSome, IfSome};
 ghost use Rattle.jiff.specs.Words.{civil_nanos, IsCivilNanos, IsWithin};
 ghost use Rattle.nt_time.specs.Civil.{IsCivilFrom};
@@ -69,7 +70,8 @@ impl TryFrom<UtcDateTime> for FileTime {
     }
 }
 
-// The civil date-time that many nanoseconds after 1970-01-01 00:00:00.
+/// The civil date-time that many nanoseconds after 1970-01-01 00:00:00. `None` exactly outside the
+/// civil years.
 fn civil_at(nanos: i128) -> Option<civil::DateTime>
     requires { IsWithin 10_000_000_000_000_000_000_000_000_000_000_000 nanos }
     ensures some { IsSome result ↔ IsCivilNanos nanos }
@@ -82,8 +84,9 @@ fn civil_at(nanos: i128) -> Option<civil::DateTime>
     }
 }
 
+/// The first civil date-time, -9999-01-01 00:00:00.
 fn first_moment() -> civil::DateTime
     ensures { civil_nanos result ≡ neg_ℤ (pos 377_705_116_800_000_000_000) }
 {
-    civil::date(-9999, 1, 1).at(0, 0, 0, 0)
+    civil::DateTime::MIN
 }
