@@ -1,13 +1,13 @@
 -- The loops over the ten parts of a breakdown.
 use Rattle.std.proofs.Common.{◌≡◌, ℕ, ◌+◌, ◌-◌, ◌*◌, ◌/◌, ◌%◌, ◌<◌, ◌≤◌, true, false, List, [], ◌∷◌, length, get_or, take, drop, zero, suc, refl, sym, ◌∙◌, ap, arith, add-one, drop-cons, min, ⊎_elim, if◌then◌else◌}
 use Rattle.std.proofs.lemmas.Nat.{div-add-mod'}
-use Rattle.std.proofs.lemmas.List.{drop_all, take_all}
+use Rattle.std.proofs.lemmas.List.{drop_all, take_min}
 use Rattle.std.proofs.lemmas.Bool.{cases_lt}
 use Rattle.std.specs.List.{list_any}
 use Rattle.fancy_duration.specs.declared.part.DurationPart.{DurationPart}
 use Rattle.fancy_duration.specs.Parts.{all_parts, weight_of, is_part}
 use Rattle.fancy_duration.specs.Breakdown.{counts_of, breakdown, nanos_in, from_first, filtered, truncated}
-use Rattle.fancy_duration.specs.Writing.{kept_in, left_after}
+use Rattle.fancy_duration.specs.inside.Writing.{kept_in, left_after}
 
 pub filtered_all : (kept : List DurationPart) (nanos : ℕ) → kept_in kept all_parts nanos ≡ filtered kept nanos
 unfolding filtered kept_in breakdown
@@ -59,13 +59,6 @@ take-counts_of (suc limit) (part ∷ parts) left = ap (λ counts. record { part 
 pub nanos_in-counts_of : (parts : List DurationPart) (left : ℕ) → nanos_in (counts_of parts left) + left_after parts left ≡ left
 nanos_in-counts_of [] left = omega arith
 nanos_in-counts_of (part ∷ parts) left = omega (arith, nanos_in-counts_of parts (left % weight_of part), div-add-mod' left (weight_of part))
-
-take_min : (limit : ℕ) (parts : List DurationPart) → take (min limit (length parts)) parts ≡ take limit parts
-take_min limit parts =
-    ⊎_elim
-    (λ (less : length parts < limit). let e : min limit (length parts) ≡ length parts = omega arith in let all : length parts ≤ limit = omega arith in rw e (take_all (length parts) parts (omega arith) ∙ sym (take_all limit parts all)))
-    (λ (more : limit ≤ length parts). let e : min limit (length parts) ≡ limit = omega arith in rw e)
-    (cases_lt (length parts) limit)
 
 -- the parts that stay of a length
 pub truncated_by : (limit nanos end : ℕ) (parts : List DurationPart) (left : ℕ) → counts_of parts nanos ≡ from_first (counts_of all_parts nanos) → end ≡ min limit (length parts) → left ≡ left_after (take end parts) nanos → nanos - left ≡ truncated limit nanos

@@ -2,16 +2,12 @@
 use Rattle.std.proofs.Common.{◌≡◌, ℕ, ◌-◌, ◌≤◌, ◌<◌, Bool, true, false, List, [], ◌∷◌, length, refl, arith, ◌≢◌, ◌∙◌, ap, length-drop}
 use Rattle.std.proofs.lemmas.Bool.Decides.{nat_tests}
 use Rattle.std.specs.Char.{is_ascii_digit as is_digit, is_ascii_alphabetic as is_letter, digit_value}
+use Rattle.scan_core.proofs.FrontFacts.{length-behind}
 use Rattle.fancy_duration.specs.Items.{begins_by}
-use Rattle.fancy_duration.specs.Reading.{front, behind, unit_front, unit_behind, item_at, items_behind, items_of}
+use Rattle.scan_core.specs.Fronts.{leading, behind}
+use Rattle.fancy_duration.specs.inside.Reading.{unit_front, unit_behind, item_at, items_behind, items_of}
 
-pub length-behind : (test : ℕ → Bool) (bs : List ℕ) → length (behind test bs) ≤ length bs
-length-behind test [] = omega arith
-length-behind test (b ∷ bs) =
-    let shorter : length (behind test bs) ≤ length bs = length-behind test bs in
-    elim (test b) as (λ t. test b ≡ t → length (behind test (b ∷ bs)) ≤ length (b ∷ bs)) [ true ↦ λ e. simp e (omega (arith, shorter)) | false ↦ λ e. simp e (omega arith) ] refl
-
-pub front_more : (test : ℕ → Bool) (b : ℕ) (rest tail : List ℕ) → rest ≡ b ∷ tail → test b ≡ true → front test rest ≡ b ∷ front test tail
+pub front_more : (test : ℕ → Bool) (b : ℕ) (rest tail : List ℕ) → rest ≡ b ∷ tail → test b ≡ true → leading test rest ≡ b ∷ leading test tail
 front_more test b rest tail e h = rw e (simp h)
 
 pub behind_more : (test : ℕ → Bool) (b : ℕ) (rest tail : List ℕ) → rest ≡ b ∷ tail → test b ≡ true → behind test tail ≡ behind test rest

@@ -5,8 +5,10 @@ use Rattle.std.proofs.lemmas.Bool.{and_parts, not-true, true≢false}
 use Rattle.std.proofs.lemmas.Bool.Decides.{nat_tests}
 use Rattle.scan_core.specs.Digits.{AreDigits}
 use Rattle.fancy_duration.specs.Items.{Item, begins_by, ends_by, has_no_item, is_unit, IsFirstItem, HasItems}
-use Rattle.fancy_duration.specs.Reading.{front, behind, unit_front, unit_behind, item_at, items_behind, items_of}
-use Rattle.fancy_duration.proofs.Fronts.{length-behind, length-unit_behind, items_of-other, items_of-digits, items_of-digits_alone, items_of-unit, letter_not_digit}
+use Rattle.scan_core.specs.Fronts.{leading, behind, BeginsWithout}
+use Rattle.fancy_duration.specs.inside.Reading.{unit_front, unit_behind, item_at, items_behind, items_of}
+use Rattle.scan_core.proofs.FrontFacts.{length-behind, leading_and_behind, front_are_digits, front_of, after_of}
+use Rattle.fancy_duration.proofs.Fronts.{length-unit_behind, items_of-other, items_of-digits, items_of-digits_alone, items_of-unit, letter_not_digit}
 
 -- where a text has no item, no letter stands behind the digits that its first digit begins
 no_letter : (b : ℕ) (bs : List ℕ) → is_digit b ≡ true → has_no_item (b ∷ bs) ≡ true → begins_by is_letter (behind is_digit bs) ≡ false
@@ -56,16 +58,19 @@ items_of-before (b ∷ bs) rest none maximal = items_within b bs rest false none
 pub is_digit-from : (b : ℕ) → digit_value b < 10 → is_digit b ≡ true
 is_digit-from b h = grind (arith, nat_tests)
 
-begins_no_digit : (rest : List ℕ) → begins_by is_letter rest ≡ true → (behind is_digit rest ≡ rest) × (front is_digit rest ≡ [])
-begins_no_digit [] h = (refl, refl)
-begins_no_digit (b ∷ bs) h = let e = letter_not_digit b h in (simp e, simp e)
+-- a front ends where no byte that passes the test follows
+pub begins_without : (test : ℕ → Bool) (bs : List ℕ) → begins_by test bs ≡ false → BeginsWithout test bs
+begins_without test [] h = tt
+begins_without test (b ∷ bs) h = h
 
-pub front_digits : (digits rest : List ℕ) → AreDigits digits → begins_by is_letter rest ≡ true → (front is_digit (digits ++ rest) ≡ digits) × (behind is_digit (digits ++ rest) ≡ rest)
-front_digits [] rest h letter = let none = begins_no_digit rest letter in (none.1, none.0)
-front_digits (d ∷ ds) rest h letter =
-    let digit : is_digit d ≡ true = is_digit-from d h.0 in
-    let more = front_digits ds rest h.1 letter in
-    (simp digit (ap (λ xs. d ∷ xs) more.0), simp digit more.1)
+letters_no_digit : (rest : List ℕ) → begins_by is_letter rest ≡ true → BeginsWithout is_digit rest
+letters_no_digit [] h = tt
+letters_no_digit (b ∷ bs) h = letter_not_digit b h
+
+pub digits_split : (digits rest : List ℕ) → AreDigits digits → begins_by is_letter rest ≡ true → (leading is_digit (digits ++ rest) ≡ digits) × (behind is_digit (digits ++ rest) ≡ rest)
+digits_split digits rest h letter =
+    let ends = letters_no_digit rest letter in
+    (front_of digits rest h ends, after_of digits rest h ends)
 
 -- a unit and what follows it
 pub unit_begins : (unit rest : List ℕ) → is_unit unit rest ≡ true → begins_by is_letter (unit ++ rest) ≡ true
@@ -93,7 +98,7 @@ items_of-first : (digits unit rest : List ℕ) → 0 < length digits → AreDigi
 items_of-first [] unit rest some h u = absurd (omega arith)
 items_of-first (d ∷ ds) unit rest some h u =
     let letter = unit_begins unit rest u in
-    let fronts = front_digits (d ∷ ds) (unit ++ rest) h letter in
+    let fronts = digits_split (d ∷ ds) (unit ++ rest) h letter in
     let units = unit_splits unit rest u in
     let digit : is_digit d ≡ true = is_digit-from d h.0 in
     let followed : begins_by is_letter (behind is_digit (d ∷ (ds ++ (unit ++ rest)))) ≡ true = ap (begins_by is_letter) fronts.1 ∙ letter in
@@ -117,26 +122,13 @@ items_unique (item ∷ items) text h =
     ∙ ap (λ xs. item ∷ xs) (items_unique items h.0 h.2)
 
 -- each text has a list of items
-pub front_behind : (test : ℕ → Bool) (bs : List ℕ) → front test bs ++ behind test bs ≡ bs
-front_behind test [] = refl
-front_behind test (b ∷ bs) =
-    elim (test b) as (λ t. test b ≡ t → front test (b ∷ bs) ++ behind test (b ∷ bs) ≡ b ∷ bs) [ true ↦ λ e. simp e (ap (λ xs. b ∷ xs) (front_behind test bs)) | false ↦ λ e. simp e ] refl
-
 pub begins-behind : (test : ℕ → Bool) (bs : List ℕ) → begins_by test (behind test bs) ≡ false
 begins-behind test [] = refl
 begins-behind test (b ∷ bs) =
     elim (test b) as (λ t. test b ≡ t → begins_by test (behind test (b ∷ bs)) ≡ false) [ true ↦ λ e. simp e (begins-behind test bs) | false ↦ λ e. simp e ] refl
 
-digit_value-lt : (b : ℕ) → is_digit b ≡ true → digit_value b < 10
-digit_value-lt b e = grind (arith, nat_tests)
-
 digit_not_letter : (b : ℕ) → digit_value b < 10 → is_letter b ≡ false
 digit_not_letter b h = grind (arith, nat_tests)
-
-pub are_digits-front : (bs : List ℕ) → AreDigits (front is_digit bs)
-are_digits-front [] = tt
-are_digits-front (b ∷ bs) =
-    elim (is_digit b) as (λ t. is_digit b ≡ t → AreDigits (front is_digit (b ∷ bs))) [ true ↦ λ e. simp e (digit_value-lt b e, are_digits-front bs) | false ↦ λ e. simp e tt ] refl
 
 ends_more : (b : ℕ) (bs : List ℕ) → is_digit b ≡ false → not (ends_by is_digit bs) ≡ true → not (ends_by is_digit (b ∷ bs)) ≡ true
 ends_more b [] e h = simp e
@@ -224,15 +216,15 @@ items_at_digit b bs e shorter =
               passed_over = refl;
               maximal = refl;
               some_digits = simp e (omega arith);
-              are_digits = are_digits-front text;
+              are_digits = front_are_digits text;
               has_unit = units.0;
-              joined = sym (ap (λ xs. front is_digit text ++ xs) units.1 ∙ front_behind is_digit text);
+              joined = sym (ap (λ xs. leading is_digit text ++ xs) units.1 ∙ leading_and_behind is_digit text);
             },
             shorter (unit_behind rest) (omega (arith, length-unit_behind rest, within)),
           )
       | false ↦ λ f.
-          let whole : HasItems (front is_digit text ++ rest) (items_of rest) = add_digits (front is_digit text) rest (items_of rest) (are_digits-front text) f (begins-behind is_digit text) (shorter rest within) in
-          let at_text : HasItems text (items_of rest) = let P : List ℕ → Type 0 = λ xs. HasItems xs (items_of rest) in subst P (front_behind is_digit text) whole in
+          let whole : HasItems (leading is_digit text ++ rest) (items_of rest) = add_digits (leading is_digit text) rest (items_of rest) (front_are_digits text) f (begins-behind is_digit text) (shorter rest within) in
+          let at_text : HasItems text (items_of rest) = let P : List ℕ → Type 0 = λ xs. HasItems xs (items_of rest) in subst P (leading_and_behind is_digit text) whole in
           subst H (sym (items_of-digits_alone b bs e f)) at_text
     ] refl
   where

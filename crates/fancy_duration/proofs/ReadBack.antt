@@ -10,8 +10,8 @@ use Rattle.fancy_duration.specs.Sums.{is_long, long_follows, weight_in, total, S
 use Rattle.fancy_duration.specs.Meanings.{Denotes}
 use Rattle.fancy_duration.specs.Breakdown.{PartCount, breakdown, nanos_in, count_of}
 use Rattle.fancy_duration.specs.Written.{written}
-use Rattle.fancy_duration.specs.Writing.{counts_fit}
-use Rattle.fancy_duration.specs.Reading.{items_of}
+use Rattle.fancy_duration.specs.inside.Writing.{counts_fit}
+use Rattle.fancy_duration.specs.inside.Reading.{items_of}
 use Rattle.fancy_duration.specs.Collisions.{MonthsStandAlone}
 use Rattle.fancy_duration.proofs.Breakdowns.{nanos_in-counts_of}
 use Rattle.fancy_duration.proofs.Writers.{room_at_start}

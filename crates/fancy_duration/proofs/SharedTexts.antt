@@ -12,7 +12,7 @@ use Rattle.fancy_duration.specs.Times.{nanos_of}
 use Rattle.fancy_duration.specs.Sums.{total}
 use Rattle.fancy_duration.specs.Breakdown.{PartCount, counts_of, breakdown, nanos_in, count_in, count_of}
 use Rattle.fancy_duration.specs.Written.{piece, above_zero, written}
-use Rattle.fancy_duration.specs.Reading.{items_of}
+use Rattle.fancy_duration.specs.inside.Reading.{items_of}
 use Rattle.fancy_duration.specs.Collisions.{MonthsStandAlone, Swaps, Collide}
 use Rattle.fancy_duration.proofs.Breakdowns.{nanos_in-counts_of}
 use Rattle.fancy_duration.proofs.Twice.{weight_some}

@@ -9,7 +9,7 @@ use Rattle.fancy_duration.specs.Items.{Item, HasItems, IsFirstItem, begins_by}
 use Rattle.fancy_duration.specs.Sums.{is_long, long_follows, weight_in, total}
 use Rattle.fancy_duration.specs.Breakdown.{PartCount, counts_of, breakdown}
 use Rattle.fancy_duration.specs.Written.{piece, above_zero, written}
-use Rattle.fancy_duration.specs.Writing.{counts_fit}
+use Rattle.fancy_duration.specs.inside.Writing.{counts_fit}
 use Rattle.fancy_duration.proofs.ItemLists.{add_other}
 use Rattle.fancy_duration.proofs.Counts.{is_unit-unit_of}
 

@@ -3,7 +3,7 @@ use Rattle.std.proofs.Common.{◌≡◌, ℕ, ◌+◌, ◌*◌, ◌/◌, ◌%◌
 use Rattle.fancy_duration.specs.Times.{nanos_of}
 use Rattle.fancy_duration.specs.Sums.{SumsTo, total}
 use Rattle.fancy_duration.specs.Meanings.{Denotes, IsTooBig}
-use Rattle.fancy_duration.specs.Reading.{items_of, capped}
+use Rattle.fancy_duration.specs.inside.Reading.{items_of, capped}
 use Rattle.fancy_duration.proofs.ItemLists.{items_unique, items_exist}
 
 pub sum_unique : (text : List ℕ) (n : ℕ) → SumsTo text n → n ≡ total (items_of text)

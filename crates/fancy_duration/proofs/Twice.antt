@@ -9,7 +9,7 @@ use Rattle.fancy_duration.specs.declared.part.DurationPart.TheVariants.{Years, M
 use Rattle.fancy_duration.specs.Parts.{all_parts, weight_of, is_part}
 use Rattle.fancy_duration.specs.Times.{nanos_of, times_of}
 use Rattle.fancy_duration.specs.Breakdown.{counts_of, breakdown, nanos_in, from_first, filtered, truncated}
-use Rattle.fancy_duration.specs.Writing.{kept_in}
+use Rattle.fancy_duration.specs.inside.Writing.{kept_in}
 use Rattle.fancy_duration.proofs.Breakdowns.{filtered_all, kept_in-cons, kept_in-none}
 
 pub weight_some : (part : DurationPart) → 0 < weight_of part

@@ -1,28 +1,21 @@
 -- What a unit weighs, by the part that it names.
-use Rattle.std.proofs.Common.{◌≡◌, ◌≢◌, ℕ, ◌+◌, ◌*◌, Bool, true, false, ◌||◌, List, [], ◌∷◌, codes, nat_eq, ◌-◌, ◌^◌, refl, sym, ◌∙◌, ap, arith, mul-zero}
-use Rattle.std.proofs.lemmas.Bool.{and_parts}
-use Rattle.std.proofs.lemmas.Bool.Decides.{nat_tests}
+use Rattle.std.proofs.Common.{◌≡◌, ◌≢◌, ℕ, ◌+◌, ◌*◌, Bool, true, false, ◌||◌, List, [], ◌∷◌, codes, bytes_eq, ◌-◌, ◌^◌, refl, sym, ◌∙◌, ap, arith, mul-zero}
+use Rattle.std.proofs.lemmas.Slice.Eq.{bytes_eq-Decides}
 use Rattle.scan_core.specs.Digits.{number_of}
 use Rattle.fancy_duration.specs.declared.part.DurationPart.{DurationPart}
 use Rattle.fancy_duration.specs.declared.part.DurationPart.TheVariants.{Years, Months, Weeks, Days, Hours, Minutes, Seconds, Milliseconds, Microseconds, Nanoseconds}
 use Rattle.fancy_duration.specs.Parts.{unit_of}
 use Rattle.fancy_duration.specs.Items.{Item}
-use Rattle.fancy_duration.specs.Sums.{same_letters, is_long, long_follows, weight_in, total}
-use Rattle.fancy_duration.specs.Reading.{weight_if, is_long_part, capped, sum_with}
+use Rattle.fancy_duration.specs.Sums.{is_long, long_follows, weight_in, total}
+use Rattle.fancy_duration.specs.inside.Reading.{weight_if, is_long_part, capped, sum_with}
 use Rattle.fancy_duration.proofs.Caps.{min_item}
 
-pub same_letters-sound : (xs ys : List ℕ) → same_letters xs ys ≡ true → xs ≡ ys
-same_letters-sound [] [] e = refl
-same_letters-sound [] (y ∷ ys) e = absurd (cc)
-same_letters-sound (x ∷ xs) [] e = absurd (cc)
-same_letters-sound (x ∷ xs) (y ∷ ys) e =
-    let parts = and_parts (nat_eq x y) (same_letters xs ys) e in
-    let first : x ≡ y = grind (arith, nat_tests, parts.0) in
-    let rest : xs ≡ ys = same_letters-sound xs ys parts.1 in
-    cc
-
-pub same_letters-false : (xs ys : List ℕ) → xs ≢ ys → same_letters xs ys ≡ false
-same_letters-false xs ys h = elim (same_letters xs ys) as (λ t. same_letters xs ys ≡ t → same_letters xs ys ≡ false) [ true ↦ λ e. absurd (h (same_letters-sound xs ys e)) | false ↦ λ e. e ] refl
+pub bytes_eq-false : (xs ys : List ℕ) → xs ≢ ys → bytes_eq xs ys ≡ false
+bytes_eq-false xs ys h =
+    elim (bytes_eq xs ys) as (λ t. bytes_eq xs ys ≡ t → bytes_eq xs ys ≡ false) [
+      | true ↦ λ e. absurd (h ((bytes_eq-Decides xs ys).0 e))
+      | false ↦ λ e. e
+    ] refl
 
 -- of a named part
 pub weight_in-unit_of : (part : DurationPart) (long : Bool) → part ≢ Months → weight_in (unit_of part) long ≡ weight_if part long
@@ -52,11 +45,11 @@ is_long-unit_of Nanoseconds h = refl
 -- of letters that are no unit
 pub weight_in-other : (unit : List ℕ) (long : Bool) → ((part : DurationPart) → unit ≢ unit_of part) → weight_in unit long ≡ 0
 weight_in-other unit long h =
-    simp (same_letters-false unit (codes "y") (h Years), same_letters-false unit (codes "m") (h Months), same_letters-false unit (codes "w") (h Weeks), same_letters-false unit (codes "d") (h Days), same_letters-false unit (codes "h") (h Hours), same_letters-false unit (codes "s") (h Seconds), same_letters-false unit (codes "ms") (h Milliseconds), same_letters-false unit (codes "us") (h Microseconds), same_letters-false unit (codes "ns") (h Nanoseconds))
+    simp (bytes_eq-false unit (codes "y") (h Years), bytes_eq-false unit (codes "m") (h Months), bytes_eq-false unit (codes "w") (h Weeks), bytes_eq-false unit (codes "d") (h Days), bytes_eq-false unit (codes "h") (h Hours), bytes_eq-false unit (codes "s") (h Seconds), bytes_eq-false unit (codes "ms") (h Milliseconds), bytes_eq-false unit (codes "us") (h Microseconds), bytes_eq-false unit (codes "ns") (h Nanoseconds))
 
 pub is_long-other : (unit : List ℕ) → ((part : DurationPart) → unit ≢ unit_of part) → is_long unit ≡ false
 is_long-other unit h =
-    simp (same_letters-false unit (codes "y") (h Years), same_letters-false unit (codes "m") (h Months), same_letters-false unit (codes "w") (h Weeks), same_letters-false unit (codes "d") (h Days), same_letters-false unit (codes "h") (h Hours))
+    simp (bytes_eq-false unit (codes "y") (h Years), bytes_eq-false unit (codes "m") (h Months), bytes_eq-false unit (codes "w") (h Weeks), bytes_eq-false unit (codes "d") (h Days), bytes_eq-false unit (codes "h") (h Hours))
 
 -- a sum after one more item
 pub sums_item : (item : Item) (later : List Item) (number : ℕ) (part : DurationPart) (nanos pending : ℕ) → part ≢ Months → item.unit ≡ unit_of part → number ≡ capped (number_of item.digits) → capped (sum_with nanos pending (is_long_part part || long_follows later) (number * weight_if part (long_follows later) + total later)) ≡ capped (sum_with nanos pending (long_follows (item ∷ later)) (total (item ∷ later)))

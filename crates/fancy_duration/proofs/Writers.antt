@@ -9,7 +9,7 @@ use Rattle.fancy_duration.specs.declared.part.DurationPart.TheVariants.{Years, M
 use Rattle.fancy_duration.specs.Parts.{all_parts, weight_of, unit_of}
 use Rattle.fancy_duration.specs.Breakdown.{PartCount, counts_of, breakdown}
 use Rattle.fancy_duration.specs.Written.{piece, above_zero, written}
-use Rattle.fancy_duration.specs.Writing.{spaced, with_count, with_counts, with_parts, counts_fit, HasRoom}
+use Rattle.fancy_duration.specs.inside.Writing.{spaced, with_count, with_counts, with_parts, counts_fit, HasRoom}
 
 -- one step of the loop
 pub with_parts-none : (out : List ℕ) (i left : ℕ) → 10 ≤ i → with_parts out (drop i all_parts) left ≡ out

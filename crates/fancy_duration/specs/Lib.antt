@@ -8,5 +8,4 @@ pub mod Breakdown
 pub mod Written
 pub mod Collisions
 pub mod Durations
-pub mod Reading
-pub mod Writing
+pub mod inside

@@ -1,6 +1,6 @@
 -- What a text of counts and units adds up to, in nanoseconds. The documentation of the Rust crate `fancy-duration`
 -- calls the rule for `m` an order: months "must appear before" minutes and the units from hours to years.
-use Rattle.std.specs.Prelude.{◌≡◌, ℕ, ◌+◌, ◌*◌, Bool, true, false, not, ◌&&◌, List, [], ◌∷◌, codes, find, nat_eq, Option}
+use Rattle.std.specs.Prelude.{◌≡◌, ℕ, ◌+◌, ◌*◌, Bool, true, not, ◌&&◌, List, [], ◌∷◌, codes, find, bytes_eq, Option}
 use Rattle.std.specs.List.{list_any}
 use Rattle.std.specs.Option.{option_map_or}
 use Rattle.scan_core.specs.Digits.{number_of}
@@ -9,15 +9,10 @@ use Rattle.fancy_duration.specs.declared.part.DurationPart.TheVariants.{Months, 
 use Rattle.fancy_duration.specs.Parts.{all_parts, weight_of, unit_of}
 use Rattle.fancy_duration.specs.Items.{Item, HasItems}
 
--- two texts are the same letters
-abbrev pub same_letters : List ℕ → List ℕ → Bool
-same_letters [] [] = true
-same_letters (a ∷ xs) (b ∷ ys) = nat_eq a b && same_letters xs ys
-same_letters _ _ = false
-
 -- a unit that turns each `m` before it into months
 abbrev pub is_long : List ℕ → Bool
-is_long unit = list_any (same_letters unit) (codes "m" ∷ codes "h" ∷ codes "d" ∷ codes "w" ∷ codes "y" ∷ [])
+is_long unit =
+    list_any (bytes_eq unit) (codes "m" ∷ codes "h" ∷ codes "d" ∷ codes "w" ∷ codes "y" ∷ [])
 
 abbrev pub long_follows : List Item → Bool
 long_follows later = list_any (λ item. is_long item.unit) later
@@ -30,7 +25,7 @@ can_be _ long = true
 
 -- the part that a unit names, if it names one
 abbrev pub part_of : List ℕ → Bool → Option DurationPart
-part_of unit long = find (λ part. same_letters unit (unit_of part) && can_be part long) all_parts
+part_of unit long = find (λ part. bytes_eq unit (unit_of part) && can_be part long) all_parts
 
 -- nanoseconds in one of the unit, and nothing where it names no part
 abbrev pub weight_in : List ℕ → Bool → ℕ
@@ -39,7 +34,8 @@ weight_in unit long = option_map_or weight_of (part_of unit long) 0
 -- the nanoseconds of all items
 abbrev pub total : List Item → ℕ
 total [] = 0
-total (item ∷ later) = number_of item.digits * weight_in item.unit (long_follows later) + total later
+total (item ∷ later) =
+    number_of item.digits * weight_in item.unit (long_follows later) + total later
 
 -- the text's items make this many nanoseconds
 pub record SumsTo (text : List ℕ) (nanos : ℕ) : Type 0 where

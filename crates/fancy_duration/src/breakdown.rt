@@ -2,7 +2,7 @@ ghost use Rattle.std.specs.Prelude.{◌≡◌, ◌≤◌};
 ghost use Rattle.std.specs.List.{list_any};
 ghost use Rattle.fancy_duration.specs.Parts.{is_part, all_parts};
 ghost use Rattle.fancy_duration.specs.Breakdown.{filtered, truncated, counts_of, from_first};
-ghost use Rattle.fancy_duration.specs.Writing.{left_after};
+ghost use Rattle.fancy_duration.specs.inside.Writing.{left_after};
 
 use crate::DurationPart;
 

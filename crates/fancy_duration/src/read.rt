@@ -4,7 +4,8 @@ ghost use Rattle.scan_core.specs.Digits.{number_of};
 ghost use Rattle.fancy_duration.specs.Items.{Item};
 ghost use Rattle.fancy_duration.specs.Sums.{total};
 ghost use Rattle.fancy_duration.specs.Meanings.{Denotes, IsTooBig};
-ghost use Rattle.fancy_duration.specs.Reading.{front, behind, unit_front, unit_behind, items_of, capped};
+ghost use Rattle.scan_core.specs.Fronts.{leading, behind};
+ghost use Rattle.fancy_duration.specs.inside.Reading.{unit_front, unit_behind, items_of, capped};
 
 use crate::tally::Tally;
 use crate::{DurationPart, FancyError};
@@ -62,7 +63,7 @@ fn next_item(text: &[u8]) -> Option<(u128, &[u8], &[u8])>
 
 /// The number that the digits at a text's front write, as `u128` holds it or `u128::MAX`, and what follows them.
 pub(crate) fn split_number(text: &[u8]) -> (u128, &[u8])
-    ensures number { result.0 ≡ capped (number_of (front is_digit text.now)) }
+    ensures number { result.0 ≡ capped (number_of (leading is_digit text.now)) }
     ensures rest { result.1.now ≡ behind is_digit text.now }
 {
     let mut number: u128 = 0;

@@ -1,7 +1,8 @@
 ghost use Rattle.std.specs.Prelude.{◌≡◌, ◌<◌, ◌↔◌, ℕ, List, [], length, IsTrue, IfSome, IfNone};
 ghost use Rattle.scan_core.specs.Blanks.{is_blank};
 ghost use Rattle.fancy_duration.specs.Strict.{IsStrict};
-ghost use Rattle.fancy_duration.specs.Reading.{behind, HasCounts};
+ghost use Rattle.scan_core.specs.Fronts.{behind};
+ghost use Rattle.fancy_duration.specs.inside.Reading.{HasCounts};
 
 use crate::DurationPart;
 use crate::read::{split_number, split_unit};

@@ -1,6 +1,6 @@
 ghost use Rattle.std.specs.Prelude.{◌≡◌, ◌≢◌, ℕ, Bool, true, false, ◌||◌, ◌+◌, ◌*◌};
 ghost use Rattle.fancy_duration.specs.Parts.{weight_of};
-ghost use Rattle.fancy_duration.specs.Reading.{capped, sum_with, weight_if, is_long_part};
+ghost use Rattle.fancy_duration.specs.inside.Reading.{capped, sum_with, weight_if, is_long_part};
 
 use crate::DurationPart;
 

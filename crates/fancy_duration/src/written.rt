@@ -2,7 +2,7 @@ ghost use Rattle.std.specs.Prelude.{◌≡◌, ℕ, ◌+◌, ◌*◌, ◌^◌, �
 ghost use Rattle.std.specs.String.{string_bytes};
 ghost use Rattle.arrayvec.specs.ArrayString.{array_string_len};
 ghost use Rattle.fancy_duration.specs.Written.{written};
-ghost use Rattle.fancy_duration.specs.Writing.{with_count};
+ghost use Rattle.fancy_duration.specs.inside.Writing.{with_count};
 
 use crate::DurationPart;
 use scan_core::{Short, push_num, push_text};
@@ -35,7 +35,7 @@ pub(crate) fn without_spaces(alloc: Global, text: &str) -> Result<String, AllocE
 }
 
 /// Appends a count above 0 and its unit, behind a space where something stands before it.
-#[tactic(auto, unfolding(crate::specs::Writing::with_count))]
+#[tactic(auto, unfolding(crate::specs::inside::Writing::with_count))]
 fn push_count(out: &mut Short, count: u64, part: DurationPart)
     requires { array_string_len out.old + (length (decimal count) + 3) ≤ 128 }
     ensures bytes { out.new.bytes ≡ with_count out.old.bytes count part }

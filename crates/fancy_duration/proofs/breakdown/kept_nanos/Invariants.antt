@@ -1,7 +1,7 @@
 use Rattle.std.proofs.Common.{◌≡◌, ◌+◌, ◌≤◌, drop}
 use Rattle.fancy_duration.specs.Parts.{all_parts}
 use Rattle.fancy_duration.specs.Breakdown.{filtered}
-use Rattle.fancy_duration.specs.Writing.{kept_in}
+use Rattle.fancy_duration.specs.inside.Writing.{kept_in}
 use Rattle.fancy_duration.proofs.breakdown.kept_nanos.Given as goal
 
 -- the parts that are left complete the sum

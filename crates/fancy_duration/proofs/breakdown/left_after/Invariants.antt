@@ -1,5 +1,5 @@
 use Rattle.std.proofs.Common.{◌≡◌, ◌≤◌, drop}
-use Rattle.fancy_duration.specs.Writing.{left_after}
+use Rattle.fancy_duration.specs.inside.Writing.{left_after}
 use Rattle.fancy_duration.proofs.breakdown.left_after.Given as goal
 
 abbrev pub invariant-loop-part : goal.invariant-loop-part

@@ -1,5 +1,5 @@
 use Rattle.std.proofs.Common.{sym, ◌∙◌}
-use Rattle.fancy_duration.specs.Reading.{items_of}
+use Rattle.fancy_duration.specs.inside.Reading.{items_of}
 use Rattle.fancy_duration.proofs.ItemLists.{items_unique, items_exist}
 use Rattle.fancy_duration.proofs.laws.one_list_of_items.Goals as goal
 

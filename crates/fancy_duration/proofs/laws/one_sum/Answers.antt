@@ -1,6 +1,6 @@
 use Rattle.std.proofs.Common.{sym, ◌∙◌}
 use Rattle.fancy_duration.specs.Sums.{total}
-use Rattle.fancy_duration.specs.Reading.{items_of}
+use Rattle.fancy_duration.specs.inside.Reading.{items_of}
 use Rattle.fancy_duration.proofs.Totals.{sum_unique, sum_exists}
 use Rattle.fancy_duration.proofs.laws.one_sum.Goals as goal
 

@@ -1,7 +1,7 @@
 use Rattle.std.proofs.Common.{◌≡◌, ◌≢◌, ◌<◌, ◌∙◌, true, false, length, sym, ap, rules, arith}
 use Rattle.std.specs.Char.{is_ascii_digit as is_digit}
 use Rattle.std.proofs.lemmas.Bool.Decides.{nat_tests}
-use Rattle.fancy_duration.specs.Reading.{item_at, unit_front}
+use Rattle.fancy_duration.specs.inside.Reading.{item_at, unit_front}
 use Rattle.fancy_duration.proofs.Fronts.{length-after_digits, length-unit_behind, passes_other, passes_digits, finds_item, items_of-nothing}
 use Rattle.fancy_duration.proofs.read.next_item.Goals as goal
 

@@ -1,5 +1,5 @@
 use Rattle.std.proofs.Common.{◌≡◌, ◌≤◌, length}
-use Rattle.fancy_duration.specs.Reading.{items_of}
+use Rattle.fancy_duration.specs.inside.Reading.{items_of}
 use Rattle.fancy_duration.proofs.read.next_item.Given as goal
 
 -- what was passed over has no item

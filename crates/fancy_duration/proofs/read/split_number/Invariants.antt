@@ -2,13 +2,14 @@ use Rattle.std.proofs.Common.{◌≡◌, length}
 use Rattle.std.specs.Char.{is_ascii_digit as is_digit}
 use Rattle.std.specs.Str.Parse.{digits_value_after}
 use Rattle.scan_core.specs.Digits.{number_of}
-use Rattle.fancy_duration.specs.Reading.{front, behind, capped}
+use Rattle.scan_core.specs.Fronts.{leading, behind}
+use Rattle.fancy_duration.specs.inside.Reading.{capped}
 use Rattle.fancy_duration.proofs.read.split_number.Given as goal
 
 -- the digits that are left complete the number
 abbrev pub invariant-loop-first : goal.invariant-loop-first
 invariant-loop-first l = record {
-  number : capped (digits_value_after 10 l.number (front is_digit l.rest)) ≡ capped (number_of (front is_digit l.text));
+  number : capped (digits_value_after 10 l.number (leading is_digit l.rest)) ≡ capped (number_of (leading is_digit l.text));
   rest : behind is_digit l.rest ≡ behind is_digit l.text;
   within : l.number ≡ capped l.number;
 }

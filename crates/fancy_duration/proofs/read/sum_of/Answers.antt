@@ -1,5 +1,5 @@
 use Rattle.std.proofs.Common.{◌∙◌, sym, ap}
-use Rattle.fancy_duration.specs.Reading.{items_of, capped, sum_with}
+use Rattle.fancy_duration.specs.inside.Reading.{items_of, capped, sum_with}
 use Rattle.fancy_duration.specs.Sums.{total, long_follows}
 use Rattle.fancy_duration.proofs.Units.{passes_item}
 use Rattle.fancy_duration.proofs.read.sum_of.Goals as goal

@@ -1,6 +1,6 @@
 use Rattle.std.proofs.Common.{◌≡◌, length}
 use Rattle.fancy_duration.specs.Sums.{total, long_follows}
-use Rattle.fancy_duration.specs.Reading.{items_of, capped, sum_with}
+use Rattle.fancy_duration.specs.inside.Reading.{items_of, capped, sum_with}
 use Rattle.fancy_duration.proofs.read.sum_of.Given as goal
 
 -- the items that are left complete the sum

@@ -1,5 +1,5 @@
 use Rattle.std.proofs.Common.{◌↔◌, length}
-use Rattle.fancy_duration.specs.Reading.{HasCounts}
+use Rattle.fancy_duration.specs.inside.Reading.{HasCounts}
 use Rattle.fancy_duration.proofs.strict.has_counts.Given as goal
 
 abbrev pub invariant-loop-rest : goal.invariant-loop-rest

@@ -1,6 +1,6 @@
 use Rattle.std.proofs.Common.{◌≡◌, length}
 use Rattle.scan_core.specs.Blanks.{is_blank}
-use Rattle.fancy_duration.specs.Reading.{behind}
+use Rattle.scan_core.specs.Fronts.{behind}
 use Rattle.fancy_duration.proofs.strict.without_blanks.Given as goal
 
 abbrev pub invariant-loop-first : goal.invariant-loop-first

@@ -1,6 +1,6 @@
 use Rattle.std.proofs.Common.{◌∙◌, [], sym, ap, codes, ◌++◌, arith, subst, ℕ, refl, length}
 use Rattle.fancy_duration.specs.Parts.{all_parts}
-use Rattle.fancy_duration.specs.Writing.{with_parts, HasRoom}
+use Rattle.fancy_duration.specs.inside.Writing.{with_parts, HasRoom}
 use Rattle.fancy_duration.proofs.Breakdowns.{parts_more}
 use Rattle.fancy_duration.proofs.Writers.{writes_part, room_for_part, room_after_part, room_at_start, with_parts-none, with_parts-zero, with_parts-written}
 use Rattle.fancy_duration.proofs.written.written_text.Goals as goal

@@ -1,7 +1,7 @@
 use Rattle.std.proofs.Common.{◌≡◌, [], drop}
 use Rattle.arrayvec.specs.ArrayString.{array_string_len}
 use Rattle.fancy_duration.specs.Parts.{all_parts}
-use Rattle.fancy_duration.specs.Writing.{with_parts, HasRoom}
+use Rattle.fancy_duration.specs.inside.Writing.{with_parts, HasRoom}
 use Rattle.fancy_duration.proofs.written.written_text.Given as goal
 
 -- the parts that are left complete the text, and there is room for them

@@ -1,37 +1,33 @@
--- What the readers of this crate take from the front of a text. No public contract cites it.
+-- What the readers of this crate take from the front of a text.
 use Rattle.std.specs.Prelude.{ℕ, ◌+◌, ◌*◌, ◌-◌, ◌^◌, min, Bool, true, false, not, ◌&&◌, List, [], ◌∷◌, length, take, drop, if◌then◌else◌}
 use Rattle.fancy_duration.specs.Items.{Item, begins_by}
 use Rattle.std.specs.Char.{is_ascii_digit as is_digit, is_ascii_alphabetic as is_letter}
-use Rattle.fancy_duration.specs.Strict.{AreCounts}
+use Rattle.scan_core.specs.Fronts.{leading, behind}
+use Rattle.scan_core.specs.Join.{IsJoin}
+use Rattle.fancy_duration.specs.Strict.{IsCount}
 use Rattle.fancy_duration.specs.Parts.{weight_of}
 use Rattle.fancy_duration.specs.declared.part.DurationPart.{DurationPart}
 use Rattle.fancy_duration.specs.declared.part.DurationPart.TheVariants.{Years, Months, Weeks, Days, Hours, Minutes}
 
--- the longest front of bytes that pass the test, and what follows it
-abbrev pub front : (ℕ → Bool) → List ℕ → List ℕ
-front test [] = []
-front test (b ∷ bs) = if test b then b ∷ front test bs else []
-
-abbrev pub behind : (ℕ → Bool) → List ℕ → List ℕ
-behind test [] = []
-behind test (b ∷ bs) = if test b then behind test bs else b ∷ bs
-
 -- at most two letters at the front of a text, and what follows them
 abbrev pub unit_front : List ℕ → List ℕ
-unit_front bs = take 2 (front is_letter bs)
+unit_front bs = take 2 (leading is_letter bs)
 
 abbrev pub unit_behind : List ℕ → List ℕ
 unit_behind bs = drop (length (unit_front bs)) bs
 
 -- the item that begins at the first digit of a text
 abbrev pub item_at : List ℕ → Item
-item_at bs = record { digits = front is_digit bs; unit = unit_front (behind is_digit bs) }
+item_at bs = record { digits = leading is_digit bs; unit = unit_front (behind is_digit bs) }
 
 -- the items of a text that stands behind a digit or behind none: each begins at a digit behind no digit, and a
 -- letter follows its digits
 abbrev pub items_behind : Bool → List ℕ → List Item
 items_behind digit [] = []
-items_behind digit (b ∷ bs) = if not digit && (is_digit b && begins_by is_letter (behind is_digit bs)) then item_at (b ∷ bs) ∷ items_behind (is_digit b) bs else items_behind (is_digit b) bs
+items_behind digit (b ∷ bs) =
+    if not digit && (is_digit b && begins_by is_letter (behind is_digit bs))
+    then (item_at (b ∷ bs) ∷ items_behind (is_digit b) bs)
+    else items_behind (is_digit b) bs
 
 unfoldable pub items_of : List ℕ → List Item
 items_of text = items_behind false text
@@ -60,4 +56,4 @@ sum_with nanos pending long later = nanos + pending * weight_if Minutes long + l
 
 -- a text is a join of counts
 abbrev pub HasCounts : List ℕ → Type 0
-HasCounts text = (counts : List (List ℕ)) × AreCounts text counts
+HasCounts text = (parts : List DurationPart) × IsJoin IsCount text parts

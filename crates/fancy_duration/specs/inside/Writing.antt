@@ -1,4 +1,4 @@
--- What the loops over the ten parts have still to sum and to write. No public contract cites it.
+-- What the loops over the ten parts have still to sum and to write.
 use Rattle.std.specs.Prelude.{◌≡◌, ℕ, ◌≤◌, ◌+◌, ◌%◌, ◌^◌, nat_lt, ◌&&◌, Bool, true, List, [], ◌∷◌, ◌++◌, length, filter, decimal, if◌then◌else◌}
 use Rattle.std.specs.List.{list_any}
 use Rattle.fancy_duration.specs.declared.part.DurationPart.{DurationPart}
