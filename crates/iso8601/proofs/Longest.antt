@@ -1,7 +1,7 @@
 -- Readers on lists against grammars: what a reader finds is there, and nothing longer is.
-use Rattle.std.proofs.Common.{◌≡◌, ℕ, ◌≤◌, ◌⊎◌, List, ◌++◌, length, Option, Some, None, refl, arith, inl, inr}
+use Rattle.std.proofs.Common.{◌≡◌, ℕ, ◌≤◌, ◌⊎◌, List, ◌++◌, length, Option, Some, None, refl, subst, arith, inl, inr}
 use Rattle.std.specs.Prelude.{option_and_then}
-use Rattle.iso8601.specs.Prefixes.{Begins, NoneLonger, NoneBegins}
+use Rattle.iso8601.specs.Prefixes.{Begins, NoneLonger, NoneBegins, BeginsLongest}
 use Rattle.iso8601.specs.inside.Reading.{or_else}
 
 -- something was read, up to this rest or further
@@ -78,3 +78,12 @@ none_longer Is read reach bytes rest value found other left b = rw found at (rea
 pub none_begins : {V : Type 0} (Is : List ℕ → V → Type 0) (read : List ℕ → Option (V × List ℕ)) → Reach Is read
     → (bytes : List ℕ) → read bytes ≡ None → NoneBegins Is bytes
 none_begins Is read reach bytes none other left b = rw none at (reach_at Is read reach bytes left other b)
+
+-- ---- the same bytes under another name
+
+pub longest_of : {V : Type 0} (Is : List ℕ → V → Type 0) {bytes text rest : List ℕ} {value : V} → bytes ≡ text → Begins Is bytes value rest → NoneLonger Is bytes rest → BeginsLongest Is text value
+longest_of {V} Is {bytes} {text} {rest} {value} same found longest =
+    let P : List ℕ → Type 0 = λ b. BeginsLongest Is b value in subst P same (rest, found, longest)
+
+pub none_of : {V : Type 0} (Is : List ℕ → V → Type 0) {bytes text : List ℕ} → bytes ≡ text → NoneBegins Is bytes → NoneBegins Is text
+none_of Is same none = let P : List ℕ → Type 0 = λ b. NoneBegins Is b in subst P same none

@@ -1,7 +1,7 @@
 -- The texts that are written of dates, times and date-times, in the extended format of ISO 8601-1:2019, 5.2 to 5.4:
 -- `2015-06-26T16:43:16.123+02:00`. Every value of the fields has one; fields that a clock or a calendar lacks are
 -- written with as many digits as they have.
-use Rattle.std.specs.Prelude.{ℕ, ◌+◌, ℤ, pos, negsuc, neg_ℤ, unsigned_abs, Bool, ◌||◌, List, [], ◌++◌, codes, decimal, if◌then◌else◌}
+use Rattle.std.specs.Prelude.{ℕ, ℤ, neg_ℤ, unsigned_abs, Bool, ◌||◌, List, [], ◌++◌, codes, if◌then◌else◌}
 use Rattle.std.specs.Int.{is_negative}
 use Rattle.scan_core.specs.Padded.{padded}
 use Rattle.iso8601.specs.declared.types.Date.{Date}
@@ -20,7 +20,7 @@ year_text year = minus (is_negative year) ++ padded 4 (unsigned_abs year)
 -- `2015-06-26`, `2015-W26-5`, `2015-177`
 unfoldable pub date_text : Date → List ℕ
 date_text (YMD year month day) = year_text year ++ (codes "-" ++ (padded 2 month ++ (codes "-" ++ padded 2 day)))
-date_text (Week year ww d) = year_text year ++ (codes "-W" ++ (padded 2 ww ++ (codes "-" ++ decimal d)))
+date_text (Week year ww d) = year_text year ++ (codes "-W" ++ (padded 2 ww ++ (codes "-" ++ padded 1 d)))
 date_text (Ordinal year ddd) = year_text year ++ (codes "-" ++ padded 3 ddd)
 
 -- `16:43:16.123`
@@ -30,15 +30,18 @@ clock_text hour minute second millisecond =
 
 -- a number in at least two characters, of which its minus is one
 unfoldable pub two_wide : ℤ → List ℕ
-two_wide (pos n) = padded 2 n
-two_wide (negsuc n) = codes "-" ++ decimal (n + 1)
+two_wide z = if is_negative z then (codes "-" ++ padded 1 (unsigned_abs z)) else padded 2 (unsigned_abs z)
+
+-- a part of an offset, negated where a minus governs the parts
+abbrev pub governed_part : Bool → ℤ → ℤ
+governed_part governed part = if governed then neg_ℤ part else part
 
 -- The sign is a minus where one of the parts is negative, and under it both parts are written negated:
 -- `+05:30`, `-05:30` of -5 and -30, and `-05:-30` of -5 and 30.
 unfoldable pub offset_text : ℤ → ℤ → List ℕ
 offset_text hours minutes =
-    if is_negative hours || is_negative minutes then (codes "-" ++ (two_wide (neg_ℤ hours) ++ (codes ":" ++ two_wide (neg_ℤ minutes))))
-    else (codes "+" ++ (two_wide hours ++ (codes ":" ++ two_wide minutes)))
+    let governed = is_negative hours || is_negative minutes in
+    (if governed then codes "-" else codes "+") ++ (two_wide (governed_part governed hours) ++ (codes ":" ++ two_wide (governed_part governed minutes)))
 
 unfoldable pub time_text : Time → List ℕ
 time_text t = clock_text t.hour t.minute t.second t.millisecond ++ offset_text t.tz_offset_hours t.tz_offset_minutes

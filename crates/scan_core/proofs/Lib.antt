@@ -5,3 +5,4 @@ pub mod RoundingFacts
 pub mod ShareFacts
 pub mod SumFacts
 pub mod WordFacts
+pub mod PaddedFacts

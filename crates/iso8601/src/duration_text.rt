@@ -1,0 +1,180 @@
+//! The texts of durations.
+ghost use Rattle.std.specs.Prelude.{◌≡◌, ◌+◌, ◌≤◌, ◌++◌, length, codes, decimal, Some};
+ghost use Rattle.arrayvec.specs.ArrayString.{array_string_len};
+ghost use Rattle.iso8601.specs.WrittenDurations.{clock_counts_text, count_text, date_counts_text, duration_text, second_text};
+
+use crate::types::Duration;
+use crate::written::push_digits;
+use scan_core::{Short, push_num, push_text};
+use std::fmt;
+use std::fmt::Display;
+
+/// Appends a count and the letter of its unit.
+#[tactic(auto, using(crate::proofs::Widths::length_decimal_u32))]
+fn push_count(out: &mut Short, count: u32, letter: &str)
+    requires letter { length letter.now ≤ 1 }
+    requires room { array_string_len out.old + 11 ≤ 128 }
+    ensures bytes { out.new.bytes ≡ out.old.bytes ++ (decimal count ++ letter.now) }
+    ensures len { array_string_len out.new ≤ array_string_len out.old + 11 }
+{
+    push_num(out, u64::from(count));
+    push_text(out, letter);
+}
+
+/// Appends a count and the letter of its unit, or nothing where the count is 0.
+#[tactic(auto, unfolding(crate::specs::WrittenDurations::count_text))]
+fn push_nonzero(out: &mut Short, count: u32, letter: &str)
+    requires letter { length letter.now ≤ 1 }
+    requires room { array_string_len out.old + 11 ≤ 128 }
+    ensures bytes { out.new.bytes ≡ out.old.bytes ++ count_text count letter.now }
+    ensures len { array_string_len out.new ≤ array_string_len out.old + 11 }
+{
+    if count != 0 {
+        push_count(out, count, letter);
+    }
+}
+
+/// Appends the seconds, with the milliseconds where these aren't 0.
+#[tactic(auto, unfolding(crate::specs::WrittenDurations::second_text))]
+fn push_seconds(out: &mut Short, second: u32, millisecond: u32)
+    requires { array_string_len out.old + 22 ≤ 128 }
+    ensures bytes { out.new.bytes ≡ out.old.bytes ++ second_text second millisecond }
+    ensures len { array_string_len out.new ≤ array_string_len out.old + 22 }
+{
+    if millisecond == 0 {
+        push_nonzero(out, second, "S");
+    } else {
+        push_count(out, second, ".");
+        push_digits(out, millisecond, 3);
+        push_text(out, "S");
+    }
+}
+
+/// Appends `T` and the counts of a clock that aren't 0, or nothing where all are.
+#[tactic(auto, unfolding(crate::specs::WrittenDurations::clock_counts_text))]
+fn push_clock(out: &mut Short, hour: u32, minute: u32, second: u32, millisecond: u32)
+    requires { array_string_len out.old + 45 ≤ 128 }
+    ensures bytes { out.new.bytes ≡ out.old.bytes ++ clock_counts_text hour minute second millisecond }
+    ensures len { array_string_len out.new ≤ array_string_len out.old + 45 }
+{
+    if hour == 0 && minute == 0 && second == 0 && millisecond == 0 {
+        return;
+    }
+    push_text(out, "T");
+    push_nonzero(out, hour, "H");
+    push_nonzero(out, minute, "M");
+    push_seconds(out, second, millisecond);
+}
+
+/// Appends the counts of a date that aren't 0.
+#[tactic(auto, unfolding(crate::specs::WrittenDurations::date_counts_text))]
+fn push_date(out: &mut Short, year: u32, month: u32, day: u32)
+    requires { array_string_len out.old + 33 ≤ 128 }
+    ensures bytes { out.new.bytes ≡ out.old.bytes ++ date_counts_text year month day }
+    ensures len { array_string_len out.new ≤ array_string_len out.old + 33 }
+{
+    push_nonzero(out, year, "Y");
+    push_nonzero(out, month, "M");
+    push_nonzero(out, day, "D");
+}
+
+impl Duration {
+    ghost use Rattle.std.specs.Prelude.{◌≡◌, ◌≤◌};
+    ghost use Rattle.arrayvec.specs.ArrayString.{array_string_len};
+    ghost use Rattle.iso8601.specs.WrittenDurations.{duration_text};
+
+    /// The written text, at most 79 bytes: `P1Y2M3DT4H5M6.007S`, `P5W`, or `P0D` where every count is 0. Every value has
+    /// one. A duration with at most 999 milliseconds is read back whole and equal.
+    #[tactic(auto, unfolding(crate::specs::WrittenDurations::duration_text))]
+    pub fn text(&self) -> Short
+        ensures bytes { result.bytes ≡ duration_text self.now }
+        ensures len { array_string_len result ≤ 79 }
+    {
+        let mut out = Short::new();
+        push_text(&mut out, "P");
+        match *self {
+            Duration::Weeks(weeks) => push_count(&mut out, weeks, "W"),
+            Duration::YMDHMS {
+                year: 0,
+                month: 0,
+                day: 0,
+                hour: 0,
+                minute: 0,
+                second: 0,
+                millisecond: 0,
+            } => push_text(&mut out, "0D"),
+            Duration::YMDHMS {
+                year,
+                month,
+                day,
+                hour,
+                minute,
+                second,
+                millisecond,
+            } => {
+                push_date(&mut out, year, month, day);
+                push_clock(&mut out, hour, minute, second, millisecond);
+            }
+        }
+        out
+    }
+}
+
+/// The bytes of `text`.
+impl Display for Duration {
+    ghost output = { λ d. Some (duration_text d) };
+
+    fn fmt<W: fmt::Write>(&self, f: &mut fmt::Formatter<W>) -> fmt::Result {
+        f.write_str(self.text().as_str())
+    }
+}
+
+#[cfg(test)]
+mod tests {
+    use super::*;
+    use std::test::Fail;
+
+    #[test]
+    fn durations(rt: HostRuntime) -> Result<(), Fail> {
+        for ((year, month, day), (hour, minute), (second, millisecond), want) in [
+            ((0, 0, 0), (0, 0), (0, 0), "P0D"),
+            (
+                (2021, 11, 16),
+                (23, 26),
+                (59, 123),
+                "P2021Y11M16DT23H26M59.123S",
+            ),
+            ((1, 2, 3), (4, 5), (6, 0), "P1Y2M3DT4H5M6S"),
+            ((1, 0, 99), (0, 0), (0, 0), "P1Y99D"),
+            ((0, 2, 0), (0, 0), (0, 0), "P2M"),
+            ((0, 0, 0), (0, 2), (0, 0), "PT2M"),
+            ((0, 0, 0), (36, 0), (0, 0), "PT36H"),
+            ((0, 0, 0), (0, 0), (7, 0), "PT7S"),
+            ((0, 0, 0), (0, 0), (0, 1), "PT0.001S"),
+            ((0, 0, 1), (0, 0), (0, 10), "P1DT0.010S"),
+            ((0, 0, 0), (0, 0), (0, 4295), "PT0.4295S"),
+            (
+                (u32::MAX, u32::MAX, u32::MAX),
+                (u32::MAX, u32::MAX),
+                (u32::MAX, u32::MAX),
+                "P4294967295Y4294967295M4294967295DT4294967295H4294967295M4294967295.4294967295S",
+            ),
+        ] {
+            let duration = Duration::YMDHMS {
+                year,
+                month,
+                day,
+                hour,
+                minute,
+                second,
+                millisecond,
+            };
+            assert_eq!(rt; duration.text().as_str(), want);
+            assert_eq!(rt; duration.to_string(rt.alloc())?.as_str(), want);
+        }
+        for (weeks, want) in [(0, "P0W"), (26, "P26W"), (u32::MAX, "P4294967295W")] {
+            assert_eq!(rt; Duration::Weeks(weeks).text().as_str(), want);
+        }
+        Ok(())
+    }
+}

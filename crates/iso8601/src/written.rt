@@ -1,0 +1,355 @@
+//! The texts of dates, times and date-times.
+ghost use Rattle.std.specs.Prelude.{◌≡◌, ◌+◌, ◌≤◌, ◌++◌, length, Some};
+ghost use Rattle.arrayvec.specs.ArrayString.{array_string_len};
+ghost use Rattle.scan_core.specs.Padded.{padded};
+ghost use Rattle.std.specs.Int.{is_negative};
+ghost use Rattle.iso8601.specs.Written.{clock_text, date_text, date_time_text, governed_part, minus, offset_text, time_text, two_wide, year_text};
+
+use crate::types::{Date, DateTime, Time};
+use scan_core::{Short, push_num, push_padded, push_text};
+use std::fmt;
+use std::fmt::Display;
+
+/// Appends a number of 32 bits with leading zeros to at least `width` digits.
+#[tactic(auto, using(crate::proofs::Widths::length_decimal_u32))]
+pub(crate) fn push_digits(out: &mut Short, value: u32, width: usize)
+    requires width { width ≤ 10 }
+    requires room { array_string_len out.old + 10 ≤ 128 }
+    ensures bytes { out.new.bytes ≡ out.old.bytes ++ padded width value }
+    ensures len { array_string_len out.new ≤ array_string_len out.old + 10 }
+{
+    push_padded(out, u64::from(value), width);
+}
+
+/// Appends a minus, or nothing.
+#[tactic(auto, unfolding(crate::specs::Written::minus))]
+fn push_minus(out: &mut Short, negative: bool)
+    requires { array_string_len out.old + 1 ≤ 128 }
+    ensures bytes { out.new.bytes ≡ out.old.bytes ++ minus negative }
+    ensures len { array_string_len out.new ≤ array_string_len out.old + 1 }
+{
+    if negative {
+        push_text(out, "-");
+    }
+}
+
+/// Appends a text and a number in at least `width` digits.
+fn push_field(out: &mut Short, mark: &str, value: u32, width: usize)
+    requires mark { length mark.now ≤ 2 }
+    requires width { width ≤ 10 }
+    requires room { array_string_len out.old + length mark.now + 10 ≤ 128 }
+    ensures bytes { out.new.bytes ≡ out.old.bytes ++ (mark.now ++ padded width value) }
+    ensures len { array_string_len out.new ≤ array_string_len out.old + length mark.now + 10 }
+{
+    push_text(out, mark);
+    push_digits(out, value, width);
+}
+
+/// Appends a year.
+#[tactic(auto, unfolding(crate::specs::Written::year_text))]
+fn push_year(out: &mut Short, year: i32)
+    requires { array_string_len out.old + 11 ≤ 128 }
+    ensures bytes { out.new.bytes ≡ out.old.bytes ++ year_text year }
+    ensures len { array_string_len out.new ≤ array_string_len out.old + 11 }
+{
+    push_minus(out, year.is_negative());
+    push_digits(out, year.unsigned_abs(), 4);
+}
+
+/// Appends a date.
+#[tactic(auto, unfolding(crate::specs::Written::date_text))]
+fn push_date(out: &mut Short, date: Date)
+    requires { array_string_len out.old + 34 ≤ 128 }
+    ensures bytes { out.new.bytes ≡ out.old.bytes ++ date_text date }
+    ensures len { array_string_len out.new ≤ array_string_len out.old + 34 }
+{
+    match date {
+        Date::YMD { year, month, day } => {
+            push_year(out, year);
+            push_field(out, "-", month, 2);
+            push_field(out, "-", day, 2);
+        }
+        Date::Week { year, ww, d } => {
+            push_year(out, year);
+            push_field(out, "-W", ww, 2);
+            push_field(out, "-", d, 1);
+        }
+        Date::Ordinal { year, ddd } => {
+            push_year(out, year);
+            push_field(out, "-", ddd, 3);
+        }
+    }
+}
+
+/// Appends the hours, minutes, seconds and milliseconds of a time.
+#[tactic(auto, unfolding(crate::specs::Written::clock_text))]
+fn push_clock(out: &mut Short, time: &Time)
+    requires { array_string_len out.old + 43 ≤ 128 }
+    ensures bytes { out.new.bytes ≡ out.old.bytes ++ clock_text time.now.hour time.now.minute time.now.second time.now.millisecond }
+    ensures len { array_string_len out.new ≤ array_string_len out.old + 43 }
+{
+    push_digits(out, time.hour, 2);
+    push_field(out, ":", time.minute, 2);
+    push_field(out, ":", time.second, 2);
+    push_field(out, ".", time.millisecond, 3);
+}
+
+/// Whether a part of an offset has a minus of its own: it has the sign that doesn't govern the parts.
+fn has_minus(governed: bool, part: i32) -> bool
+    ensures { result ≡ is_negative (governed_part governed part) }
+{
+    if governed { part > 0 } else { part < 0 }
+}
+
+/// Appends a part of an offset, negated where a minus governs the parts.
+#[tactic(auto, unfolding(crate::specs::Written::two_wide))]
+fn push_part(out: &mut Short, governed: bool, part: i32)
+    requires { array_string_len out.old + 11 ≤ 128 }
+    ensures bytes { out.new.bytes ≡ out.old.bytes ++ two_wide (governed_part governed part) }
+    ensures len { array_string_len out.new ≤ array_string_len out.old + 11 }
+{
+    if has_minus(governed, part) {
+        push_field(out, "-", part.unsigned_abs(), 1);
+    } else {
+        push_digits(out, part.unsigned_abs(), 2);
+    }
+}
+
+/// Appends an offset.
+#[tactic(auto, unfolding(crate::specs::Written::offset_text))]
+fn push_offset(out: &mut Short, hours: i32, minutes: i32)
+    requires { array_string_len out.old + 24 ≤ 128 }
+    ensures bytes { out.new.bytes ≡ out.old.bytes ++ offset_text hours minutes }
+    ensures len { array_string_len out.new ≤ array_string_len out.old + 24 }
+{
+    let governed = hours.is_negative() || minutes.is_negative();
+    push_text(out, if governed { "-" } else { "+" });
+    push_part(out, governed, hours);
+    push_text(out, ":");
+    push_part(out, governed, minutes);
+}
+
+/// Appends a time with its offset.
+#[tactic(auto, unfolding(crate::specs::Written::time_text))]
+fn push_time(out: &mut Short, time: &Time)
+    requires { array_string_len out.old + 67 ≤ 128 }
+    ensures bytes { out.new.bytes ≡ out.old.bytes ++ time_text time.now }
+    ensures len { array_string_len out.new ≤ array_string_len out.old + 66 }
+{
+    push_clock(out, time);
+    push_offset(out, time.tz_offset_hours, time.tz_offset_minutes);
+}
+
+impl Date {
+    ghost use Rattle.std.specs.Prelude.{◌≡◌, ◌≤◌};
+    ghost use Rattle.arrayvec.specs.ArrayString.{array_string_len};
+    ghost use Rattle.iso8601.specs.Written.{date_text};
+
+    /// The written text, at most 34 bytes: `2015-06-26`, `2015-W26-5` or `2015-177`. Every value has one. A year from
+    /// -9999 to 9999 with fields in the parser's ranges is read back whole and equal.
+    pub fn text(&self) -> Short
+        ensures bytes { result.bytes ≡ date_text self.now }
+        ensures len { array_string_len result ≤ 34 }
+    {
+        let mut out = Short::new();
+        push_date(&mut out, *self);
+        out
+    }
+}
+
+impl Time {
+    ghost use Rattle.std.specs.Prelude.{◌≡◌, ◌≤◌};
+    ghost use Rattle.arrayvec.specs.ArrayString.{array_string_len};
+    ghost use Rattle.iso8601.specs.Written.{time_text};
+
+    /// The written text, at most 66 bytes: `16:43:16.123+02:00`. Every value has one. A time with fields in the parser's
+    /// ranges, whose offset parts don't differ in sign, is read back whole and equal.
+    pub fn text(&self) -> Short
+        ensures bytes { result.bytes ≡ time_text self.now }
+        ensures len { array_string_len result ≤ 66 }
+    {
+        let mut out = Short::new();
+        push_time(&mut out, self);
+        out
+    }
+}
+
+impl DateTime {
+    ghost use Rattle.std.specs.Prelude.{◌≡◌, ◌≤◌};
+    ghost use Rattle.arrayvec.specs.ArrayString.{array_string_len};
+    ghost use Rattle.iso8601.specs.Written.{date_time_text};
+
+    /// The written text, at most 101 bytes: `2015-06-26T16:43:16.123+02:00`. Every value has one, and it is read back as
+    /// the date and the time are.
+    #[tactic(auto, unfolding(crate::specs::Written::date_time_text))]
+    pub fn text(&self) -> Short
+        ensures bytes { result.bytes ≡ date_time_text self.now }
+        ensures len { array_string_len result ≤ 101 }
+    {
+        let mut out = Short::new();
+        push_date(&mut out, self.date);
+        push_text(&mut out, "T");
+        push_time(&mut out, &self.time);
+        out
+    }
+}
+
+/// The bytes of `text`.
+impl Display for Date {
+    ghost output = { λ d. Some (date_text d) };
+
+    fn fmt<W: fmt::Write>(&self, f: &mut fmt::Formatter<W>) -> fmt::Result {
+        f.write_str(self.text().as_str())
+    }
+}
+
+/// The bytes of `text`.
+impl Display for Time {
+    ghost output = { λ t. Some (time_text t) };
+
+    fn fmt<W: fmt::Write>(&self, f: &mut fmt::Formatter<W>) -> fmt::Result {
+        f.write_str(self.text().as_str())
+    }
+}
+
+/// The bytes of `text`.
+impl Display for DateTime {
+    ghost output = { λ t. Some (date_time_text t) };
+
+    fn fmt<W: fmt::Write>(&self, f: &mut fmt::Formatter<W>) -> fmt::Result {
+        f.write_str(self.text().as_str())
+    }
+}
+
+#[cfg(test)]
+mod tests {
+    use super::*;
+    use crate::ParseFailed;
+    use std::test::Fail;
+
+    #[test]
+    fn dates(rt: HostRuntime) -> Result<(), Fail> {
+        for (year, month, day, want) in [
+            (2015, 6, 26, "2015-06-26"),
+            (0, 0, 0, "0000-00-00"),
+            (7, 1, 1, "0007-01-01"),
+            (-333, 7, 11, "-0333-07-11"),
+            (-1, 12, 31, "-0001-12-31"),
+            (12345, 123, 7, "12345-123-07"),
+            (
+                i32::MAX,
+                u32::MAX,
+                u32::MAX,
+                "2147483647-4294967295-4294967295",
+            ),
+            (i32::MIN, u32::MAX, 1, "-2147483648-4294967295-01"),
+        ] {
+            assert_eq!(rt; Date::YMD { year, month, day }.text().as_str(), want);
+        }
+        for (year, ww, d, want) in [
+            (2015, 45, 1, "2015-W45-1"),
+            (-4, 5, 7, "-0004-W05-7"),
+            (2015, 0, 0, "2015-W00-0"),
+            (
+                i32::MIN,
+                u32::MAX,
+                u32::MAX,
+                "-2147483648-W4294967295-4294967295",
+            ),
+        ] {
+            assert_eq!(rt; Date::Week { year, ww, d }.text().as_str(), want);
+        }
+        for (year, ddd, want) in [
+            (2015, 306, "2015-306"),
+            (2001, 35, "2001-035"),
+            (99, 1, "0099-001"),
+            (2015, 1000, "2015-1000"),
+        ] {
+            assert_eq!(rt; Date::Ordinal { year, ddd }.text().as_str(), want);
+        }
+        Ok(())
+    }
+
+    #[test]
+    fn clocks(rt: HostRuntime) -> Result<(), Fail> {
+        for (hour, minute, second, millisecond, want) in [
+            (0, 0, 0, 0, "00:00:00.000+00:00"),
+            (16, 43, 16, 123, "16:43:16.123+00:00"),
+            (16, 43, 16, 1, "16:43:16.001+00:00"),
+            (24, 59, 60, 10, "24:59:60.010+00:00"),
+            (100, 200, 300, 4000, "100:200:300.4000+00:00"),
+        ] {
+            let time = Time {
+                hour,
+                minute,
+                second,
+                millisecond,
+                ..Time::default()
+            };
+            assert_eq!(rt; time.text().as_str(), want);
+        }
+        Ok(())
+    }
+
+    #[test]
+    fn offsets(rt: HostRuntime) -> Result<(), Fail> {
+        for (tz_offset_hours, tz_offset_minutes, want) in [
+            (5, 30, "00:00:00.000+05:30"),
+            (-5, 0, "00:00:00.000-05:00"),
+            (-5, -30, "00:00:00.000-05:30"),
+            (0, -30, "00:00:00.000-00:30"),
+            (-5, 30, "00:00:00.000-05:-30"),
+            (5, -3, "00:00:00.000--5:03"),
+            (-100, 7, "00:00:00.000-100:-7"),
+            (i32::MAX, i32::MAX, "00:00:00.000+2147483647:2147483647"),
+            (i32::MIN, i32::MIN, "00:00:00.000-2147483648:2147483648"),
+            (i32::MIN, i32::MAX, "00:00:00.000-2147483648:-2147483647"),
+        ] {
+            let time = Time::default().set_tz((tz_offset_hours, tz_offset_minutes));
+            assert_eq!(rt; time.text().as_str(), want);
+        }
+        Ok(())
+    }
+
+    #[test]
+    fn date_times(rt: HostRuntime) -> Result<(), Fail> {
+        let longest = DateTime {
+            date: Date::Week {
+                year: i32::MIN,
+                ww: u32::MAX,
+                d: u32::MAX,
+            },
+            time: Time {
+                hour: u32::MAX,
+                minute: u32::MAX,
+                second: u32::MAX,
+                millisecond: u32::MAX,
+                tz_offset_hours: i32::MIN,
+                tz_offset_minutes: i32::MAX,
+            },
+        };
+        let alloc = rt.alloc();
+        let text = longest.text();
+        assert_eq!(rt; text.len(), 101);
+        assert_eq!(rt;
+            text.as_str(),
+            "-2147483648-W4294967295-4294967295T4294967295:4294967295:4294967295.4294967295-2147483648:-2147483647"
+        );
+        assert_eq!(rt; longest.to_string(alloc)?.as_str(), text.as_str());
+        let moment = DateTime::default();
+        assert_eq!(rt;
+            moment.to_string(alloc)?.as_str(),
+            "0000-00-00T00:00:00.000+00:00"
+        );
+        assert_eq!(rt; moment.date.to_string(alloc)?.as_str(), "0000-00-00");
+        assert_eq!(rt;
+            moment.time.to_string(alloc)?.as_str(),
+            "00:00:00.000+00:00"
+        );
+        assert_eq!(rt;
+            ParseFailed.to_string(alloc)?.as_str(),
+            "Failed to parse ISO 8601 text"
+        );
+        Ok(())
+    }
+}
