@@ -5,3 +5,4 @@ pub mod Names
 pub mod Replies
 pub mod Ends
 pub mod Reading
+pub mod inside

@@ -1,31 +1,22 @@
 //! Lines and the requests in them.
-ghost use Rattle.std.specs.Prelude.{◌≡◌, ◌<◌, ◌==◌, List, ℕ, ◌∷◌, ◌++◌, length, position, Option, IfSome, IfNone};
+ghost use Rattle.std.specs.Prelude.{◌≡◌, ◌<◌, List, ℕ, ◌++◌, codes, length, Option, IfSome, IfNone};
 ghost use Rattle.std.specs.Option.{option_copied};
-ghost use Rattle.forms.specs.Lines.{lines};
 ghost use Rattle.forms.specs.Replies.{IsRequest, IsNoRequest};
 ghost use Rattle.forms.specs.Reading.{NoSpace, behind, IsNamed};
+ghost use Rattle.forms.specs.inside.Pieces.{NoFeed};
 ghost use Rattle.forms.specs.declared.form.Form.{Form as AnyForm};
 
 use crate::form::Form;
+use memchr::memchr;
 use std::str;
 
-/// The first line, and what follows its line feed.
-pub fn split_line(bytes: &[u8]) -> (&[u8], &[u8])
-    requires { 0 < length bytes.now }
-    ensures lines { lines bytes.now ≡ result.0.now ∷ lines result.1.now }
-    ensures shorter { length result.1.now < length bytes.now }
+/// The first line that a line feed ends, and what follows the line feed, or None exactly where there is no line feed.
+pub fn split_line(bytes: &[u8]) -> Option<(&[u8], &[u8])>
+    ensures found { IfSome result (λ r. NoFeed r.0.now × (bytes.now ≡ r.0.now ++ (codes "\n" ++ r.1.now))) }
+    ensures none { IfNone result (NoFeed bytes.now) }
 {
-    match line_end(bytes) {
-        Some(end) => (&bytes[..end], &bytes[end + 1..]),
-        None => (bytes, &bytes[..0]),
-    }
-}
-
-/// Where the first line feed stands.
-fn line_end(bytes: &[u8]) -> Option<usize>
-    ensures { result ≡ position (λ byte. byte == 10) bytes.now }
-{
-    bytes.iter().position(|byte| *byte == b'\n')
+    let end = memchr(b'\n', bytes)?;
+    Some((&bytes[..end], &bytes[end + 1..]))
 }
 
 /// The two forms and the text of a request, or None exactly where the line is none.

@@ -1,11 +1,12 @@
-//! Writing the replies.
-ghost use Rattle.std.specs.Prelude.{◌≡◌, ◌+◌, ◌≤◌, List, ℕ, OnOk, OnErr};
+//! Answering the lines of a piece, and writing the replies.
+ghost use Rattle.std.specs.Prelude.{◌≡◌, ◌+◌, ◌≤◌, List, ℕ, [], ◌++◌, length, OnOk, OnErr, vec_len, vec_capacity};
 ghost use Rattle.std.specs.Io.KnownBytes.{Appends};
 ghost use Rattle.arrayvec.specs.ArrayString.{array_string_len};
-ghost use Rattle.forms.specs.Lines.{lines};
+ghost use Rattle.forms.specs.Lines.{lines, whole_lines};
 ghost use Rattle.forms.specs.Outside.{HasCause};
 ghost use Rattle.forms.specs.Ends.{GainsReplies, GainsFront};
 ghost use Rattle.forms.specs.Reading.{AppendsFront, MovesFront, PushesReply};
+ghost use Rattle.forms.specs.inside.Pieces.{NoFeed, Answers};
 
 use crate::answer::line_reply;
 use crate::line::split_line;
@@ -19,23 +20,48 @@ const LONGEST: usize = 97;
 const BATCH: usize = 65_536;
 
 /// Replies that wait for one write.
-type Batch = ArrayString<BATCH>;
+pub type Batch = ArrayString<BATCH>;
 
-/// Writes the reply to each line of the text, in order, many at once.
-pub fn answer_lines<K: Sink>(sink: &mut K, text: &[u8]) -> Result<(), Failed>
-    ensures ok { OnOk result (GainsReplies (lines text.now) (K.held sink.old) (K.held sink.new)) }
-    ensures err { OnErr result (GainsFront (lines text.now) (K.held sink.old) (K.held sink.new)) }
+/// Writes the reply to each line that a line feed in the piece ends, many at once, and keeps what follows the last one.
+/// The first of these lines begins with what was kept.
+pub fn answer_piece<K: Sink>(
+    sink: &mut K,
+    batch: &mut Batch,
+    kept: &mut Vec<u8>,
+    piece: &[u8],
+) -> Result<(), Failed>
+    requires empty { batch.old.bytes ≡ [] }
+    requires part { NoFeed kept.old.items }
+    requires room { vec_len kept.old + length piece.now ≤ vec_capacity kept.old }
+    ensures ok { OnOk result (Answers (kept.old.items ++ piece.now) kept.new.items (K.held sink.old) (K.held sink.new)) }
+    ensures err { OnErr result (GainsFront (whole_lines (kept.old.items ++ piece.now)) (K.held sink.old) (K.held sink.new)) }
+    ensures empty { OnOk result (batch.new.bytes ≡ []) }
+    ensures room { vec_capacity kept.old ≤ vec_capacity kept.new }
     ensures cause { HasCause (K.faults sink.old) (K.faults sink.new) result }
 {
-    let mut batch = Batch::new();
-    let mut rest = text;
-    while !rest.is_empty() {
-        make_room(sink, &mut batch)?;
-        let (line, after) = split_line(rest);
-        push_reply(&mut batch, line);
+    let mut rest = piece;
+    while let Some((line, after)) = split_line(rest) {
+        make_room(sink, batch)?;
+        push_joined(batch, kept, line);
         rest = after;
     }
-    write_all(sink, batch.as_str().as_bytes())
+    kept.extend_from_slice(rest).unwrap();
+    flush(sink, batch)
+}
+
+/// Writes the reply to the last line, which no line feed ends, where there is one.
+pub fn answer_last<K: Sink>(sink: &mut K, batch: &mut Batch, line: &[u8]) -> Result<(), Failed>
+    requires empty { batch.old.bytes ≡ [] }
+    requires part { NoFeed line.now }
+    ensures ok { OnOk result (GainsReplies (lines line.now) (K.held sink.old) (K.held sink.new)) }
+    ensures err { OnErr result (GainsFront (lines line.now) (K.held sink.old) (K.held sink.new)) }
+    ensures cause { HasCause (K.faults sink.old) (K.faults sink.new) result }
+{
+    if line.is_empty() {
+        return Ok(());
+    }
+    push_reply(batch, line);
+    flush(sink, batch)
 }
 
 /// Writes what waits where there may be no room for one more reply.
@@ -46,10 +72,38 @@ fn make_room<K: Sink>(sink: &mut K, batch: &mut Batch) -> Result<(), Failed>
     ensures cause { HasCause (K.faults sink.old) (K.faults sink.new) result }
 {
     if batch.remaining_capacity() < LONGEST {
-        write_all(sink, batch.as_str().as_bytes())?;
-        batch.clear();
+        return flush(sink, batch);
     }
     Ok(())
+}
+
+/// Writes all that waits.
+fn flush<K: Sink>(sink: &mut K, batch: &mut Batch) -> Result<(), Failed>
+    ensures ok { OnOk result (Appends (K.held sink.old) (K.held sink.new) batch.old.bytes) }
+    ensures err { OnErr result (AppendsFront (K.held sink.old) (K.held sink.new) batch.old.bytes) }
+    ensures empty { OnOk result (batch.new.bytes ≡ []) }
+    ensures cause { HasCause (K.faults sink.old) (K.faults sink.new) result }
+{
+    write_all(sink, batch.as_str().as_bytes())?;
+    batch.clear();
+    Ok(())
+}
+
+/// Appends the reply to a line whose first bytes were kept, and keeps nothing.
+fn push_joined(batch: &mut Batch, kept: &mut Vec<u8>, line: &[u8])
+    requires batch { array_string_len batch.old + LONGEST ≤ BATCH }
+    requires room { vec_len kept.old + length line.now ≤ vec_capacity kept.old }
+    ensures pushed { PushesReply (kept.old.items ++ line.now) batch.old.bytes batch.new.bytes }
+    ensures none { kept.new.items ≡ [] }
+    ensures room { vec_capacity kept.old ≤ vec_capacity kept.new }
+{
+    if kept.is_empty() {
+        push_reply(batch, line);
+    } else {
+        kept.extend_from_slice(line).unwrap();
+        push_reply(batch, kept);
+        kept.clear();
+    }
 }
 
 /// Appends the reply to a line, and its line feed.
@@ -62,7 +116,7 @@ fn push_reply(batch: &mut Batch, line: &[u8])
     batch.push('\n');
 }
 
-/// Writes the whole text, or as much as the sink takes before it fails.
+/// Writes the whole text, or as much as the sink takes before it fails. It writes no empty piece.
 fn write_all<K: Sink>(sink: &mut K, text: &[u8]) -> Result<(), Failed>
     ensures ok { OnOk result (Appends (K.held sink.old) (K.held sink.new) text.now) }
     ensures err { OnErr result (AppendsFront (K.held sink.old) (K.held sink.new) text.now) }

@@ -1,10 +1,13 @@
-use Rattle.std.proofs.Common.{sym}
+use Rattle.std.proofs.Common.{length, add-one, arith}
+use Rattle.std.proofs.Math.Seq.{take-length}
 use Rattle.std.proofs.lemmas.List.{take_rest}
-use Rattle.forms.proofs.LineParts.{line_found, line_not_found}
+use Rattle.forms.proofs.FirstFeed.{no_feed_before, split_at_feed}
 use Rattle.forms.proofs.line.split_line.Goals as goal
 
-pub returns-in-Some-clause-lines : goal.returns-in-Some-clause-lines
-returns-in-Some-clause-lines c = rw take_rest (line_found c.args.bytes.now c.in-Some.end (sym c.in-Some.ensures))
+pub returns-in_err-end-clause-none : goal.returns-in_err-end-clause-none
+returns-in_err-end-clause-none c = rw c.from_residual.ensures (rw take-length at (no_feed_before c.args.bytes.now (length c.args.bytes.now) (omega arith) c.in_err-end.ensures))
 
-pub returns-in-None-clause-lines : goal.returns-in-None-clause-lines
-returns-in-None-clause-lines c = line_not_found c.args.bytes.now (sym c.in-None.ensures) c.requires
+pub returns-clause-found : goal.returns-clause-found
+returns-clause-found c =
+    let first = c.in_ok-end.ensures in
+    (no_feed_before c.args.bytes.now c.in_ok-end.end (omega (arith, first.0.high)) first.0.before, rw (take_rest, add-one) (split_at_feed c.args.bytes.now c.in_ok-end.end first.0.high first.1))

@@ -1,0 +1,8 @@
+use Rattle.forms.proofs.Ends.{ends-nowhere}
+use Rattle.forms.proofs.program.run.Goals as goal
+
+pub returns-in_default-clause-ended : goal.returns-in_default-clause-ended
+returns-in_default-clause-ended g c = ends-nowhere c.args.limit _
+
+pub returns-clause-no_memory : goal.returns-clause-no_memory
+returns-clause-no_memory g c = λ is. absurd (c.answer_pieces.ensures.memory is)

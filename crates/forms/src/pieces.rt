@@ -1,0 +1,53 @@
+//! Answering an input while it is read, piece by piece.
+ghost use Rattle.std.specs.Prelude.{◌≡◌, ◌≢◌, ◌+◌, ◌^◌, ◌≤◌, vec_len, vec_capacity};
+ghost use Rattle.forms.specs.Ends.{Ended, streams};
+
+use crate::output::{Batch, answer_last, answer_piece};
+use crate::outside::{Failed, Sink, Source};
+use crate::run_end::RunEnd;
+
+/// How many bytes a read asks for at most.
+const PIECE: usize = 65_536;
+
+/// Answers the lines of a source until its end, or until one byte more than the limit came. The replies to all whole
+/// lines that were taken are written before the next read. `kept` holds the part of a line at a piece's end, and takes
+/// no memory beyond what it has.
+pub fn answer_pieces<S: Source, K: Sink>(
+    source: &mut S,
+    sink: &mut K,
+    kept: &mut Vec<u8>,
+    limit: usize,
+) -> RunEnd
+    requires limit { limit ≤ 2 ^ 30 }
+    requires room { limit + 1 ≤ vec_capacity kept.old }
+    requires empty { vec_len kept.old ≡ 0 }
+    ensures memory { result ≢ RunEnd.NoMemory }
+    ensures ended { Ended limit
+        (streams (S.left source.old) (S.taken source.old) (S.faults source.old) (K.held sink.old) (K.faults sink.old))
+        (streams (S.left source.new) (S.taken source.new) (S.faults source.new) (K.held sink.new) (K.faults sink.new))
+        result }
+{
+    let mut piece = [0u8; PIECE];
+    let mut batch = Batch::new();
+    let mut room = limit + 1;
+    while room > 0 {
+        let want = room.min(piece.len());
+        match source.read(&mut piece[..want]) {
+            Ok(0) => {
+                return match answer_last(sink, &mut batch, kept) {
+                    Ok(()) => RunEnd::Done,
+                    Err(Failed) => RunEnd::WriteFault,
+                };
+            }
+            Ok(count) => {
+                let within = count.min(room - 1);
+                match answer_piece(sink, &mut batch, kept, &piece[..within]) {
+                    Ok(()) => room -= count,
+                    Err(Failed) => return RunEnd::WriteFault,
+                }
+            }
+            Err(Failed) => return RunEnd::ReadFault,
+        }
+    }
+    RunEnd::TooLong
+}
