@@ -11,3 +11,5 @@ pub mod Twice
 pub mod Texts
 pub mod ReadBack
 pub mod SharedTexts
+pub mod StrictTexts
+pub mod MonthsAlone

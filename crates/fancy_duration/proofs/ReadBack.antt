@@ -128,7 +128,7 @@ fits_ten y mo w d h mi s ms us ns e =
       total_below_months w d h mi s ms us ns (ltb-true w (2 ^ 64) pw.0) (ltb-true d (2 ^ 64) pd.0) (ltb-true h (2 ^ 64) ph.0) (ltb-true mi (2 ^ 64) pmi.0) (ltb-true s (2 ^ 64) ps.0) (ltb-true ms (2 ^ 64) pms.0) (ltb-true us (2 ^ 64) pus.0) (ltb-true ns (2 ^ 64) pns.0),
     )
 
-breakdown_fits : (n : ℕ) → n < 2 ^ 64 * 1_000_000_000 → counts_fit (breakdown n) ≡ true
+pub breakdown_fits : (n : ℕ) → n < 2 ^ 64 * 1_000_000_000 → counts_fit (breakdown n) ≡ true
 unfolding breakdown
 breakdown_fits n h = (room_at_start n h).fit
 

@@ -41,7 +41,7 @@ items_joined (c ∷ d ∷ counts) fits =
     let rest = 32 ∷ join_with_byte 32 (map piece (d ∷ counts)) in
     (rest, first_piece c rest (ltb-true _ _ parts.0) refl, add_other 32 (join_with_byte 32 (map piece (d ∷ counts))) (map item_of (d ∷ counts)) refl (items_joined (d ∷ counts) parts.1))
 
-above_fits : (counts : List PartCount) → counts_fit counts ≡ true → counts_fit (above_zero counts) ≡ true
+pub above_fits : (counts : List PartCount) → counts_fit counts ≡ true → counts_fit (above_zero counts) ≡ true
 above_fits [] fits = refl
 above_fits (c ∷ counts) fits =
     let parts = and_parts (nat_lt c.count (2 ^ 64)) (counts_fit counts) fits in

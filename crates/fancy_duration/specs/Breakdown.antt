@@ -13,7 +13,8 @@ pub record PartCount : Type 0 where
 -- the counts of parts in the nanoseconds that are left, each the quotient of what is left before it
 abbrev pub counts_of : List DurationPart → ℕ → List PartCount
 counts_of [] left = []
-counts_of (part ∷ parts) left = record { part = part; count = left / weight_of part } ∷ counts_of parts (left % weight_of part)
+counts_of (part ∷ parts) left =
+    record { part = part; count = left / weight_of part } ∷ counts_of parts (left % weight_of part)
 
 -- the ten counts of a length
 unfoldable pub breakdown : ℕ → List PartCount
@@ -26,7 +27,8 @@ nanos_in (c ∷ counts) = c.count * weight_of c.part + nanos_in counts
 
 -- the length that is left where a list holds some parts, and all others are 0
 unfoldable pub filtered : List DurationPart → ℕ → ℕ
-filtered kept nanos = nanos_in (filter (λ c. list_any (λ part. is_part part c.part) kept) (breakdown nanos))
+filtered kept nanos =
+    nanos_in (filter (λ c. list_any (λ part. is_part part c.part) kept) (breakdown nanos))
 
 -- without the zeros before the first count above 0
 abbrev pub from_first : List PartCount → List PartCount

@@ -4,10 +4,13 @@ use Rattle.std.specs.Duration.{as_nanos}
 use Rattle.std.specs.declared.time.Duration.{Duration}
 use Rattle.fancy_duration.specs.Times.{nanos_of, times_of}
 
+-- the whole seconds of a duration and its nanoseconds beyond them
 abbrev pub duration_times : Duration → ℕ × ℕ
 duration_times d = times_of (as_nanos d)
 
 -- A pair that a duration can be made of: its nanoseconds are in 32 bits and the whole seconds in 64. The second case
 -- is the condition that each type has, which the first covers for every duration that there is.
 abbrev pub CanMake : Duration → ℕ → ℕ → Type 0
-CanMake from secs nanos = ((nanos < 2 ^ 32) × (secs + nanos / 1_000_000_000 < 2 ^ 64)) ⊎ ((nanos < 1_000_000_000) × (nanos_of (secs, nanos) ≤ nanos_of (duration_times from)))
+CanMake from secs nanos =
+    ((nanos < 2 ^ 32) × (secs + nanos / 1_000_000_000 < 2 ^ 64))
+    ⊎ ((nanos < 1_000_000_000) × (nanos_of (secs, nanos) ≤ nanos_of (duration_times from)))

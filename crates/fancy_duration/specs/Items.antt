@@ -20,6 +20,7 @@ abbrev pub has_no_item : List ℕ → Bool
 has_no_item [] = true
 has_no_item (b ∷ bs) = not (is_digit b && begins_by is_letter bs) && has_no_item bs
 
+-- digits and a unit
 pub record Item : Type 0 where
   pub digits : List ℕ
   pub unit : List ℕ

@@ -1,3 +1,4 @@
+//! The types that hold a length, and std's `Duration` among them.
 ghost use Rattle.std.specs.Prelude.{◌≡◌, ℕ, ◌+◌, ◌*◌, ◌<◌, ◌≤◌, ⊤};
 ghost use Rattle.std.specs.Duration.{as_nanos};
 ghost use Rattle.std.proofs.Common.{arith};
@@ -6,7 +7,7 @@ ghost use Rattle.fancy_duration.specs.Meanings.{Parses};
 ghost use Rattle.fancy_duration.specs.Durations.{duration_times, CanMake};
 
 use crate::FancyError;
-use crate::read::times_of;
+use crate::read::read_times;
 use std::time::Duration;
 
 /// A length of time that has seconds and nanoseconds.
@@ -48,7 +49,7 @@ impl AsTimes for Duration {
     }
 
     fn parse_to_duration(s: &str) -> Result<Self, FancyError> {
-        match times_of(s) {
+        match read_times(s) {
             Ok((secs, nanos)) => Ok(Duration::new(secs, nanos as u32)),
             Err(error) => Err(error),
         }

@@ -1,6 +1,8 @@
-ghost use Rattle.std.specs.Prelude.{◌≡◌, ◌≤◌};
+//! Lengths of which some parts are kept.
+ghost use Rattle.std.specs.Prelude.{◌≡◌, ◌≤◌, ◌↔◌, IsTrue};
 ghost use Rattle.std.specs.List.{list_any};
 ghost use Rattle.fancy_duration.specs.Parts.{is_part, all_parts};
+ghost use Rattle.fancy_duration.specs.Collisions.{MonthsStandAlone};
 ghost use Rattle.fancy_duration.specs.Breakdown.{filtered, truncated, counts_of, from_first};
 ghost use Rattle.fancy_duration.specs.inside.Writing.{left_after};
 
@@ -63,4 +65,13 @@ fn left_after(nanos: u128, parts: &[DurationPart]) -> u128
         left %= part.nanos();
     }
     left
+}
+
+/// Whether a length has months, and no weeks, days, hours or minutes beside them.
+pub(crate) fn have_months_alone(nanos: u128) -> bool
+    ensures { IsTrue result ↔ MonthsStandAlone nanos }
+{
+    let month = DurationPart::Months.nanos();
+    let below_years = nanos % DurationPart::Years.nanos();
+    below_years >= month && below_years % month < DurationPart::Minutes.nanos()
 }

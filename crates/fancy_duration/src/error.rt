@@ -1,3 +1,4 @@
+//! Why a text gives no length.
 use thiserror::Error;
 
 /// Why a text gives no duration of a type.

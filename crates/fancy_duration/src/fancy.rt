@@ -1,4 +1,6 @@
-ghost use Rattle.std.specs.Prelude.{◌≡◌, ◌≢◌, ℕ, ◌+◌, ◌*◌, ◌^◌, ◌<◌, ◌≤◌, ◌↔◌, IfOk, IsErrOf, Some, IsTrue};
+//! Lengths that are read and written as short texts.
+ghost use Rattle.std.specs.Prelude.{◌≡◌, ◌≢◌, ℕ, ◌+◌, ◌*◌, ◌^◌, ◌<◌, ◌≤◌, ◌↔◌};
+ghost use Rattle.std.specs.Prelude.{IfOk, IsErrOf, Some, IsTrue};
 ghost use Rattle.std.specs.String.{string_bytes};
 ghost use Rattle.arrayvec.specs.ArrayString.{array_string_len};
 ghost use Rattle.fancy_duration.specs.Times.{nanos_of, times_of};
@@ -6,9 +8,10 @@ ghost use Rattle.fancy_duration.specs.Meanings.{Denotes, IsTooBig, Parses};
 ghost use Rattle.fancy_duration.specs.Breakdown.{filtered, truncated};
 ghost use Rattle.fancy_duration.specs.Written.{written, compact};
 ghost use Rattle.fancy_duration.specs.Strict.{IsStrict};
+ghost use Rattle.fancy_duration.specs.Collisions.{MonthsStandAlone};
 
-use crate::breakdown::{kept_nanos, leading_nanos};
-use crate::read::times_of;
+use crate::breakdown::{have_months_alone, kept_nanos, leading_nanos};
+use crate::read::read_times;
 use crate::strict::is_strict;
 use crate::written::{without_spaces, written_text};
 use crate::{AsTimes, DurationPart, FancyError};
@@ -39,7 +42,8 @@ impl<D: AsTimes + Copy> FancyDuration<D> {
     /// The parts of the breakdown that the list holds, with all others 0: `1m 5s 10ms` by minutes and
     /// milliseconds is `1m 10ms`.
     pub fn filter(&self, filter: &[DurationPart]) -> Self
-        ensures { D.times result.0 ≡ times_of (filtered filter.now (nanos_of (D.times self.now.0))) }
+        ensures { D.times result.0
+            ≡ times_of (filtered filter.now (nanos_of (D.times self.now.0))) }
     {
         self.shortened(kept_nanos(self.nanos(), filter))
     }
@@ -52,7 +56,10 @@ impl<D: AsTimes + Copy> FancyDuration<D> {
         self.shortened(leading_nanos(self.nanos(), limit))
     }
 
-    /// The duration that a text denotes.
+    /// The duration that a text denotes: `3m 5s` is 185 seconds.
+    ///
+    /// What isn't an item is passed over, as in the Rust crate: `1.5h` is 5 hours, `-5m` 5 minutes, and `1 hour` no
+    /// time at all. Ask [`is_fancy_text`](Self::is_fancy_text) first where a text may be something else.
     pub fn parse(s: &str) -> Result<Self, FancyError>
         ensures { Parses (λ fancy. D.times fancy.0) D.holds s.now result }
     {
@@ -62,7 +69,7 @@ impl<D: AsTimes + Copy> FancyDuration<D> {
         }
     }
 
-    /// The seconds and nanoseconds that a text's items add up to: `1m 30s` is 90 and 0.
+    /// The seconds and nanoseconds that a text's items add up to: `1m 30s` is 90 and 0. All else is passed over.
     ///
     /// `TooBig` comes exactly where the seconds pass `u64::MAX`, and `NotHeld` never.
     pub fn parse_to_ns(s: &str) -> Result<(u64, u64), FancyError>
@@ -71,7 +78,7 @@ impl<D: AsTimes + Copy> FancyDuration<D> {
         ensures too_big { IsErrOf result FancyError.TooBig ↔ IsTooBig s.now }
         ensures held { result ≢ Err FancyError.NotHeld }
     {
-        times_of(s)
+        read_times(s)
     }
 
     /// The written text, of at most 96 bytes. It takes no memory.
@@ -84,16 +91,28 @@ impl<D: AsTimes + Copy> FancyDuration<D> {
 
     /// The written text: `3m 1w 2d 5m 24s`.
     pub fn format(&self, alloc: Global) -> Result<String, AllocError>
-        ensures { IfOk result (λ text. string_bytes text ≡ written (nanos_of (D.times self.now.0))) }
+        ensures { IfOk result (λ text. string_bytes text
+            ≡ written (nanos_of (D.times self.now.0))) }
     {
         String::from_str(alloc, self.text().as_str())
     }
 
     /// The written text without spaces: `3m1w2d5m24s`.
     pub fn format_compact(&self, alloc: Global) -> Result<String, AllocError>
-        ensures { IfOk result (λ text. string_bytes text ≡ compact (nanos_of (D.times self.now.0))) }
+        ensures { IfOk result (λ text. string_bytes text
+            ≡ compact (nanos_of (D.times self.now.0))) }
     {
         without_spaces(alloc, self.text().as_str())
+    }
+
+    /// Whether the written text is read back as this length: not where its months stand alone, as those of 30 days,
+    /// which are written `1m` and read as a minute.
+    pub fn reads_back(&self) -> bool
+        ensures text { IsTrue result
+            ↔ Denotes (written (nanos_of (D.times self.now.0))) (D.times self.now.0) }
+        ensures months { IsTrue result ↔ (¬ (MonthsStandAlone (nanos_of (D.times self.now.0)))) }
+    {
+        !have_months_alone(self.nanos())
     }
 
     /// True exactly for the strict texts, which have nothing but counts, units and blanks: `1h 5m`, not `1h 5x`.
@@ -107,6 +126,7 @@ impl<D: AsTimes + Copy> FancyDuration<D> {
     fn nanos(&self) -> u128
         ensures value { result ≡ nanos_of (D.times self.now.0) }
         ensures within { result < 2 ^ 64 * 1_000_000_000 }
+        ensures sub_second { (D.times self.now.0).1 < 1_000_000_000 }
     {
         let (secs, nanos) = self.0.as_times();
         u128::from(secs) * 1_000_000_000 + u128::from(nanos)

@@ -6,7 +6,11 @@
 //! Sums are exact over numbers of any length.
 //!
 //! The written text of a length is read back as this length, unless its months stand alone: 30 days are written `1m`,
-//! which is read as a minute. [`laws`] says so, and which two lengths have one text.
+//! which is read as a minute. [`FancyDuration::reads_back`] tells where, [`laws`] says so, and which two lengths have
+//! one text.
+//!
+//! A reader passes over what isn't an item, so `1.5h` is 5 hours and `1 hour` no time at all.
+//! [`FancyDuration::is_fancy_text`] tells the texts that are counts with their units and nothing else.
 //!
 //! [`FancyDuration`] wraps any type that has seconds and nanoseconds ([`AsTimes`]), as std's `Duration`.
 #![tactic(auto)]
@@ -27,6 +31,7 @@ pub use as_times::AsTimes;
 pub use error::FancyError;
 pub use fancy::FancyDuration;
 pub use part::DurationPart;
+pub use scan_core::Short;
 pub use traits::{AsFancyDuration, ParseFancyDuration};
 
 #[cfg(test)]

@@ -1,3 +1,4 @@
+//! The ten parts of a written length.
 ghost use Rattle.std.specs.Prelude.{◌≡◌, ◌≢◌, Option, IfSome, IfNone};
 ghost use Rattle.fancy_duration.specs.Parts.{unit_of, weight_of};
 

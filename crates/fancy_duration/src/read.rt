@@ -1,4 +1,6 @@
-ghost use Rattle.std.specs.Prelude.{◌≡◌, ◌≢◌, ℕ, ◌<◌, [], ◌∷◌, length, IfOk, IfSome, IfNone, IsErrOf, ◌↔◌};
+//! The items of a text, from left to right, and their sum.
+ghost use Rattle.std.specs.Prelude.{◌≡◌, ◌≢◌, ℕ, ◌<◌, [], ◌∷◌, length};
+ghost use Rattle.std.specs.Prelude.{IfOk, IfSome, IfNone, IsErrOf, ◌↔◌};
 ghost use Rattle.std.specs.Char.{is_ascii_digit as is_digit};
 ghost use Rattle.scan_core.specs.Digits.{number_of};
 ghost use Rattle.fancy_duration.specs.Items.{Item};
@@ -11,7 +13,7 @@ use crate::tally::Tally;
 use crate::{DurationPart, FancyError};
 
 /// The seconds and nanoseconds of a text's sum, or `TooBig` exactly where the seconds pass `u64::MAX`.
-pub(crate) fn times_of(text: &str) -> Result<(u64, u64), FancyError>
+pub(crate) fn read_times(text: &str) -> Result<(u64, u64), FancyError>
     ensures ok { IfOk result (Denotes text.now) }
     ensures all { (times : ℕ × ℕ) → Denotes text.now times → result ≡ Ok times }
     ensures big { IsErrOf result FancyError.TooBig ↔ IsTooBig text.now }
@@ -41,7 +43,9 @@ fn sum_of(text: &[u8]) -> u128
 
 /// A text's first item, as its number, its unit and what follows it.
 fn next_item(text: &[u8]) -> Option<(u128, &[u8], &[u8])>
-    ensures found { IfSome result (λ next. (item : Item) × (items_of text.now ≡ item ∷ items_of next.2.now) × (next.0 ≡ capped (number_of item.digits)) × (next.1.now ≡ item.unit)) }
+    ensures found { IfSome result (λ next. (item : Item)
+        × (items_of text.now ≡ item ∷ items_of next.2.now)
+        × (next.0 ≡ capped (number_of item.digits)) × (next.1.now ≡ item.unit)) }
     ensures shorter { IfSome result (λ next. length next.2.now < length text.now) }
     ensures none { IfNone result (items_of text.now ≡ []) }
 {

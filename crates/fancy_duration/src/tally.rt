@@ -1,3 +1,4 @@
+//! The sum of items, read from left to right.
 ghost use Rattle.std.specs.Prelude.{◌≡◌, ◌≢◌, ℕ, Bool, true, false, ◌||◌, ◌+◌, ◌*◌};
 ghost use Rattle.fancy_duration.specs.Parts.{weight_of};
 ghost use Rattle.fancy_duration.specs.inside.Reading.{capped, sum_with, weight_if, is_long_part};
@@ -29,7 +30,10 @@ impl Tally {
     /// Adds an item, where `Minutes` is any `m`.
     pub(crate) fn add(&mut self, number: u128, part: DurationPart)
         requires { part ≢ DurationPart.Months }
-        ensures { (long : Bool) (later : ℕ) → capped (sum_with self.new.nanos self.new.pending long later) ≡ capped (sum_with self.old.nanos self.old.pending (is_long_part part || long) (number * weight_if part long + later)) }
+        ensures { (long : Bool) (later : ℕ)
+            → capped (sum_with self.new.nanos self.new.pending long later)
+            ≡ capped (sum_with self.old.nanos self.old.pending (is_long_part part || long)
+            (number * weight_if part long + later)) }
     {
         match part {
             DurationPart::Minutes => {
@@ -53,7 +57,8 @@ impl Tally {
 
     /// Reads the pending `m` as months.
     fn settle(&mut self)
-        ensures nanos { self.new.nanos ≡ capped (self.old.nanos + capped (self.old.pending * weight_of DurationPart.Months)) }
+        ensures nanos { self.new.nanos
+            ≡ capped (self.old.nanos + capped (self.old.pending * weight_of DurationPart.Months)) }
         ensures pending { self.new.pending ≡ 0 }
     {
         self.count(self.pending, DurationPart::Months);
@@ -62,7 +67,8 @@ impl Tally {
 
     /// Counts a number of a part.
     fn count(&mut self, number: u128, part: DurationPart)
-        ensures nanos { self.new.nanos ≡ capped (self.old.nanos + capped (number * weight_of part)) }
+        ensures nanos { self.new.nanos
+            ≡ capped (self.old.nanos + capped (number * weight_of part)) }
         ensures pending { self.new.pending ≡ self.old.pending }
     {
         self.nanos = self

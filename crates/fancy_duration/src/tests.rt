@@ -1,3 +1,4 @@
+//! Rows: of the Rust crate's tests, of its documentation and by hand.
 ghost use Rattle.std.specs.Prelude.{ℕ, ◌<◌, ◌^◌, ◌%◌};
 ghost use Rattle.std.proofs.Common.{arith};
 
@@ -63,6 +64,10 @@ fn sums_of_texts(rt: HostRuntime) -> Result<(), Fail> {
         ("1x 2", Ok((0, 0))),
         ("1hh 2sxs", Ok((0, 0))),
         ("1h5", Ok((3600, 0))),
+        // What isn't an item is passed over.
+        ("1.5h", Ok((5 * 3600, 0))),
+        ("-5m", Ok((300, 0))),
+        ("1 hour", Ok((0, 0))),
         ("\u{661}s 1s", Ok((1, 0))),
         (
             "18446744073709551615s 999999999ns",
@@ -110,6 +115,115 @@ fn written_texts(rt: HostRuntime) -> Result<(), Fail> {
         .format_compact(alloc)?;
     assert_eq!(rt; compact.as_str(), "3m1w2d5m24s");
     Ok(())
+}
+
+/// The lengths and texts that the Rust crate's own tests have.
+#[test]
+fn texts_of_the_original(rt: HostRuntime) -> Result<(), Fail> {
+    let alloc = rt.alloc();
+    let day = 86_400;
+    for (length, text, compact) in [
+        (Duration::new(0, 10), "10ns", "10ns"),
+        (Duration::new(0, 600), "600ns", "600ns"),
+        (Duration::new(0, 600_000), "600us", "600us"),
+        (Duration::new(0, 600_000_000), "600ms", "600ms"),
+        (Duration::new(10, 0), "10s", "10s"),
+        (Duration::new(10, 30), "10s 30ns", "10s30ns"),
+        (Duration::new(60, 10_000_000), "1m 10ms", "1m10ms"),
+        (Duration::new(120, 0), "2m", "2m"),
+        (Duration::new(185, 0), "3m 5s", "3m5s"),
+        (Duration::new(324, 0), "5m 24s", "5m24s"),
+        (Duration::new(600, 0), "10m", "10m"),
+        (Duration::new(3600, 30_000), "1h 30us", "1h30us"),
+        (Duration::new(day, 0), "1d", "1d"),
+        (Duration::new(day, 30), "1d 30ns", "1d30ns"),
+        (Duration::new(day + 324, 0), "1d 5m 24s", "1d5m24s"),
+        (
+            Duration::new(27 * day + 324, 0),
+            "3w 6d 5m 24s",
+            "3w6d5m24s",
+        ),
+        (Duration::new(370 * day, 0), "1y 1w 3d", "1y1w3d"),
+        (
+            Duration::new(9_159_010, 0),
+            "3m 2w 2d 10m 10s",
+            "3m2w2d10m10s",
+        ),
+        (
+            Duration::new(40_263_010, 0),
+            "1y 3m 2w 2d 10m 10s",
+            "1y3m2w2d10m10s",
+        ),
+    ] {
+        let fancy = length.fancy_duration();
+        let written = fancy.text();
+        assert_eq!(rt; written.as_str(), text);
+        let without_spaces = fancy.format_compact(alloc)?;
+        assert_eq!(rt; without_spaces.as_str(), compact);
+        let read = Duration::parse_fancy_duration(text)?;
+        assert_eq!(rt; read.as_nanos(), length.as_nanos(), "of {text}");
+        let read = Duration::parse_fancy_duration(compact)?;
+        assert_eq!(rt; read.as_nanos(), length.as_nanos(), "of {compact}");
+        assert!(rt; fancy.reads_back(), "of {text}");
+    }
+    Ok(())
+}
+
+#[test]
+fn months_that_stand_alone(rt: HostRuntime) {
+    let day = 86_400;
+    for (length, want) in [
+        (Duration::new(0, 0), true),
+        (Duration::new(60, 0), true),
+        (Duration::new(30 * day - 1, 0), true),
+        (Duration::new(30 * day, 0), false),
+        (Duration::new(30 * day + 59, 999_999_999), false),
+        (Duration::new(30 * day + 60, 0), true),
+        (Duration::new(31 * day, 0), true),
+        (Duration::new(360 * day, 0), true),
+        (Duration::new(390 * day, 0), false),
+        (Duration::new(u64::MAX, 999_999_999), true),
+    ] {
+        assert_eq!(rt; length.fancy_duration().reads_back(), want, "of {length:?}");
+    }
+}
+
+/// The filters and limits of the Rust crate's own tests.
+#[test]
+fn parts_of_the_original(rt: HostRuntime) -> Result<(), Fail> {
+    use DurationPart::{Days, Hours, Microseconds, Milliseconds, Minutes, Months, Seconds, Weeks};
+    for (text, kept, want) in [
+        ("1m 5s 10ms", &[Minutes, Milliseconds][..], "1m 10ms"),
+        ("1h 1m 30us", &[Minutes, Microseconds], "1m 30us"),
+        ("1d 1h 30ns", &[Days], "1d"),
+        ("10s", &[Seconds, Minutes], "10s"),
+        ("3m 5s", &[Hours, Minutes, Seconds], "3m 5s"),
+        ("3m 2w 2d 10m 10s", &[Months, Weeks, Days], "3m 2w 2d"),
+    ] {
+        let filtered = FancyDuration::<Duration>::parse(text)?.filter(kept).text();
+        assert_eq!(rt; filtered.as_str(), want, "of {text}");
+    }
+    for (text, limit, want) in [
+        ("1m 5s 10ms", 2, "1m 5s"),
+        ("1h 1m 30us", 3, "1h 1m"),
+        ("1d 1h 30ns", 1, "1d"),
+        ("10s", 3, "10s"),
+        ("3m 5s", 2, "3m 5s"),
+        ("3m 2w 2d 10m 10s", 3, "3m 2w 2d"),
+    ] {
+        let truncated = FancyDuration::<Duration>::parse(text)?
+            .truncate(limit)
+            .text();
+        assert_eq!(rt; truncated.as_str(), want, "of {text}");
+    }
+    Ok(())
+}
+
+#[test]
+fn parts_are_less_where_they_are_greater(rt: HostRuntime) {
+    assert!(rt; DurationPart::Years < DurationPart::Months);
+    assert!(rt; DurationPart::Months < DurationPart::Minutes);
+    assert!(rt; DurationPart::Microseconds < DurationPart::Nanoseconds);
 }
 
 #[test]

@@ -1,3 +1,4 @@
+//! Calls on lengths themselves.
 ghost use Rattle.std.specs.Prelude.{◌≡◌, ℕ};
 ghost use Rattle.fancy_duration.specs.Meanings.{Parses};
 ghost use Rattle.fancy_duration.specs.Durations.{duration_times};

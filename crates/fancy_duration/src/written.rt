@@ -1,4 +1,6 @@
-ghost use Rattle.std.specs.Prelude.{◌≡◌, ℕ, ◌+◌, ◌*◌, ◌^◌, ◌<◌, ◌≤◌, length, decimal, IfOk, filter, not, ◌==◌};
+//! The writers of texts with spaces and without.
+ghost use Rattle.std.specs.Prelude.{◌≡◌, ℕ, ◌+◌, ◌*◌, ◌^◌, ◌<◌, ◌≤◌};
+ghost use Rattle.std.specs.Prelude.{length, decimal, IfOk, filter, not, ◌==◌};
 ghost use Rattle.std.specs.String.{string_bytes};
 ghost use Rattle.arrayvec.specs.ArrayString.{array_string_len};
 ghost use Rattle.fancy_duration.specs.Written.{written};
@@ -39,7 +41,8 @@ pub(crate) fn without_spaces(alloc: Global, text: &str) -> Result<String, AllocE
 fn push_count(out: &mut Short, count: u64, part: DurationPart)
     requires { array_string_len out.old + (length (decimal count) + 3) ≤ 128 }
     ensures bytes { out.new.bytes ≡ with_count out.old.bytes count part }
-    ensures len { array_string_len out.new ≤ array_string_len out.old + (length (decimal count) + 3) }
+    ensures len { array_string_len out.new
+        ≤ array_string_len out.old + (length (decimal count) + 3) }
 {
     if count > 0 {
         if !out.is_empty() {

@@ -7,7 +7,8 @@ use Rattle.fancy_duration.specs.Breakdown.{PartCount, counts_of, nanos_in}
 
 -- the nanoseconds of the kept parts among these
 unfoldable pub kept_in : List DurationPart → List DurationPart → ℕ → ℕ
-kept_in kept parts left = nanos_in (filter (λ c. list_any (λ part. is_part part c.part) kept) (counts_of parts left))
+kept_in kept parts left =
+    nanos_in (filter (λ c. list_any (λ part. is_part part c.part) kept) (counts_of parts left))
 
 -- what is left of a length without the counts of these parts
 abbrev pub left_after : List DurationPart → ℕ → ℕ
@@ -21,7 +22,8 @@ spaced (b ∷ bs) = (b ∷ bs) ++ 32 ∷ []
 
 -- a text with a further count, if it is above 0
 unfoldable pub with_count : List ℕ → ℕ → DurationPart → List ℕ
-with_count out count part = if nat_lt 0 count then spaced out ++ (decimal count ++ unit_of part) else out
+with_count out count part =
+    if nat_lt 0 count then (spaced out ++ (decimal count ++ unit_of part)) else out
 
 -- a text with counts
 abbrev pub with_counts : List ℕ → List PartCount → List ℕ

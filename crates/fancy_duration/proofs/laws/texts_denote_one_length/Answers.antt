@@ -1,5 +1,5 @@
 use Rattle.fancy_duration.proofs.Totals.{denotes_unique}
-use Rattle.fancy_duration.proofs.laws.one_meaning.Goals as goal
+use Rattle.fancy_duration.proofs.laws.texts_denote_one_length.Goals as goal
 
 pub returns : goal.returns
 returns c = denotes_unique

@@ -6,7 +6,7 @@ use Rattle.fancy_duration.specs.Written.{written}
 use Rattle.fancy_duration.specs.Collisions.{MonthsStandAlone}
 use Rattle.fancy_duration.specs.Durations.{duration_times}
 use Rattle.fancy_duration.proofs.ReadBack.{read_back}
-use Rattle.fancy_duration.proofs.laws.duration_read_back.Goals as goal
+use Rattle.fancy_duration.proofs.laws.texts_of_durations_are_read_back.Goals as goal
 
 pub returns : goal.returns
 returns c d h =

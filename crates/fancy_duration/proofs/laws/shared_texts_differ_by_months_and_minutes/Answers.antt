@@ -1,5 +1,5 @@
 use Rattle.fancy_duration.proofs.SharedTexts.{collisions}
-use Rattle.fancy_duration.proofs.laws.collisions.Goals as goal
+use Rattle.fancy_duration.proofs.laws.shared_texts_differ_by_months_and_minutes.Goals as goal
 
 pub returns : goal.returns
 returns c = collisions

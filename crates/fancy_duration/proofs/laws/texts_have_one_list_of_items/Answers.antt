@@ -1,7 +1,7 @@
 use Rattle.std.proofs.Common.{sym, ◌∙◌}
 use Rattle.fancy_duration.specs.inside.Reading.{items_of}
 use Rattle.fancy_duration.proofs.ItemLists.{items_unique, items_exist}
-use Rattle.fancy_duration.proofs.laws.one_list_of_items.Goals as goal
+use Rattle.fancy_duration.proofs.laws.texts_have_one_list_of_items.Goals as goal
 
 pub returns-clause-some : goal.returns-clause-some
 returns-clause-some c text = (items_of text, items_exist text)

@@ -1,6 +1,6 @@
 use Rattle.std.proofs.Common.{◌≤◌, ◌^◌, ◌/◌, refl, ap, Ok, arith}
 use Rattle.fancy_duration.proofs.Totals.{denotes, is_too_big, not_too_big, denotes_unique, not_beyond}
-use Rattle.fancy_duration.proofs.read.times_of.Goals as goal
+use Rattle.fancy_duration.proofs.read.read_times.Goals as goal
 
 pub returns-in-Ok-clause-ok : goal.returns-in-Ok-clause-ok
 returns-in-Ok-clause-ok c = denotes _ _ _ _ c.as_bytes.ensures.value c.sum_of-nanos.ensures c.in-Ok.ensures.0 c.in-Ok.ensures.1

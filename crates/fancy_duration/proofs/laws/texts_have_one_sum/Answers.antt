@@ -2,7 +2,7 @@ use Rattle.std.proofs.Common.{sym, ◌∙◌}
 use Rattle.fancy_duration.specs.Sums.{total}
 use Rattle.fancy_duration.specs.inside.Reading.{items_of}
 use Rattle.fancy_duration.proofs.Totals.{sum_unique, sum_exists}
-use Rattle.fancy_duration.proofs.laws.one_sum.Goals as goal
+use Rattle.fancy_duration.proofs.laws.texts_have_one_sum.Goals as goal
 
 pub returns-clause-some : goal.returns-clause-some
 returns-clause-some c text = (total (items_of text), sum_exists text)

@@ -1,5 +1,5 @@
 use Rattle.fancy_duration.proofs.ReadBack.{read_back}
-use Rattle.fancy_duration.proofs.laws.read_back.Goals as goal
+use Rattle.fancy_duration.proofs.laws.written_texts_are_read_back.Goals as goal
 
 pub returns : goal.returns
 returns c = read_back

@@ -1,0 +1,5 @@
+use Rattle.fancy_duration.proofs.StrictTexts.{written_strict}
+use Rattle.fancy_duration.proofs.laws.written_texts_are_strict.Goals as goal
+
+pub returns : goal.returns
+returns c = written_strict
