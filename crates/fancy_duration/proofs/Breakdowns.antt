@@ -1,8 +1,7 @@
 -- The loops over the ten parts of a breakdown.
-use Rattle.std.proofs.Common.{◌≡◌, ℕ, ◌+◌, ◌-◌, ◌*◌, ◌/◌, ◌%◌, ◌<◌, ◌≤◌, true, false, List, [], ◌∷◌, length, get_or, take, drop, zero, suc, refl, sym, ◌∙◌, ap, arith, add-one, drop-cons, min, ⊎_elim, if◌then◌else◌}
+use Rattle.std.proofs.Common.{◌≡◌, ℕ, ◌+◌, ◌-◌, ◌*◌, ◌/◌, ◌%◌, ◌<◌, ◌≤◌, true, false, List, [], ◌∷◌, length, get_or, take, drop, zero, suc, refl, sym, ◌∙◌, ap, arith, add-one, drop-cons, min, if◌then◌else◌}
 use Rattle.std.proofs.lemmas.Nat.{div-add-mod'}
 use Rattle.std.proofs.lemmas.List.{drop_all, take_min}
-use Rattle.std.proofs.lemmas.Bool.{cases_lt}
 use Rattle.std.specs.List.{list_any}
 use Rattle.fancy_duration.specs.declared.part.DurationPart.{DurationPart}
 use Rattle.fancy_duration.specs.Parts.{all_parts, weight_of, is_part}

@@ -1,7 +1,7 @@
 -- Where the months of a length stand alone, by two remainders.
-use Rattle.std.proofs.Common.{◌≡◌, ℕ, ◌+◌, ◌*◌, ◌/◌, ◌%◌, ◌^◌, ◌<◌, ◌≤◌, ◌↔◌, Bool, true, false, not, IsTrue, refl, sym, arith}
+use Rattle.std.proofs.Common.{◌≡◌, ℕ, ◌*◌, ◌%◌, ◌^◌, ◌<◌, ◌≤◌, ◌↔◌, Bool, true, false, not, IsTrue, refl, sym, arith}
 use Rattle.std.proofs.lemmas.Bool.{true≢false}
-use Rattle.fancy_duration.specs.declared.part.DurationPart.TheVariants.{Years, Months, Weeks, Days, Hours, Minutes}
+use Rattle.fancy_duration.specs.declared.part.DurationPart.TheVariants.{Years, Months, Minutes}
 use Rattle.fancy_duration.specs.Parts.{weight_of}
 use Rattle.fancy_duration.specs.Breakdown.{breakdown, count_of}
 use Rattle.fancy_duration.specs.Times.{nanos_of}

@@ -1,13 +1,12 @@
 -- A written text is a strict one.
-use Rattle.std.proofs.Common.{◌≡◌, ◌≢◌, ℕ, ◌+◌, ◌*◌, ◌^◌, ◌<◌, true, false, nat_lt, nat_eq, List, [], ◌∷◌, ◌++◌, length, map, decimal, refl, sym, ◌∙◌, ap, arith, append_assoc, append-nil, inl, inr}
+use Rattle.std.proofs.Common.{◌≡◌, ℕ, ◌*◌, ◌^◌, ◌<◌, true, false, nat_lt, nat_eq, List, [], ◌∷◌, ◌++◌, length, map, decimal, refl, sym, ◌∙◌, ap, arith, append_assoc, append-nil, inl, inr}
 use Rattle.std.specs.List.{join_with_byte, list_all}
 use Rattle.scan_core.specs.Blanks.{is_blank}
-use Rattle.std.proofs.lemmas.Bool.{and_parts, ltb-true, ltb-false, eqb-true, eqb-false}
+use Rattle.std.proofs.lemmas.Bool.{and_parts, ltb-true, ltb-false, eqb-false}
 use Rattle.std.proofs.lemmas.Fmt.{decimal_is_IsNumeral}
 use Rattle.scan_core.specs.Join.{IsJoin}
-use Rattle.fancy_duration.specs.declared.part.DurationPart.{DurationPart}
-use Rattle.fancy_duration.specs.Parts.{all_parts, unit_of, weight_of}
-use Rattle.fancy_duration.specs.Breakdown.{PartCount, counts_of, breakdown, nanos_in}
+use Rattle.fancy_duration.specs.Parts.{unit_of}
+use Rattle.fancy_duration.specs.Breakdown.{PartCount, breakdown, nanos_in}
 use Rattle.fancy_duration.specs.Written.{piece, above_zero, written}
 use Rattle.fancy_duration.specs.Strict.{IsCount, IsStrict}
 use Rattle.fancy_duration.specs.inside.Writing.{counts_fit}

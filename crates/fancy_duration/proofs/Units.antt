@@ -1,5 +1,5 @@
 -- What a unit weighs, by the part that it names.
-use Rattle.std.proofs.Common.{◌≡◌, ◌≢◌, ℕ, ◌+◌, ◌*◌, Bool, true, false, ◌||◌, List, [], ◌∷◌, codes, bytes_eq, ◌-◌, ◌^◌, refl, sym, ◌∙◌, ap, arith, mul-zero}
+use Rattle.std.proofs.Common.{◌≡◌, ◌≢◌, ℕ, ◌+◌, ◌*◌, Bool, true, false, ◌||◌, List, ◌∷◌, codes, bytes_eq, ◌-◌, ◌^◌, refl, sym, ◌∙◌, ap, arith, mul-zero}
 use Rattle.std.proofs.lemmas.Slice.Eq.{bytes_eq-Decides}
 use Rattle.scan_core.specs.Digits.{number_of}
 use Rattle.fancy_duration.specs.declared.part.DurationPart.{DurationPart}

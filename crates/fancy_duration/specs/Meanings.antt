@@ -1,5 +1,5 @@
 -- What a text denotes: the seconds and nanoseconds of its sum.
-use Rattle.std.specs.Prelude.{◌≡◌, ℕ, ◌/◌, ◌<◌, ◌≤◌, ◌^◌, ◌↔◌, List, Result, IfOk, IsErrOf}
+use Rattle.std.specs.Prelude.{ℕ, ◌/◌, ◌<◌, ◌≤◌, ◌^◌, ◌↔◌, List, Result, IfOk, IsErrOf}
 use Rattle.fancy_duration.specs.declared.error.FancyError.{FancyError}
 use Rattle.fancy_duration.specs.declared.error.FancyError.TheVariants.{TooBig, NotHeld}
 use Rattle.fancy_duration.specs.Times.{nanos_of}

@@ -1,5 +1,5 @@
 //! The strict texts.
-ghost use Rattle.std.specs.Prelude.{◌≡◌, ◌<◌, ◌↔◌, ℕ, List, [], length, IsTrue, IfSome, IfNone};
+ghost use Rattle.std.specs.Prelude.{◌≡◌, ◌<◌, ◌↔◌, [], length, IsTrue, IfSome, IfNone};
 ghost use Rattle.scan_core.specs.Blanks.{is_blank};
 ghost use Rattle.fancy_duration.specs.Strict.{IsStrict};
 ghost use Rattle.scan_core.specs.Fronts.{behind};

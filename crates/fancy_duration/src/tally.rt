@@ -1,5 +1,5 @@
 //! The sum of items, read from left to right.
-ghost use Rattle.std.specs.Prelude.{◌≡◌, ◌≢◌, ℕ, Bool, true, false, ◌||◌, ◌+◌, ◌*◌};
+ghost use Rattle.std.specs.Prelude.{◌≡◌, ◌≢◌, ℕ, Bool, false, ◌||◌, ◌+◌, ◌*◌};
 ghost use Rattle.fancy_duration.specs.Parts.{weight_of};
 ghost use Rattle.fancy_duration.specs.inside.Reading.{capped, sum_with, weight_if, is_long_part};
 

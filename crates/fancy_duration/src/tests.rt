@@ -1,5 +1,5 @@
 //! Rows: of the Rust crate's tests, of its documentation and by hand.
-ghost use Rattle.std.specs.Prelude.{ℕ, ◌<◌, ◌^◌, ◌%◌};
+ghost use Rattle.std.specs.Prelude.{◌<◌, ◌^◌, ◌%◌};
 ghost use Rattle.std.proofs.Common.{arith};
 
 use crate::{
