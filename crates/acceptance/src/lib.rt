@@ -9,6 +9,8 @@ mod hostile;
 #[cfg(test)]
 mod iso;
 #[cfg(test)]
+mod pieces;
+#[cfg(test)]
 mod postgres;
 #[cfg(test)]
 mod program;

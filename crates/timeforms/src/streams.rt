@@ -1,9 +1,11 @@
 //! Standard input as a source and standard output as a sink. They tell no bytes, since nobody knows what a file or a
-//! terminal holds; their counts are exact.
+//! terminal holds; their counts are exact. A call that a signal interrupts is tried again, and is no fault.
 ghost use Rattle.std.specs.Prelude.{None};
+ghost use Rattle.std.specs.Io.{ReadsAtMost, WritesAtMost};
+ghost use Rattle.std.specs.Io.KnownBytes.{ReadConsumes};
 
 use forms::{Failed, Sink, Source};
-use std::io::{Read, Write};
+use std::io::{self, ErrorKind, Read, Write};
 
 /// A reader as a source.
 #[derive(Drop)]
@@ -31,7 +33,7 @@ impl<R: Read> Source for Input<R> {
     ghost faults = { λ s. s.faults };
 
     fn read(&mut self, buf: &mut [u8]) -> Result<usize, Failed> {
-        match self.reader.read(buf) {
+        match read_again(&mut self.reader, buf) {
             Ok(count) => {
                 self.taken = self.taken.saturating_add(count as u64);
                 Ok(count)
@@ -44,7 +46,7 @@ impl<R: Read> Source for Input<R> {
     }
 }
 
-/// A writer that keeps nothing back, as a sink.
+/// A writer as a sink. It is flushed after each piece, so that nothing is kept back.
 #[derive(Drop)]
 pub struct Output<W> {
     writer: W,
@@ -63,7 +65,7 @@ impl<W: Write> Sink for Output<W> {
     ghost faults = { λ s. s.faults };
 
     fn write(&mut self, piece: &[u8]) -> Result<usize, Failed> {
-        match self.writer.write(piece) {
+        match write_through(&mut self.writer, piece) {
             Ok(count) if count > 0 || piece.is_empty() => Ok(count),
             _ => {
                 self.faults = self.faults.saturating_add(1);
@@ -73,27 +75,100 @@ impl<W: Write> Sink for Output<W> {
     }
 }
 
+/// A read, tried again while a signal interrupts it.
+fn read_again<R: Read>(reader: &mut R, buf: &mut [u8]) -> io::Result<usize>
+    ensures bound { ReadsAtMost result buf.new }
+    ensures bytes { ReadConsumes (R.remaining reader.old) (R.remaining reader.new) result buf.new }
+{
+    for _ in 0..u64::MAX {
+        match reader.read(buf) {
+            Err(error) if error.kind() == ErrorKind::Interrupted => {}
+            result => return result,
+        }
+    }
+    Err(io::Error::from(ErrorKind::Interrupted))
+}
+
+/// A write and a flush, each tried again while a signal interrupts it.
+fn write_through<W: Write>(writer: &mut W, piece: &[u8]) -> io::Result<usize>
+    ensures { WritesAtMost result piece.now }
+{
+    let count = write_again(writer, piece)?;
+    flush_again(writer)?;
+    Ok(count)
+}
+
+/// A write, tried again while a signal interrupts it.
+fn write_again<W: Write>(writer: &mut W, piece: &[u8]) -> io::Result<usize>
+    ensures { WritesAtMost result piece.now }
+{
+    for _ in 0..u64::MAX {
+        match writer.write(piece) {
+            Err(error) if error.kind() == ErrorKind::Interrupted => {}
+            result => return result,
+        }
+    }
+    Err(io::Error::from(ErrorKind::Interrupted))
+}
+
+/// A flush, tried again while a signal interrupts it.
+fn flush_again<W: Write>(writer: &mut W) -> io::Result<()> {
+    for _ in 0..u64::MAX {
+        match writer.flush() {
+            Err(error) if error.kind() == ErrorKind::Interrupted => {}
+            result => return result,
+        }
+    }
+    Err(io::Error::from(ErrorKind::Interrupted))
+}
+
 #[cfg(test)]
 mod tests {
     use super::*;
-    use std::io;
 
-    /// A stream whose calls fail.
+    /// A stream that answers the next calls by these kinds of errors, and the others well.
     #[derive(Drop)]
-    struct Broken;
+    struct Shaky<'a> {
+        errors: &'a [ErrorKind],
+        calls: usize,
+        flushes: usize,
+    }
 
-    impl Read for Broken {
-        fn read(&mut self, _buf: &mut [u8]) -> io::Result<usize> {
-            Err(io::Error::from(io::ErrorKind::Other))
+    impl<'a> Shaky<'a> {
+        fn new(errors: &'a [ErrorKind]) -> Shaky<'a> {
+            Shaky {
+                errors,
+                calls: 0,
+                flushes: 0,
+            }
+        }
+
+        fn next_call(&mut self) -> io::Result<()> {
+            let call = self.calls;
+            self.calls = call.saturating_add(1);
+            match self.errors.get(call) {
+                Some(kind) => Err(io::Error::from(*kind)),
+                None => Ok(()),
+            }
         }
     }
 
-    impl Write for Broken {
-        fn write(&mut self, _buf: &[u8]) -> io::Result<usize> {
-            Err(io::Error::from(io::ErrorKind::Other))
+    impl<'a> Read for Shaky<'a> {
+        fn read(&mut self, buf: &mut [u8]) -> io::Result<usize> {
+            self.next_call()?;
+            Ok(buf.len().min(2))
+        }
+    }
+
+    impl<'a> Write for Shaky<'a> {
+        fn write(&mut self, buf: &[u8]) -> io::Result<usize> {
+            self.next_call()?;
+            Ok(buf.len().min(2))
         }
 
         fn flush(&mut self) -> io::Result<()> {
+            self.next_call()?;
+            self.flushes = self.flushes.saturating_add(1);
             Ok(())
         }
     }
@@ -108,11 +183,41 @@ mod tests {
         let mut output = Output::new(Vec::new(rt.alloc()));
         assert_eq!(rt; output.write(b"ab"), Ok(2));
         assert_eq!(rt; output.faults, 0);
-        let mut input = Input::new(Broken);
+    }
+
+    #[test]
+    fn faults_are_counted(rt: HostRuntime) {
+        let mut buf = [0; 4];
+        let broken = [ErrorKind::Other];
+        let mut input = Input::new(Shaky::new(&broken));
         assert_eq!(rt; input.read(&mut buf), Err(Failed));
         assert_eq!(rt; (input.taken, input.faults), (0, 1));
-        let mut output = Output::new(Broken);
+        let mut output = Output::new(Shaky::new(&broken));
         assert_eq!(rt; output.write(b"ab"), Err(Failed));
         assert_eq!(rt; output.faults, 1);
+        // A sink that takes nothing of a piece has failed.
+        let mut output = Output::new(&mut [][..]);
+        assert_eq!(rt; output.write(b"ab"), Err(Failed));
+        assert_eq!(rt; output.faults, 1);
+    }
+
+    #[test]
+    fn interrupted_calls_are_no_faults(rt: HostRuntime) {
+        let mut buf = [0; 4];
+        let interrupted = [ErrorKind::Interrupted, ErrorKind::Interrupted];
+        let mut input = Input::new(Shaky::new(&interrupted));
+        assert_eq!(rt; input.read(&mut buf), Ok(2));
+        assert_eq!(rt; (input.reader.calls, input.faults), (3, 0));
+        let mut output = Output::new(Shaky::new(&interrupted));
+        assert_eq!(rt; output.write(b"ab"), Ok(2));
+        assert_eq!(rt; (output.writer.calls, output.faults), (4, 0));
+    }
+
+    #[test]
+    fn each_piece_is_flushed(rt: HostRuntime) {
+        let mut output = Output::new(Shaky::new(&[]));
+        assert_eq!(rt; output.write(b"abc"), Ok(2));
+        assert_eq!(rt; output.write(b"c"), Ok(1));
+        assert_eq!(rt; (output.writer.flushes, output.faults), (2, 0));
     }
 }
