@@ -1,6 +1,7 @@
 //! Answering the lines of a piece, and writing the replies.
-ghost use Rattle.std.specs.Prelude.{◌≡◌, ◌+◌, ◌≤◌, List, ℕ, [], ◌++◌, length, OnOk, OnErr, vec_len, vec_capacity};
-ghost use Rattle.std.specs.Io.KnownBytes.{Appends};
+ghost use Rattle.std.specs.Prelude.{◌≡◌, ◌+◌, ◌<◌, ◌≤◌, [], ◌++◌, length, IfOk, OnOk, OnErr, vec_len, vec_capacity};
+ghost use Rattle.std.specs.Io.{WritesAtMost};
+ghost use Rattle.std.specs.Io.KnownBytes.{Appends, WriteAppends};
 ghost use Rattle.arrayvec.specs.ArrayString.{array_string_len};
 ghost use Rattle.forms.specs.Lines.{lines, whole_lines};
 ghost use Rattle.forms.specs.Outside.{HasCause};
@@ -45,8 +46,9 @@ pub fn answer_piece<K: Sink>(
         push_joined(batch, kept, line);
         rest = after;
     }
+    flush(sink, batch)?;
     kept.extend_from_slice(rest).unwrap();
-    flush(sink, batch)
+    Ok(())
 }
 
 /// Writes the reply to the last line, which no line feed ends, where there is one.
@@ -116,7 +118,7 @@ fn push_reply(batch: &mut Batch, line: &[u8])
     batch.push('\n');
 }
 
-/// Writes the whole text, or as much as the sink takes before it fails. It writes no empty piece.
+/// Writes the whole text, or as much as the sink takes before it fails.
 fn write_all<K: Sink>(sink: &mut K, text: &[u8]) -> Result<(), Failed>
     ensures ok { OnOk result (Appends (K.held sink.old) (K.held sink.new) text.now) }
     ensures err { OnErr result (AppendsFront (K.held sink.old) (K.held sink.new) text.now) }
@@ -124,7 +126,18 @@ fn write_all<K: Sink>(sink: &mut K, text: &[u8]) -> Result<(), Failed>
 {
     let mut at = 0;
     while at < text.len() {
-        at += sink.write(&text[at..])?;
+        at += write_some(sink, &text[at..])?;
     }
     Ok(())
+}
+
+/// Writes a front of a piece that isn't empty. Each write of a run goes through here, so none is of an empty piece.
+fn write_some<K: Sink>(sink: &mut K, piece: &[u8]) -> Result<usize, Failed>
+    requires some { 0 < length piece.now }
+    ensures bound { WritesAtMost result piece.now }
+    ensures bytes { WriteAppends (K.held sink.old) (K.held sink.new) result piece.now }
+    ensures progress { IfOk result (λ n. 0 < n) }
+    ensures cause { HasCause (K.faults sink.old) (K.faults sink.new) result }
+{
+    sink.write(piece)
 }

@@ -1,5 +1,4 @@
 use Rattle.std.proofs.Common.{◌≡◌, ◌≤◌, ◌++◌, List, ℕ, length, sym, ◌∙◌, ap, subst, append_assoc, length-append, rules, arith}
-use Rattle.std.proofs.lemmas.Result.{on_ok_weaker, on_err_weaker}
 use Rattle.forms.specs.inside.Pieces.{NoFeed}
 use Rattle.forms.proofs.Writes.{on_err}
 use Rattle.forms.proofs.LinePieces.{no_feed-append}
@@ -36,13 +35,13 @@ loop-line-preserved g c =
       later = omega (arith, c.in_ok-make_room.ensures.cause.later);
     }
 
+pub returns-in_err-flush-clause-err : goal.returns-in_err-flush-clause-err
+returns-in_err-flush-clause-err g c =
+    on_err _ c.from_residual-in_err-flush.result (answered_front _ _ _ _ (c.loop-line.kept.items ++ c.loop-line.rest.now) c.loop-line.batch.bytes c.loop-line.invariant.answered c.in_err-flush.ensures.err)
+
 pub returns-clause-ok : goal.returns-clause-ok
 returns-clause-ok g c =
     let kept : List ℕ = c.loop-line.kept.items in
     let part : NoFeed (kept ++ c.loop-line.rest.now) = no_feed-append kept c.loop-line.rest.now c.loop-line.invariant.part c.in_default.ensures.none in
     let items : c.extend_from_slice.new.self.items ≡ kept ++ c.loop-line.rest.now = search rules in
-    on_ok_weaker c.flush.result (λ all. rw items (answered_all _ _ _ _ (kept ++ c.loop-line.rest.now) c.loop-line.batch.bytes c.loop-line.invariant.answered part all)) c.flush.ensures.ok
-
-pub returns-clause-err : goal.returns-clause-err
-returns-clause-err g c =
-    on_err_weaker c.flush.result (λ front. answered_front _ _ _ _ (c.loop-line.kept.items ++ c.loop-line.rest.now) c.loop-line.batch.bytes c.loop-line.invariant.answered front) c.flush.ensures.err
+    rw items (answered_all _ _ _ _ (kept ++ c.loop-line.rest.now) c.loop-line.batch.bytes c.loop-line.invariant.answered part c.in_ok-flush.ensures.ok)
