@@ -82,7 +82,7 @@ digit_value_test d h = grind (arith, nat_tests)
 digit_from_test : (d : ℕ) (t all : Bool) → is_ascii_digit d ≡ t → (t && all) ≡ true → (digit_value d < 10) × (all ≡ true)
 digit_from_test d t all e h = grind (arith, nat_tests)
 
-test_from_digit : (d : ℕ) → digit_value d < 10 → is_ascii_digit d ≡ true
+pub test_from_digit : (d : ℕ) → digit_value d < 10 → is_ascii_digit d ≡ true
 test_from_digit d h = let p = digit_from_value d h in grind (arith, nat_tests)
 
 pub digits_from_all : (ds : List ℕ) → list_all is_ascii_digit ds ≡ true → AreDigits ds

@@ -2,6 +2,10 @@ pub mod Joins
 pub mod DigitFacts
 pub mod FrontFacts
 pub mod RoundingFacts
+pub mod Between
+pub mod Scans
+pub mod RunFacts
+pub mod Spending
 pub mod ShareFacts
 pub mod SumFacts
 pub mod WordFacts

@@ -1,6 +1,7 @@
 -- Fractions cut and rounded: one more digit in front, no digits, six digits, and the greatest answer.
-use Rattle.std.proofs.Common.{◌≡◌, ℕ, ◌+◌, ◌*◌, ◌/◌, ◌^◌, ◌<◌, ◌≤◌, List, [], ◌∷◌, length, ap, ap₂, sym, ◌∙◌, arith}
+use Rattle.std.proofs.Common.{◌≡◌, ℕ, ◌+◌, ◌*◌, ◌/◌, ◌^◌, ◌<◌, ◌≤◌, List, [], ◌∷◌, length, ap, ap₂, refl, sym, ◌∙◌, arith}
 use Rattle.std.proofs.Math.Nat.{add-mul-div_right, div-div-eq-div-mul, mul-div_cancel_left, mul-le-mul_right, one-le-pow, pow-suc}
+use Rattle.std.proofs.lemmas.List.{nil_from_length}
 use Rattle.std.proofs.lemmas.Nat.{div-mul-add, div_below}
 use Rattle.std.specs.Char.{digit_value}
 use Rattle.scan_core.specs.Digits.{AreDigits, number_of}
@@ -55,6 +56,15 @@ rounded-cons scale d ds =
 pub rounded-nil : (scale : ℕ) → rounded scale [] ≡ 0
 unfolding rounded
 rounded-nil scale = let none : 0 * scale ≡ 0 = omega arith in ap (λ (x : ℕ). (x + 1) / 2) none
+
+-- the same from the number of the digits and how many they are
+pub rounded_is : (scale : ℕ) (ds : List ℕ) (number digits : ℕ) → number_of ds ≡ number → length ds ≡ digits → (2 * number * scale + 10 ^ digits) / (2 * 10 ^ digits) ≡ rounded scale ds
+unfolding rounded
+rounded_is scale ds number digits n d = rw (← n, ← d) refl
+
+-- a fraction without digits
+pub rounded_none : (scale : ℕ) (ds : List ℕ) → length ds ≡ 0 → 0 ≡ rounded scale ds
+rounded_none scale ds none = sym (ap (rounded scale) (nil_from_length ds none) ∙ rounded-nil scale)
 
 pub rounded-le : (scale : ℕ) (ds : List ℕ) → AreDigits ds → rounded scale ds ≤ scale
 unfolding rounded

@@ -8,4 +8,7 @@ pub mod Number
 pub mod Shares
 pub mod Sums
 pub mod Padded
+pub mod Scanning
+pub mod Runs
 pub mod Bounds
+pub mod inside

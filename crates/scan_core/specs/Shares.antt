@@ -63,3 +63,7 @@ abbrev pub fits_type : Part → ℤ → Bool
 fits_type Months z = is_within 32 z
 fits_type Days z = is_within 32 z
 fits_type Micros z = is_within 64 z
+
+-- the count has a share: the part in which its whole digits are counted is in its type, and so are the others then
+abbrev pub has_share : Count → Bool
+has_share c = fits_type (main_part c.unit) (share (main_part c.unit) c)

@@ -8,14 +8,26 @@
 mod blank;
 mod digits;
 mod front;
+mod looked;
+mod looked_digits;
 mod rounding;
+mod runs;
+mod scan;
+mod scanned;
 mod share;
+mod steps;
 mod text;
 mod totals;
 
 pub use blank::is_blank;
 pub use digits::{digits_u32, n_digits_in};
 pub use front::split_digits;
+pub use looked::Looked;
+pub use looked_digits::looked_share;
+pub use runs::{Run, Word};
+pub use scan::Scan;
+pub use scanned::add_scanned;
 pub use share::{Part, Share, Unit, count_share};
+pub use steps::Steps;
 pub use text::{Short, push_num, push_padded, push_text};
 pub use totals::Totals;

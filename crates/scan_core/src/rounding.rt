@@ -1,4 +1,5 @@
-ghost use Rattle.std.specs.Prelude.{◌≡◌, ◌*◌, ◌/◌, ◌^◌, ◌≤◌, length};
+ghost use Rattle.std.specs.Prelude.{◌≡◌, ◌+◌, ◌*◌, ◌/◌, ◌^◌, ◌<◌, ◌≤◌, length};
+ghost use Rattle.std.specs.Char.{digit_value};
 ghost use Rattle.scan_core.specs.Digits.{AreDigits, number_of};
 ghost use Rattle.scan_core.specs.Shares.{rounded};
 
@@ -31,4 +32,16 @@ fn cut_fraction(fraction: &[u8], scale: u64) -> u64
         carry = (u64::from(*digit - b'0') * scale + carry) / 10;
     }
     carry
+}
+
+/// A digit in the next smaller unit, before the quotient by ten, with the carry of the digits behind it.
+#[inline(always)]
+pub(crate) fn weighed_digit(digit: u8, scale: u64, carry: u64) -> u64
+    requires digit { digit_value digit < 10 }
+    requires scale { scale ≤ 1_000_000 }
+    requires carry { carry ≤ scale }
+    ensures value { result ≡ digit_value digit * scale + carry }
+    ensures small { result < 2 ^ 63 }
+{
+    u64::from(digit - b'0') * scale + carry
 }

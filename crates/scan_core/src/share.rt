@@ -1,7 +1,7 @@
-ghost use Rattle.std.specs.Prelude.{◌≡◌, ◌<◌, ◌≤◌, ◌^◌, ◌↔◌, IsTrue, IsSome, IfSome};
-ghost use Rattle.scan_core.specs.Digits.{AreDigits, number_of};
+ghost use Rattle.std.specs.Prelude.{◌≡◌, ◌+◌, ◌*◌, ◌<◌, ◌≤◌, ◌^◌, ◌↔◌, IsTrue, IsSome, IfSome};
+ghost use Rattle.scan_core.specs.Digits.{AreDigits};
 ghost use Rattle.scan_core.specs.Count.{count_of};
-ghost use Rattle.scan_core.specs.Shares.{share, fits_type, main_part, magnitude, scale_of, rounded, signed, is_within};
+ghost use Rattle.scan_core.specs.Shares.{has_share, share, fits_type, main_part, magnitude, scale_of, signed, is_within};
 ghost use Rattle.scan_core.specs.declared.share.Part.TheVariants.{Months, Days, Micros};
 
 use crate::digits::digits_u64;
@@ -54,23 +54,60 @@ pub fn count_share(whole: &[u8], fraction: &[u8], negative: bool, unit: Unit) ->
     requires whole { AreDigits whole.now }
     requires fraction { AreDigits fraction.now }
     ensures fits { IsSome result
-        ↔ IsTrue (fits_type (main_part unit) (share (main_part unit) (count_of negative whole.now fraction.now unit))) }
-    ensures months { IfSome result (λ given. given.months ≡ share Months (count_of negative whole.now fraction.now unit)) }
-    ensures days { IfSome result (λ given. given.days ≡ share Days (count_of negative whole.now fraction.now unit)) }
-    ensures micros { IfSome result (λ given. given.micros ≡ share Micros (count_of negative whole.now fraction.now unit)) }
+        ↔ IsTrue (has_share (count_of negative whole.now fraction.now unit)) }
+    ensures months { IfSome result (λ given.
+        given.months ≡ share Months (count_of negative whole.now fraction.now unit)) }
+    ensures days { IfSome result (λ given.
+        given.days ≡ share Days (count_of negative whole.now fraction.now unit)) }
+    ensures micros { IfSome result (λ given.
+        given.micros ≡ share Micros (count_of negative whole.now fraction.now unit)) }
 {
     let whole = digits_u64(whole)?;
     let next = rounded_fraction(fraction, unit.scale());
-    Some(Share {
-        months: signed_i32(negative, unit.months(whole, next))?,
-        days: signed_i32(negative, unit.days(whole, next))?,
-        micros: signed_i64(negative, unit.micros(whole, next))?,
-    })
+    share_of(negative, whole, next, unit)
+}
+
+/// The share of so many whole units and so many of the next smaller one, or None exactly where the main part leaves its
+/// type. A magnitude beyond 64 bits is cut to their end, which every type leaves too.
+#[inline(always)]
+pub(crate) fn share_of(negative: bool, whole: u64, next: u64, unit: Unit) -> Option<Share>
+    requires { next ≤ scale_of unit }
+    ensures fits { IsSome result
+        ↔ IsTrue (fits_type (main_part unit) (signed negative (magnitude (main_part unit) unit whole next))) }
+    ensures months { IfSome result (λ given. given.months ≡ signed negative (magnitude Months unit whole next)) }
+    ensures days { IfSome result (λ given. given.days ≡ signed negative (magnitude Days unit whole next)) }
+    ensures micros { IfSome result (λ given. given.micros ≡ signed negative (magnitude Micros unit whole next)) }
+{
+    let mut share = Share {
+        months: 0,
+        days: 0,
+        micros: 0,
+    };
+    match unit {
+        Unit::Year => share.months = signed_i32(negative, whole, 12, next)?,
+        Unit::Month => {
+            share.months = signed_i32(negative, whole, 1, 0)?;
+            share.days = turned(negative, next) as i32;
+        }
+        Unit::Day => {
+            share.days = signed_i32(negative, whole, 1, 0)?;
+            share.micros = turned(negative, next * 3_600_000_000);
+        }
+        Unit::Hour => {
+            share.micros = signed_i64(negative, whole, 3_600_000_000, next * 60_000_000)?;
+        }
+        Unit::Minute => {
+            share.micros = signed_i64(negative, whole, 60_000_000, next * 1_000_000)?;
+        }
+        Unit::Second => share.micros = signed_i64(negative, whole, 1_000_000, next)?,
+    }
+    Some(share)
 }
 
 impl Unit {
     /// How many of the next smaller unit make one.
-    fn scale(self) -> u64
+    #[inline(always)]
+    pub(crate) fn scale(self) -> u64
         ensures { result ≡ scale_of self }
     {
         match self {
@@ -81,60 +118,45 @@ impl Unit {
             Unit::Second => 1_000_000,
         }
     }
-
-    /// The months of `whole` of this unit and `next` of the next smaller one.
-    fn months(self, whole: u64, next: u64) -> u128
-        ensures { result ≡ magnitude Months self whole next }
-    {
-        match self {
-            Unit::Year => 12 * u128::from(whole) + u128::from(next),
-            Unit::Month => u128::from(whole),
-            Unit::Day | Unit::Hour | Unit::Minute | Unit::Second => 0,
-        }
-    }
-
-    /// The days of `whole` of this unit and `next` of the next smaller one.
-    fn days(self, whole: u64, next: u64) -> u128
-        ensures { result ≡ magnitude Days self whole next }
-    {
-        match self {
-            Unit::Month => u128::from(next),
-            Unit::Day => u128::from(whole),
-            Unit::Year | Unit::Hour | Unit::Minute | Unit::Second => 0,
-        }
-    }
-
-    /// The microseconds of `whole` of this unit and `next` of the next smaller one.
-    fn micros(self, whole: u64, next: u64) -> u128
-        ensures { result ≡ magnitude Micros self whole next }
-    {
-        let (whole, next) = (u128::from(whole), u128::from(next));
-        match self {
-            Unit::Year | Unit::Month => 0,
-            Unit::Day => next * 3_600_000_000,
-            Unit::Hour => whole * 3_600_000_000 + next * 60_000_000,
-            Unit::Minute => whole * 60_000_000 + next * 1_000_000,
-            Unit::Second => whole * 1_000_000 + next,
-        }
-    }
 }
 
-/// The magnitude with its sign, or None exactly where it leaves `i32`.
-fn signed_i32(negative: bool, magnitude: u128) -> Option<i32>
-    ensures fits { IsSome result ↔ IsTrue (is_within 32 (signed negative magnitude)) }
-    ensures value { IfSome result (λ value. value ≡ signed negative magnitude) }
+/// A magnitude with its sign.
+#[inline(always)]
+fn turned(negative: bool, magnitude: u64) -> i64
+    requires { magnitude < 2 ^ 63 }
+    ensures { result ≡ signed negative magnitude }
 {
-    let value = i128::try_from(magnitude).ok()?;
-    i32::try_from(if negative { -value } else { value }).ok()
+    let value = magnitude as i64;
+    if negative { -value } else { value }
 }
 
-/// The magnitude with its sign, or None exactly where it leaves `i64`.
-fn signed_i64(negative: bool, magnitude: u128) -> Option<i64>
-    ensures fits { IsSome result ↔ IsTrue (is_within 64 (signed negative magnitude)) }
-    ensures value { IfSome result (λ value. value ≡ signed negative magnitude) }
+/// So many units of this scale and so many of the smaller one, with their sign, or None exactly where they leave `i32`.
+#[inline(always)]
+fn signed_i32(negative: bool, whole: u64, scale: u64, next: u64) -> Option<i32>
+    requires scale { scale < 2 ^ 32 }
+    requires next { next < 2 ^ 32 }
+    ensures fits { IsSome result ↔ IsTrue (is_within 32 (signed negative (whole * scale + next))) }
+    ensures value { IfSome result (λ value. value ≡ signed negative (whole * scale + next)) }
 {
-    let value = i128::try_from(magnitude).ok()?;
-    i64::try_from(if negative { -value } else { value }).ok()
+    i32::try_from(signed_i64(negative, whole, scale, next)?).ok()
+}
+
+/// So many units of this scale and so many of the smaller one, with their sign, or None exactly where they leave `i64`.
+#[inline(always)]
+fn signed_i64(negative: bool, whole: u64, scale: u64, next: u64) -> Option<i64>
+    requires scale { scale < 2 ^ 32 }
+    requires next { next < 2 ^ 32 }
+    ensures fits { IsSome result ↔ IsTrue (is_within 64 (signed negative (whole * scale + next))) }
+    ensures value { IfSome result (λ value. value ≡ signed negative (whole * scale + next)) }
+{
+    let magnitude = whole.saturating_mul(scale).saturating_add(next);
+    if magnitude < 9_223_372_036_854_775_808 {
+        Some(turned(negative, magnitude))
+    } else if negative && magnitude == 9_223_372_036_854_775_808 {
+        Some(i64::MIN)
+    } else {
+        None
+    }
 }
 
 #[cfg(test)]

@@ -1,10 +1,10 @@
-ghost use Rattle.std.specs.Prelude.{◌≡◌, ◌+◌, ◌+ℤ◌, ◌<◌, ◌^◌, ◌↔◌, pos, IsTrue, IsSome, IfSome, IsNone};
+ghost use Rattle.std.specs.Prelude.{◌≡◌, ◌+◌, ◌+ℤ◌, ◌<◌, ◌≤◌, ◌^◌, ◌↔◌, pos, false, IsTrue, IsSome, IfSome, IfNone, IsNone};
 ghost use Rattle.scan_core.specs.Bounds.{IsBounded};
-ghost use Rattle.scan_core.specs.Shares.{fits_type};
+ghost use Rattle.scan_core.specs.Shares.{fits_type, magnitude, main_part, scale_of, signed};
 ghost use Rattle.scan_core.specs.Sums.{Added, first_sum_out};
 ghost use Rattle.scan_core.specs.declared.share.Part.TheVariants.{Months, Days, Micros};
 
-use crate::share::{Part, Share};
+use crate::share::{Part, Share, Unit, share_of};
 use std::marker::Model;
 
 /// The exact sums of the months, days and microseconds of shares. A sum may leave its part's type on the way and
@@ -54,6 +54,53 @@ impl Totals {
         self.days += i128::from(share.days);
         self.micros += i128::from(share.micros);
         self.adds += 1;
+    }
+
+    /// Adds the share of so many whole units and so many of the next smaller one, and answers whether it has one; without
+    /// one nothing changes. Each unit has a call of its own, so that only the sums of its parts are touched.
+    #[inline(always)]
+    pub(crate) fn add_count(&mut self, negative: bool, whole: u64, next: u64, unit: Unit) -> bool
+        requires room { self.old.adds < 2 ^ 63 }
+        requires next { next ≤ scale_of unit }
+        ensures fits { IsTrue result
+            ↔ IsTrue (fits_type (main_part unit) (signed negative (magnitude (main_part unit) unit whole next))) }
+        ensures months { IsTrue result →
+            self.new.months ≡ self.old.months +ℤ signed negative (magnitude Months unit whole next) }
+        ensures days { IsTrue result →
+            self.new.days ≡ self.old.days +ℤ signed negative (magnitude Days unit whole next) }
+        ensures micros { IsTrue result →
+            self.new.micros ≡ self.old.micros +ℤ signed negative (magnitude Micros unit whole next) }
+        ensures adds { IsTrue result → self.new.adds ≡ self.old.adds + 1 }
+        ensures kept { result ≡ false → self.new ≡ self.old }
+    {
+        match unit {
+            Unit::Year => self.add_some(share_of(negative, whole, next, Unit::Year)),
+            Unit::Month => self.add_some(share_of(negative, whole, next, Unit::Month)),
+            Unit::Day => self.add_some(share_of(negative, whole, next, Unit::Day)),
+            Unit::Hour => self.add_some(share_of(negative, whole, next, Unit::Hour)),
+            Unit::Minute => self.add_some(share_of(negative, whole, next, Unit::Minute)),
+            Unit::Second => self.add_some(share_of(negative, whole, next, Unit::Second)),
+        }
+    }
+
+    /// Adds the share, if any, and answers whether one is there.
+    #[inline(always)]
+    fn add_some(&mut self, share: Option<Share>) -> bool
+        requires { self.old.adds < 2 ^ 63 }
+        ensures some { IsTrue result ↔ IsSome share }
+        ensures added { IfSome share (λ share. (self.new.months ≡ self.old.months +ℤ share.months)
+            × (self.new.days ≡ self.old.days +ℤ share.days)
+            × (self.new.micros ≡ self.old.micros +ℤ share.micros)
+            × (self.new.adds ≡ self.old.adds + 1)) }
+        ensures kept { IfNone share (self.new ≡ self.old) }
+    {
+        match share {
+            Some(share) => {
+                self.add(share);
+                true
+            }
+            None => false,
+        }
     }
 
     /// The three sums, or None exactly where one leaves its type.

@@ -1,0 +1,87 @@
+-- Bytes that a scan has passed: one after the other, and all of a class that stand in front.
+use Rattle.std.proofs.Common.{◌≡◌, ◌⊎◌, inl, inr, ℕ, ◌+◌, ◌-◌, ◌≤◌, ◌&&◌, Bool, true, List, [], ◌∷◌, ◌++◌, length, take, refl, sym, ◌∙◌, ap, append_assoc, append-nil, length-append, arith}
+use Rattle.std.proofs.lemmas.List.{take_all}
+use Rattle.std.proofs.lemmas.List.Folds.{list_all-append}
+use Rattle.std.specs.List.{list_all}
+use Rattle.scan_core.specs.Fronts.{behind, leading}
+use Rattle.scan_core.specs.Scanning.{Passes, Place, ahead, between}
+use Rattle.scan_core.proofs.FrontFacts.{leading_and_behind}
+
+pub passes_none : (place : Place) → Passes [] place place
+passes_none place = record { same = refl; at = omega arith; split = refl }
+
+pub passes_more : (xs ys : List ℕ) (old mid new : Place) → Passes xs old mid → Passes ys mid new → Passes (xs ++ ys) old new
+passes_more xs ys old mid new p q = record {
+  same = q.same ∙ p.same;
+  at = omega (arith, p.at, q.at, length-append xs ys);
+  split = p.split ∙ ap (λ (l : List ℕ). xs ++ l) q.split ∙ sym (append_assoc xs ys (ahead new));
+}
+
+-- how many bytes are left
+pub passed_length : (bytes : List ℕ) (old new : Place) → Passes bytes old new → length (ahead old) ≡ length bytes + length (ahead new)
+passed_length bytes old new p = ap (λ (l : List ℕ). length l) p.split ∙ length-append bytes (ahead new)
+
+take_front : (xs ys : List ℕ) → take (length xs) (xs ++ ys) ≡ xs
+take_front [] ys = refl
+take_front (x ∷ xs) ys = ap (λ (l : List ℕ). x ∷ l) (take_front xs ys)
+
+-- what was passed stands between the two places
+pub between_passed : (bytes : List ℕ) (old new : Place) → Passes bytes old new → between old.at new.at new.text ≡ bytes
+between_passed bytes old new p =
+    let long : new.at - old.at ≡ length bytes = omega (arith, p.at) in
+    let same = p.same in
+    rw (long, same) (ap (λ (l : List ℕ). take (length bytes) l) p.split ∙ take_front bytes (ahead new))
+
+-- bytes of a class were passed, the first of all that stand in front
+pub record IsAmong (test : ℕ → Bool) (bytes : List ℕ) (old new : Place) : Type 0 where
+  pub all : list_all test bytes ≡ true
+  pub passed : Passes bytes old new
+  pub front : leading test (ahead old) ≡ bytes ++ leading test (ahead new)
+  pub rest : behind test (ahead old) ≡ behind test (ahead new)
+
+pub among_none : (test : ℕ → Bool) (place : Place) → IsAmong test [] place place
+among_none test place = record { all = refl; passed = passes_none place; front = refl; rest = refl }
+
+both : (a b : Bool) → a ≡ true → b ≡ true → (a && (b && true)) ≡ true
+both a b p q = rw (p, q) refl
+
+leading_cons : (test : ℕ → Bool) (b : ℕ) (bytes rest : List ℕ) → test b ≡ true → bytes ≡ (b ∷ []) ++ rest → leading test bytes ≡ b ∷ leading test rest
+leading_cons test b bytes rest h e = rw e (rw h refl)
+
+behind_cons : (test : ℕ → Bool) (b : ℕ) (bytes rest : List ℕ) → test b ≡ true → bytes ≡ (b ∷ []) ++ rest → behind test bytes ≡ behind test rest
+behind_cons test b bytes rest h e = rw e (rw h refl)
+
+-- one more byte of the class
+pub among_more : (test : ℕ → Bool) (bytes : List ℕ) (old mid new : Place) (b : ℕ) → IsAmong test bytes old mid → test b ≡ true → Passes (b ∷ []) mid new → IsAmong test (bytes ++ b ∷ []) old new
+among_more test bytes old mid new b m h p = record {
+  all = list_all-append test bytes (b ∷ []) ∙ both (list_all test bytes) (test b) m.all h;
+  passed = passes_more bytes (b ∷ []) old mid new m.passed p;
+  front = m.front ∙ ap (λ (l : List ℕ). bytes ++ l) (leading_cons test b (ahead mid) (ahead new) h p.split) ∙ sym (append_assoc bytes (b ∷ []) (leading test (ahead new)));
+  rest = m.rest ∙ behind_cons test b (ahead mid) (ahead new) h p.split;
+}
+
+-- where none of the class is left, all were passed
+among_all : (test : ℕ → Bool) (bytes : List ℕ) (old new : Place) → IsAmong test bytes old new → leading test (ahead new) ≡ [] → leading test (ahead old) ≡ bytes
+among_all test bytes old new m none = m.front ∙ ap (λ (l : List ℕ). bytes ++ l) none ∙ append-nil bytes
+
+pub record IsAll (test : ℕ → Bool) (bytes : List ℕ) (old new : Place) : Type 0 where
+  pub front : leading test (ahead old) ≡ bytes
+  pub rest : ahead new ≡ behind test (ahead old)
+  pub all : list_all test bytes ≡ true
+  pub passed : Passes bytes old new
+
+pub all_passed : (test : ℕ → Bool) (bytes : List ℕ) (old mid new : Place) → IsAmong test bytes old mid → leading test (ahead mid) ≡ [] → new ≡ mid → IsAll test bytes old new
+all_passed test bytes old mid new m none same =
+    rw same (record {
+      front = among_all test bytes old mid m none;
+      rest = sym (leading_and_behind test (ahead mid)) ∙ ap (λ (l : List ℕ). l ++ behind test (ahead mid)) none ∙ sym m.rest;
+      all = m.all;
+      passed = m.passed;
+    })
+
+-- at most a given number of those in front
+pub some_passed : (test : ℕ → Bool) (bytes : List ℕ) (old new : Place) (most : ℕ) → IsAmong test bytes old new
+    → (length bytes ≡ most) ⊎ ((length bytes ≤ most) × (leading test (ahead new) ≡ [])) → take most (leading test (ahead old)) ≡ bytes
+some_passed test bytes old new most m (inl full) =
+    ap (take most) m.front ∙ ap (λ (n : ℕ). take n (bytes ++ leading test (ahead new))) (sym full) ∙ take_front bytes (leading test (ahead new))
+some_passed test bytes old new most m (inr none) = ap (take most) (among_all test bytes old new m none.1) ∙ take_all most bytes none.0

@@ -1,0 +1,14 @@
+use Rattle.std.proofs.Common.{◌≡◌, ℕ, ◌+◌, List, length}
+use Rattle.scan_core.specs.Blanks.{is_blank}
+use Rattle.scan_core.specs.Scanning.{ahead, unseen}
+use Rattle.scan_core.proofs.Scans.{IsAmong}
+use Rattle.scan_core.proofs.scan.Scan.blanks.Given as goal
+
+abbrev pub invariant-loop : goal.invariant-loop
+invariant-loop g l = record {
+  among : (bytes : List ℕ) × IsAmong is_blank bytes l.initial.self l.self;
+  ticks : l.steps + unseen (ahead l.self) ≡ l.initial.steps + unseen (ahead l.initial.self);
+}
+
+abbrev pub decreases-loop : goal.decreases-loop
+decreases-loop g l = length (ahead l.self)

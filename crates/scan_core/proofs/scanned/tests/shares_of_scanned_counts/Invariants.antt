@@ -1,0 +1,4 @@
+use Rattle.scan_core.proofs.scanned.tests.shares_of_scanned_counts.Given as goal
+
+abbrev pub ghosts-sums : goal.ghosts-sums
+ghosts-sums g a = record { name = a.blank.name; parts = a.blank.parts }

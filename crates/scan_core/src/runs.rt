@@ -1,0 +1,219 @@
+//! The runs of digits, letters and blanks that a scan passes, as many as stand in front.
+ghost use Rattle.std.specs.Prelude.{◌≡◌, ◌+◌, ◌-◌, ◌*◌, ◌^◌, ◌<◌, ℕ, true};
+ghost use Rattle.std.specs.Char.{is_ascii_digit};
+ghost use Rattle.scan_core.specs.Runs.{Knows};
+
+use crate::scan::{Class, Scan};
+use crate::steps::Steps;
+use std::sync::ledger::Ledger;
+
+/// Digits that a scan passed: where they stand in its text, from `start` up to `end`, and their number. From 10^18 on
+/// the value is no longer the number, but it is at least 10^18 then.
+#[derive(Clone, Copy, Debug)]
+pub struct Run {
+    pub start: usize,
+    pub end: usize,
+    pub value: u64,
+}
+
+/// Letters that a scan passed: where they stand in its text, from `start` up to `end`, and, of at most seven, the letters
+/// packed into a number of eight bits each, the last the lowest. Of more letters the value is at least 2^56.
+#[derive(Clone, Copy, Debug)]
+pub struct Word {
+    pub start: usize,
+    pub end: usize,
+    pub value: u64,
+}
+
+/// The number with one more digit.
+#[inline(always)]
+pub(crate) fn with_digit(value: u64, digit: u8) -> u64
+    requires { is_ascii_digit digit ≡ true }
+    ensures { (n : ℕ) → Knows (10 ^ 18) value n → Knows (10 ^ 18) result (n * 10 + (digit - 48)) }
+{
+    if value < 1_000_000_000_000_000_000 {
+        value * 10 + u64::from(digit - b'0')
+    } else {
+        value
+    }
+}
+
+/// The packed letters with one more.
+#[inline(always)]
+fn with_letter(value: u64, letter: u8) -> u64
+    ensures { (n : ℕ) → Knows (2 ^ 56) value n → Knows (2 ^ 56) result (n * 256 + letter) }
+{
+    if value < 72_057_594_037_927_936 {
+        value * 256 + u64::from(letter)
+    } else {
+        value
+    }
+}
+
+impl<'a> Scan<'a> {
+    ghost use Rattle.std.specs.Prelude.{◌≡◌, ◌⊎◌, ◌+◌, ◌<◌, [], ◌∷◌, take, true, IfSome, IfNone};
+    ghost use Rattle.std.specs.Char.{is_ascii_digit, is_ascii_alphabetic};
+    ghost use Rattle.scan_core.specs.Blanks.{is_blank};
+    ghost use Rattle.scan_core.specs.Fronts.{leading, behind, front_digits, after_digits};
+    ghost use Rattle.scan_core.specs.Runs.{IsRun, IsWord, digits_of, letters_of};
+    ghost use Rattle.scan_core.specs.Scanning.{Passes, ahead, unseen};
+
+    /// The digits in front, perhaps none, which are passed.
+    #[inline(always)]
+    pub fn digits<L: Ledger>(&mut self, steps: &mut Steps<L>) -> Run
+        ensures run { IsRun self.new.text result }
+        ensures front { digits_of self.new.text result ≡ front_digits (ahead self.old) }
+        ensures rest { ahead self.new ≡ after_digits (ahead self.old) }
+        ensures passed { Passes (front_digits (ahead self.old)) self.old self.new }
+        ensures start { result.start ≡ self.old.at }
+        ensures end { result.end ≡ self.new.at }
+        ensures ticks { steps.new + unseen (ahead self.new) ≡ steps.old + unseen (ahead self.old) }
+    {
+        let start = self.at();
+        let mut value = 0;
+        while let Some(digit) = self.next_in(Class::Digit, steps) {
+            value = with_digit(value, digit);
+        }
+        Run {
+            start,
+            end: self.at(),
+            value,
+        }
+    }
+
+    /// The digit in front, which is passed, unless no more are to be.
+    #[inline(always)]
+    fn next_of_digits<L: Ledger>(&mut self, left: usize, steps: &mut Steps<L>) -> Option<u8>
+        ensures some { IfSome result (λ digit. (0 < left) × (is_ascii_digit digit ≡ true) × Passes (digit ∷ []) self.old self.new) }
+        ensures none { IfNone result (((left ≡ 0) ⊎ (front_digits (ahead self.old) ≡ [])) × (self.new ≡ self.old)) }
+        ensures ticks { steps.new + unseen (ahead self.new) ≡ steps.old + unseen (ahead self.old) }
+    {
+        if left == 0 {
+            return None;
+        }
+        self.next_in(Class::Digit, steps)
+    }
+
+    /// At most this many of the digits in front, perhaps none, which are passed.
+    #[inline(always)]
+    pub fn digits_up_to<L: Ledger>(&mut self, most: usize, steps: &mut Steps<L>) -> Run
+        ensures run { IsRun self.new.text result }
+        ensures front { digits_of self.new.text result ≡ take most (front_digits (ahead self.old)) }
+        ensures passed { Passes (take most (front_digits (ahead self.old))) self.old self.new }
+        ensures start { result.start ≡ self.old.at }
+        ensures end { result.end ≡ self.new.at }
+        ensures ticks { steps.new + unseen (ahead self.new) ≡ steps.old + unseen (ahead self.old) }
+    {
+        let start = self.at();
+        let mut value = 0;
+        let mut left = most;
+        while let Some(digit) = self.next_of_digits(left, steps) {
+            value = with_digit(value, digit);
+            left -= 1;
+        }
+        Run {
+            start,
+            end: self.at(),
+            value,
+        }
+    }
+
+    /// Passes the blanks in front.
+    #[inline(always)]
+    pub fn blanks<L: Ledger>(&mut self, steps: &mut Steps<L>)
+        ensures rest { ahead self.new ≡ behind is_blank (ahead self.old) }
+        ensures passed { Passes (leading is_blank (ahead self.old)) self.old self.new }
+        ensures ticks { steps.new + unseen (ahead self.new) ≡ steps.old + unseen (ahead self.old) }
+    {
+        while let Some(_) = self.next_in(Class::Blank, steps) {}
+    }
+
+    /// The letters in front, perhaps none, which are passed.
+    #[inline(always)]
+    pub fn letters<L: Ledger>(&mut self, steps: &mut Steps<L>) -> Word
+        ensures word { IsWord self.new.text result }
+        ensures front { letters_of self.new.text result ≡ leading is_ascii_alphabetic (ahead self.old) }
+        ensures rest { ahead self.new ≡ behind is_ascii_alphabetic (ahead self.old) }
+        ensures passed { Passes (leading is_ascii_alphabetic (ahead self.old)) self.old self.new }
+        ensures start { result.start ≡ self.old.at }
+        ensures end { result.end ≡ self.new.at }
+        ensures ticks { steps.new + unseen (ahead self.new) ≡ steps.old + unseen (ahead self.old) }
+    {
+        let start = self.at();
+        let mut value = 0;
+        while let Some(letter) = self.next_in(Class::Letter, steps) {
+            value = with_letter(value, letter);
+        }
+        Word {
+            start,
+            end: self.at(),
+            value,
+        }
+    }
+}
+
+#[cfg(test)]
+mod tests {
+    use super::*;
+    use crate::looked::Looked;
+    use std::marker::Brand;
+    use std::sync::ledger::Blank;
+    use std::test::Fail;
+
+    /// The value and the end of the digits in front, of the first six of them, and of the letters in front.
+    fn fronts<L: Ledger>(text: &Looked<'_>, blank: Blank) -> [(u64, usize); 3]
+        requires name { blank.name ≡ L.name }
+        requires parts { blank.parts ≡ L.parts }
+        requires some { 0 < L.parts }
+    {
+        let mut steps = Steps::<L>::new(blank);
+        let digits = Scan::new(text, &mut steps).digits(&mut steps);
+        let six = Scan::new(text, &mut steps).digits_up_to(6, &mut steps);
+        let letters = Scan::new(text, &mut steps).letters(&mut steps);
+        [
+            (digits.value, digits.end),
+            (six.value, six.end),
+            (letters.value, letters.end),
+        ]
+    }
+
+    #[test]
+    fn digits_and_letters_end_at_another_byte(rt: HostRuntime) -> Result<(), Fail> {
+        for (text, digits, six, letters) in [
+            ("", (0, 0), (0, 0), (0, 0)),
+            ("007x", (7, 3), (7, 3), (0, 0)),
+            ("/9", (0, 0), (0, 0), (0, 0)),
+            ("9:", (9, 1), (9, 1), (0, 0)),
+            ("1234567", (1_234_567, 7), (123_456, 6), (0, 0)),
+            ("day 1", (0, 0), (0, 0), (0x64_6179, 3)),
+            ("AZaz[", (0, 0), (0, 0), (0x415A_617A, 4)),
+            ("minutes`", (0, 0), (0, 0), (0x6D_696E_7574_6573, 7)),
+        ] {
+            let want = [digits, six, letters];
+            let found = fronts::<Brand>(&Looked::new(text), Blank::new(1));
+            assert_eq!(rt; found, want, "at {text}");
+        }
+        Ok(())
+    }
+
+    #[test]
+    fn great_values_stay_great(rt: HostRuntime) -> Result<(), Fail> {
+        for (text, least, most) in [
+            (
+                "999999999999999999",
+                999_999_999_999_999_999,
+                999_999_999_999_999_999,
+            ),
+            ("1000000000000000000", 1_000_000_000_000_000_000, u64::MAX),
+            ("18446744073709551616", 1_000_000_000_000_000_000, u64::MAX),
+            ("00000000000000000000000000000000000000000000000000", 0, 0),
+        ] {
+            let value = fronts::<Brand>(&Looked::new(text), Blank::new(1))[0].0;
+            assert!(rt; least <= value && value <= most, "at {text}");
+        }
+        let eight = fronts::<Brand>(&Looked::new("fortnight"), Blank::new(1))[2];
+        assert!(rt; eight.0 >= 1 << 56);
+        assert_eq!(rt; eight.1, 9);
+        Ok(())
+    }
+}
