@@ -21,7 +21,7 @@ use Rattle.pg_interval_2.specs.Ranges.{IsInRange}
 use Rattle.pg_interval_2.specs.Parts.{hours_of, minutes_of, seconds_of, subsecond_of}
 use Rattle.pg_interval_2.proofs.Widths.{length_decimal_micros}
 use Rattle.pg_interval_2.proofs.WrittenDigits.{number_of-padded, length-padded, rounded-padded}
-use Rattle.pg_interval_2.proofs.Signs.{signed-zero, fits_type-smaller, fits_type-signed_zero, abs_fits, signed_three}
+use Rattle.pg_interval_2.proofs.Signs.{Serves, signed-zero, signed-abs, fits_type-serves, fits_type-signed_zero, abs_fits, signed_three}
 use Rattle.pg_interval_2.proofs.AddsUp.{AddsUp, AddsUp-one, AddsUp-append, AddsUp-same}
 use Rattle.pg_interval_2.proofs.SumsTo.{SumsTo, time_of, fits_micros}
 use Rattle.pg_interval_2.proofs.WrittenCounts.{magnitude-zero, time_parts}
@@ -66,70 +66,68 @@ AddsUp-filter part counts z sums = record {
 abbrev pub micros_digits : ℕ → List ℕ
 micros_digits micros = if micros == 0 then [] else padded 6 micros
 
+-- six digits at most are left by a cut after six
+pub uncut_micros : (micros : ℕ) → micros < 1_000_000 → take 6 (micros_digits micros) ≡ micros_digits micros
+uncut_micros micros below =
+    cond_both (micros == 0) _ _ (λ (digits : List ℕ). take 6 digits ≡ digits) (λ _. refl)
+    (λ _. take_all 6 (padded 6 micros) (omega (arith, length-padded 6 micros, length_decimal_micros micros below)))
+
 cut_micros : (micros : ℕ) → micros < 1_000_000 → rounded 1_000_000 (take 6 (micros_digits micros)) ≡ micros
 cut_micros micros below =
-    cond_both (micros == 0) _ _ (λ digits. rounded 1_000_000 (take 6 digits) ≡ micros)
-    (λ zero_is. rounded-nil 1_000_000 ∙ sym (eqb-true micros 0 zero_is))
-    (λ _. ap (rounded 1_000_000) (take_all 6 (padded 6 micros) (omega (arith, length-padded 6 micros, length_decimal_micros micros below))) ∙ rounded-padded micros below)
+    ap (rounded 1_000_000) (uncut_micros micros below)
+    ∙ cond_both (micros == 0) _ _ (λ digits. rounded 1_000_000 digits ≡ micros) (λ zero_is. rounded-nil 1_000_000 ∙ sym (eqb-true micros 0 zero_is)) (λ _. rounded-padded micros below)
 
-abbrev pub hour_count : ℤ → ℕ → Count
-hour_count micros width = count_of (is_negative micros) (padded width (hours_of micros)) [] Hour
+abbrev pub hour_count : Bool → ℕ → ℤ → Count
+hour_count negative width micros = count_of negative (padded width (hours_of micros)) [] Hour
 
-abbrev pub minute_count : ℤ → Count
-minute_count micros = count_of (is_negative micros) (padded 2 (minutes_of micros)) [] Minute
+abbrev pub minute_count : Bool → ℤ → Count
+minute_count negative micros = count_of negative (padded 2 (minutes_of micros)) [] Minute
 
-abbrev pub second_count : ℤ → Count
-second_count micros = count_of (is_negative micros) (padded 2 (seconds_of micros)) (take 6 (micros_digits (subsecond_of micros))) Second
+abbrev pub second_count : Bool → ℤ → Count
+second_count negative micros = count_of negative (padded 2 (seconds_of micros)) (take 6 (micros_digits (subsecond_of micros))) Second
 
 -- one field of a part of a number
-field_sum : (part : Part) (c : Count) (w r : ℕ) (z : ℤ) → number_of c.whole ≡ w → rounded (scale_of c.unit) c.fraction ≡ r → c.negative ≡ is_negative z → magnitude part c.unit w r ≤ unsigned_abs z → IsTrue (fits_type part z)
-    → AddsUp part (c ∷ []) (signed (is_negative z) (magnitude part c.unit w r))
-field_sum part c w r z whole fraction sign below fits =
-    rw (← sign) (AddsUp-one part c w r whole fraction (rw sign (fits_type-smaller part z (magnitude part c.unit w r) below fits)))
+pub field_sum : (part : Part) (c : Count) (w r : ℕ) (z : ℤ) → number_of c.whole ≡ w → rounded (scale_of c.unit) c.fraction ≡ r → Serves c.negative z → magnitude part c.unit w r ≤ unsigned_abs z → IsTrue (fits_type part z)
+    → AddsUp part (c ∷ []) (signed c.negative (magnitude part c.unit w r))
+field_sum part c w r z whole fraction serves below fits = AddsUp-one part c w r whole fraction (fits_type-serves part c.negative z (magnitude part c.unit w r) serves below fits)
 
--- the hours, minutes and seconds, each with the number's sign
-abbrev pub three_counts : ℕ → ℤ → List Count
-three_counts width micros = hour_count micros width ∷ minute_count micros ∷ second_count micros ∷ []
+-- the hours, minutes and seconds, each with this sign
+abbrev pub three_counts : Bool → ℕ → ℤ → List Count
+three_counts negative width micros = hour_count negative width micros ∷ minute_count negative micros ∷ second_count negative micros ∷ []
 
-three_micros : (width : ℕ) (micros : ℤ) → IsTrue (fits_type Micros micros) → AddsUp Micros (three_counts width micros) micros
-three_micros width micros fits =
+three_micros : (negative : Bool) (width : ℕ) (micros : ℤ) → Serves negative micros → IsTrue (fits_type Micros micros) → AddsUp Micros (three_counts negative width micros) micros
+three_micros negative width micros serves fits =
     let small : unsigned_abs micros ≤ 2 ^ 63 = abs_fits Micros micros fits in
     AddsUp-same Micros _ _ _
-    (AddsUp-append Micros (hour_count micros width ∷ []) _ _ _ (field_sum Micros (hour_count micros width) (hours_of micros) 0 micros (number_of-padded width _ (omega arith)) (rounded-nil _) refl (omega arith) fits)
-    (AddsUp-append Micros (minute_count micros ∷ []) _ _ _ (field_sum Micros (minute_count micros) (minutes_of micros) 0 micros (number_of-padded 2 _ (omega arith)) (rounded-nil _) refl (omega arith) fits)
-    (field_sum Micros (second_count micros) (seconds_of micros) (subsecond_of micros) micros (number_of-padded 2 _ (omega arith)) (cut_micros _ (omega arith)) refl (omega arith) fits)))
-    (signed_three micros _ _ _ (omega (arith, time_parts micros)))
+    (AddsUp-append Micros (hour_count negative width micros ∷ []) _ _ _ (field_sum Micros (hour_count negative width micros) (hours_of micros) 0 micros (number_of-padded width _ (omega arith)) (rounded-nil _) serves (omega arith) fits)
+    (AddsUp-append Micros (minute_count negative micros ∷ []) _ _ _ (field_sum Micros (minute_count negative micros) (minutes_of micros) 0 micros (number_of-padded 2 _ (omega arith)) (rounded-nil _) serves (omega arith) fits)
+    (field_sum Micros (second_count negative micros) (seconds_of micros) (subsecond_of micros) micros (number_of-padded 2 _ (omega arith)) (cut_micros _ (omega arith)) serves (omega arith) fits)))
+    (signed_three negative micros _ _ _ serves (omega (arith, time_parts micros)))
 
 -- a field that has nothing of a part
-field_nothing : (part : Part) (c : Count) (w r : ℕ) → number_of c.whole ≡ w → rounded (scale_of c.unit) c.fraction ≡ r → magnitude part c.unit w r ≡ 0 → AddsUp part (c ∷ []) (pos 0)
+pub field_nothing : (part : Part) (c : Count) (w r : ℕ) → number_of c.whole ≡ w → rounded (scale_of c.unit) c.fraction ≡ r → magnitude part c.unit w r ≡ 0 → AddsUp part (c ∷ []) (pos 0)
 field_nothing part c w r whole fraction none =
     AddsUp-same part _ _ _ (AddsUp-one part c w r whole fraction (rw none (fits_type-signed_zero part c.negative))) (rw none (signed-zero c.negative))
 
-three_months : (width : ℕ) (micros : ℤ) → IsTrue (fits_type Micros micros) → AddsUp Months (three_counts width micros) (pos 0)
-three_months width micros fits =
-    let small : unsigned_abs micros ≤ 2 ^ 63 = abs_fits Micros micros fits in
-    AddsUp-append Months (hour_count micros width ∷ []) _ (pos 0) _ (field_nothing Months (hour_count micros width) (hours_of micros) 0 (number_of-padded width _ (omega arith)) (rounded-nil _) refl)
-    (AddsUp-append Months (minute_count micros ∷ []) _ (pos 0) _ (field_nothing Months (minute_count micros) (minutes_of micros) 0 (number_of-padded 2 _ (omega arith)) (rounded-nil _) refl)
-    (field_nothing Months (second_count micros) (seconds_of micros) (subsecond_of micros) (number_of-padded 2 _ (omega arith)) (cut_micros _ (omega arith)) refl))
+three_nothing : (part : Part) (negative : Bool) (width : ℕ) (micros : ℤ) → unsigned_abs micros ≤ 2 ^ 63
+    → magnitude part Hour (hours_of micros) 0 ≡ 0 → magnitude part Minute (minutes_of micros) 0 ≡ 0 → magnitude part Second (seconds_of micros) (subsecond_of micros) ≡ 0 → AddsUp part (three_counts negative width micros) (pos 0)
+three_nothing part negative width micros small no_hours no_minutes no_seconds =
+    AddsUp-append part (hour_count negative width micros ∷ []) _ (pos 0) _ (field_nothing part (hour_count negative width micros) (hours_of micros) 0 (number_of-padded width _ (omega arith)) (rounded-nil _) no_hours)
+    (AddsUp-append part (minute_count negative micros ∷ []) _ (pos 0) _ (field_nothing part (minute_count negative micros) (minutes_of micros) 0 (number_of-padded 2 _ (omega arith)) (rounded-nil _) no_minutes)
+    (field_nothing part (second_count negative micros) (seconds_of micros) (subsecond_of micros) (number_of-padded 2 _ (omega arith)) (cut_micros _ (omega arith)) no_seconds))
 
-three_days : (width : ℕ) (micros : ℤ) → IsTrue (fits_type Micros micros) → AddsUp Days (three_counts width micros) (pos 0)
-three_days width micros fits =
-    let small : unsigned_abs micros ≤ 2 ^ 63 = abs_fits Micros micros fits in
-    AddsUp-append Days (hour_count micros width ∷ []) _ (pos 0) _ (field_nothing Days (hour_count micros width) (hours_of micros) 0 (number_of-padded width _ (omega arith)) (rounded-nil _) refl)
-    (AddsUp-append Days (minute_count micros ∷ []) _ (pos 0) _ (field_nothing Days (minute_count micros) (minutes_of micros) 0 (number_of-padded 2 _ (omega arith)) (rounded-nil _) refl)
-    (field_nothing Days (second_count micros) (seconds_of micros) (subsecond_of micros) (number_of-padded 2 _ (omega arith)) (cut_micros _ (omega arith)) refl))
-
-pub three_counts-sum : (width : ℕ) (t : Interval) → IsInRange t → SumsTo (three_counts width t.microseconds) (time_of t)
-three_counts-sum width t range =
+pub three_counts-sum : (negative : Bool) (width : ℕ) (t : Interval) → IsInRange t → Serves negative t.microseconds → SumsTo (three_counts negative width t.microseconds) (time_of t)
+three_counts-sum negative width t range serves =
     let fits : IsTrue (fits_type Micros t.microseconds) = fits_micros t.microseconds range.microseconds in
+    let small : unsigned_abs t.microseconds ≤ 2 ^ 63 = abs_fits Micros t.microseconds fits in
     record {
-      months = three_months width t.microseconds fits;
-      days = three_days width t.microseconds fits;
-      micros = three_micros width t.microseconds fits;
+      months = three_nothing Months negative width t.microseconds small refl refl refl;
+      days = three_nothing Days negative width t.microseconds small refl refl refl;
+      micros = three_micros negative width t.microseconds serves fits;
     }
 
 -- those of them that aren't 0
-pub kept_counts-sum : (width : ℕ) (t : Interval) → IsInRange t → SumsTo (filter is_nonzero (three_counts width t.microseconds)) (time_of t)
+pub kept_counts-sum : (width : ℕ) (t : Interval) → IsInRange t → SumsTo (filter is_nonzero (three_counts (is_negative t.microseconds) width t.microseconds)) (time_of t)
 kept_counts-sum width t range =
-    let all = three_counts-sum width t range in
+    let all = three_counts-sum (is_negative t.microseconds) width t range (signed-abs t.microseconds) in
     record { months = AddsUp-filter Months _ _ all.months; days = AddsUp-filter Days _ _ all.days; micros = AddsUp-filter Micros _ _ all.micros }

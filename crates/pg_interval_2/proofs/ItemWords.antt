@@ -35,7 +35,7 @@ sign_no_blanks true sign h = rw h (refl, tt)
 sign_no_blanks false sign (inl none) = rw none tt
 sign_no_blanks false sign (inr some) = let plus = some.1 in rw plus (refl, tt)
 
-point_no_blanks : (fraction tail : List ℕ) → IsFraction fraction tail → NoBlanks tail
+pub point_no_blanks : (fraction tail : List ℕ) → IsFraction fraction tail → NoBlanks tail
 point_no_blanks fraction tail (inl none) = let nothing = none.1 in rw nothing tt
 point_no_blanks fraction tail (inr some) = let point = some.1 in rw point (refl, digits_no_blanks fraction some.0)
 

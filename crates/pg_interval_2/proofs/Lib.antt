@@ -32,3 +32,8 @@ pub mod CountedFacts
 pub mod PostgresSteps
 pub mod PostgresEnds
 pub mod OneList
+pub mod SqlWords
+pub mod SqlCounts
+pub mod SqlSolid
+pub mod SqlSpelled
+pub mod SqlReadBack

@@ -72,14 +72,14 @@ day_names = (refl, refl)
 
 -- ---- a clock
 
-padded_field : (width n : ℕ) → n < 2 ^ 64 → IsField (padded width n)
+pub padded_field : (width n : ℕ) → n < 2 ^ 64 → IsField (padded width n)
 padded_field width n small = (omega (arith, length-padded width n, decimal_nonempty n small), AreDigits-padded width n small)
 
-fraction_is : (micros : ℕ) → micros < 2 ^ 64 → IsFraction (micros_digits micros) (fraction_text micros)
+pub fraction_is : (micros : ℕ) → micros < 2 ^ 64 → IsFraction (micros_digits micros) (fraction_text micros)
 unfolding fraction_text
 fraction_is micros small = cond_two (micros == 0) IsFraction _ _ _ _ (λ _. inl (refl, refl)) (λ _. inr (AreDigits-padded 6 micros small, refl))
 
-clock_is : (micros : ℤ) → unsigned_abs micros ≤ 2 ^ 63 → IsClock (minus (is_negative micros) ++ clock_text 2 micros) (filter is_nonzero (three_counts 2 micros))
+clock_is : (micros : ℤ) → unsigned_abs micros ≤ 2 ^ 63 → IsClock (minus (is_negative micros) ++ clock_text 2 micros) (filter is_nonzero (three_counts (is_negative micros) 2 micros))
 unfolding clock_text hours_text field_text
 clock_is micros small = record {
   negative = is_negative micros;
@@ -99,11 +99,11 @@ clock_is micros small = record {
 }
 
 abbrev clock_items : ℤ → List (List Count)
-clock_items micros = if int_eq micros (pos 0) then [] else (filter is_nonzero (three_counts 2 micros) ∷ [])
+clock_items micros = if int_eq micros (pos 0) then [] else (filter is_nonzero (three_counts (is_negative micros) 2 micros) ∷ [])
 
 -- the counts of the written time, none where it is 0
 abbrev pub clock_part : ℤ → List Count
-clock_part micros = if int_eq micros (pos 0) then [] else filter is_nonzero (three_counts 2 micros)
+clock_part micros = if int_eq micros (pos 0) then [] else filter is_nonzero (three_counts (is_negative micros) 2 micros)
 
 clock_join : (micros : ℤ) → unsigned_abs micros ≤ 2 ^ 63 → IsJoin (IsItem postgres_names) (clock_words micros) (clock_items micros)
 unfolding clock_words
@@ -124,7 +124,7 @@ postgres_counts months days micros = date_counts months days ++ clock_part micro
 rises_clock : (micros : ℤ) → RisesFrom 3 (clock_part micros)
 rises_clock micros =
     cond_both (int_eq micros (pos 0)) _ _ (RisesFrom 3) (λ _. tt)
-    (λ _. rises_filter is_nonzero 3 (three_counts 2 micros) (omega arith, (omega arith, (omega arith, tt))))
+    (λ _. rises_filter is_nonzero 3 (three_counts (is_negative micros) 2 micros) (omega arith, (omega arith, (omega arith, tt))))
 
 distinct : (months days micros : ℤ) → IsTrue (has_distinct_units (postgres_counts months days micros))
 distinct months days micros =

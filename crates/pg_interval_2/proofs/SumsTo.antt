@@ -1,5 +1,5 @@
 -- Counts whose sum is an interval: a text that spells them denotes it.
-use Rattle.std.proofs.Common.{◌≡◌, ℕ, List, [], ◌++◌, IsTrue, ℤ, pos, negsuc, refl, ◌∙◌, sym, arith, lt-ltb}
+use Rattle.std.proofs.Common.{◌≡◌, ℕ, List, [], ◌++◌, IsTrue, ℤ, pos, negsuc, ◌+ℤ◌, refl, ◌∙◌, sym, arith, lt-ltb}
 use Rattle.std.proofs.lemmas.Int.{ints}
 use Rattle.std.proofs.lemmas.Bool.{and_from}
 use Rattle.std.specs.Int.{w32, w64}
@@ -19,7 +19,13 @@ pub record SumsTo (counts : List Count) (t : Interval) : Type 0 where
   pub days : AddsUp Days counts t.days
   pub micros : AddsUp Micros counts t.microseconds
 
--- the months and days of an interval, and its time
+-- the months of an interval, its days, its months and days, and its time
+abbrev pub months_alone : Interval → Interval
+months_alone t = record { months = t.months; days = pos 0; microseconds = pos 0 }
+
+abbrev pub days_alone : Interval → Interval
+days_alone t = record { months = pos 0; days = t.days; microseconds = pos 0 }
+
 abbrev pub date_of : Interval → Interval
 date_of t = record { months = t.months; days = t.days; microseconds = pos 0 }
 
@@ -33,12 +39,15 @@ SumsTo-nil t months days micros = record {
   micros = AddsUp-same Micros [] (pos 0) _ (AddsUp-nil Micros) (sym micros);
 }
 
-pub SumsTo-date_time : (dates times : List Count) (t : Interval) → SumsTo dates (date_of t) → SumsTo times (time_of t) → SumsTo (dates ++ times) t
-SumsTo-date_time dates times t date time = record {
-  months = AddsUp-same Months _ _ _ (AddsUp-append Months dates times t.months (pos 0) date.months time.months) (omega (arith, ints));
-  days = AddsUp-same Days _ _ _ (AddsUp-append Days dates times t.days (pos 0) date.days time.days) (omega (arith, ints));
-  micros = AddsUp-same Micros _ _ _ (AddsUp-append Micros dates times (pos 0) t.microseconds date.micros time.micros) (omega (arith, ints));
+pub SumsTo-append : (xs ys : List Count) (t u v : Interval) → SumsTo xs t → SumsTo ys u → t.months +ℤ u.months ≡ v.months → t.days +ℤ u.days ≡ v.days → t.microseconds +ℤ u.microseconds ≡ v.microseconds → SumsTo (xs ++ ys) v
+SumsTo-append xs ys t u v first second months days micros = record {
+  months = AddsUp-same Months _ _ _ (AddsUp-append Months xs ys _ _ first.months second.months) months;
+  days = AddsUp-same Days _ _ _ (AddsUp-append Days xs ys _ _ first.days second.days) days;
+  micros = AddsUp-same Micros _ _ _ (AddsUp-append Micros xs ys _ _ first.micros second.micros) micros;
 }
+
+pub SumsTo-date_time : (dates times : List Count) (t : Interval) → SumsTo dates (date_of t) → SumsTo times (time_of t) → SumsTo (dates ++ times) t
+SumsTo-date_time dates times t date time = SumsTo-append dates times (date_of t) (time_of t) t date time (omega (arith, ints)) (omega (arith, ints)) (omega (arith, ints))
 
 -- the numbers of a part's type pass its test
 pub fits_months : (z : ℤ) → FitsSigned w32 z → IsTrue (fits_type Months z)

@@ -121,7 +121,7 @@ time_counts-micros micros fits =
     (AddsUp-append Micros _ _ _ _ (counted Micros micros (hours_of micros) Hour (omega arith) (omega arith) fits)
     (AddsUp-append Micros _ _ _ _ (counted Micros micros (minutes_of micros) Minute (omega arith) (omega arith) fits)
     (seconds_counts-sum Micros (is_negative micros) (seconds_of micros) (subsecond_of micros) (omega arith) (omega arith) (fits_type-smaller Micros micros _ (omega arith) fits))))
-    (signed_three micros _ _ _ (omega (arith, time_parts micros)))
+    (signed_three (is_negative micros) micros _ _ _ (signed-abs micros) (omega (arith, time_parts micros)))
 
 time_counts-months : (micros : ℤ) → IsTrue (fits_type Micros micros) → AddsUp Months (time_counts micros) (pos 0)
 time_counts-months micros fits =

@@ -19,3 +19,6 @@ pub mod ItemViews
 pub mod UnitSets
 pub mod CountedItems
 pub mod PostgresTally
+pub mod Sql
+pub mod SqlText
+pub mod inside

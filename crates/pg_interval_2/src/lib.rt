@@ -17,6 +17,7 @@ mod parts;
 mod postgres;
 mod postgres_text;
 mod scan;
+mod sql_text;
 mod style;
 mod tally;
 mod text;

@@ -5,4 +5,6 @@ pub enum Style {
     Iso,
     /// `postgres`, the server's own default: `1 year 2 mons 3 days 04:05:06`.
     Postgres,
+    /// `sql_standard`: `+1-2 +3 +4:05:06`.
+    Sql,
 }

@@ -1,6 +1,7 @@
 use crate::interval::Interval;
 use crate::iso_text::iso_text;
 use crate::postgres_text::postgres_text;
+use crate::sql_text::sql_text;
 use crate::style::Style;
 use scan_core::Short;
 
@@ -19,6 +20,7 @@ impl Interval {
         match style {
             Style::Iso => iso_text(self.months, self.days, self.microseconds),
             Style::Postgres => postgres_text(self.months, self.days, self.microseconds),
+            Style::Sql => sql_text(self.months, self.days, self.microseconds),
         }
     }
 }
