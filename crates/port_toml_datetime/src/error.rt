@@ -1,48 +1,107 @@
 //! Why a text is no date-time.
-ghost use Rattle.std.specs.Prelude.{◌≡◌, Some, None, option_map};
-ghost use Rattle.port_toml_datetime.specs.Faults.{bare_fault, fault, fault_of, fault_text};
+ghost use Rattle.std.specs.Prelude.{◌≡◌, Some, option_map};
+ghost use Rattle.port_toml_datetime.specs.Faults.{fault_of, fault_text, words_of};
 
 use std::fmt;
 use std::fmt::Display;
+
+/// The checks that can fail, in the order of the table.
+///
+/// One byte says which it was, so that readers hand on no texts.
+#[derive(Clone, Copy, Debug, PartialEq, Eq)]
+pub(crate) enum Check {
+    YearOrHour,
+    YearOrHourMark,
+    Month,
+    MonthMark,
+    Day,
+    YearWidth,
+    MonthWidth,
+    DayWidth,
+    MonthRange,
+    DayTo28,
+    DayTo29,
+    DayTo30,
+    DayTo31,
+    Delimiter,
+    Hour,
+    HourMark,
+    Minute,
+    Second,
+    Nanosecond,
+    HourWidth,
+    MinuteWidth,
+    SecondWidth,
+    HourRange,
+    MinuteRange,
+    SecondRange,
+    Offset,
+    OffsetHour,
+    OffsetHourMark,
+    OffsetMinute,
+    OffsetHourWidth,
+    OffsetMinuteWidth,
+    OffsetHourRange,
+    OffsetMinuteRange,
+    End,
+}
+
+/// The part that is wrong, and what was expected there.
+fn words(check: Check) -> (Option<&'static str>, Option<&'static str>)
+    ensures what { option_map (λ s. s.now) result.0 ≡ (words_of check).what }
+    ensures expected { option_map (λ s. s.now) result.1 ≡ (words_of check).expected }
+{
+    match check {
+        Check::YearOrHour => (None, Some("year or hour")),
+        Check::YearOrHourMark => (None, Some("`-` (YYYY-MM) or `:` (HH:MM)")),
+        Check::Month => (Some("date"), Some("month")),
+        Check::MonthMark => (Some("date"), Some("`-` (MM-DD)")),
+        Check::Day => (Some("date"), Some("day")),
+        Check::YearWidth => (Some("date"), Some("a four-digit year (YYYY)")),
+        Check::MonthWidth => (Some("date"), Some("a two-digit month (MM)")),
+        Check::DayWidth => (Some("date"), Some("a two-digit day (DD)")),
+        Check::MonthRange => (Some("date"), Some("month between 01 and 12")),
+        Check::DayTo28 => (Some("date"), Some("day between 01 and 28")),
+        Check::DayTo29 => (Some("date"), Some("day between 01 and 29")),
+        Check::DayTo30 => (Some("date"), Some("day between 01 and 30")),
+        Check::DayTo31 => (Some("date"), Some("day between 01 and 31")),
+        Check::Delimiter => (Some("date-time"), Some("`T` between date and time")),
+        Check::Hour => (Some("time"), Some("hour")),
+        Check::HourMark => (Some("time"), Some("`:` (HH:MM)")),
+        Check::Minute => (Some("time"), Some("minute")),
+        Check::Second => (Some("time"), Some("second")),
+        Check::Nanosecond => (Some("time"), Some("nanosecond")),
+        Check::HourWidth => (Some("time"), Some("a two-digit hour (HH)")),
+        Check::MinuteWidth => (Some("time"), Some("a two-digit minute (MM)")),
+        Check::SecondWidth => (Some("time"), Some("a two-digit second (SS)")),
+        Check::HourRange => (Some("time"), Some("hour between 00 and 23")),
+        Check::MinuteRange => (Some("time"), Some("minute between 00 and 59")),
+        Check::SecondRange => (Some("time"), Some("second between 00 and 60")),
+        Check::Offset => (Some("offset"), Some("`Z`, +OFFSET, -OFFSET")),
+        Check::OffsetHour => (Some("offset"), Some("hour")),
+        Check::OffsetHourMark => (Some("offset"), Some("`:` (HH:MM)")),
+        Check::OffsetMinute => (Some("offset"), Some("minute")),
+        Check::OffsetHourWidth => (Some("offset"), Some("a two-digit hour (HH)")),
+        Check::OffsetMinuteWidth => (Some("offset"), Some("a two-digit minute (MM)")),
+        Check::OffsetHourRange => (Some("offset"), Some("hours between 00 and 23")),
+        Check::OffsetMinuteRange => (Some("offset"), Some("minutes between 00 and 59")),
+        Check::End => (None, None),
+    }
+}
 
 /// Why a text is no date-time: the part that is wrong, and what was expected there.
 ///
 /// Two errors are equal exactly where they say the same.
 #[derive(Clone, Copy, Debug, PartialEq, Eq)]
 pub struct DatetimeParseError {
-    what: Option<&'static str>,
-    expected: Option<&'static str>,
+    check: Check,
 }
 
 impl DatetimeParseError {
-    /// A part is wrong.
-    pub(crate) fn within(what: &'static str, expected: &'static str) -> DatetimeParseError
-        ensures { fault_of result ≡ fault what.now expected.now }
+    pub(crate) fn new(check: Check) -> DatetimeParseError
+        ensures { fault_of result ≡ words_of check }
     {
-        DatetimeParseError {
-            what: Some(what),
-            expected: Some(expected),
-        }
-    }
-
-    /// No part was reached.
-    pub(crate) fn at_start(expected: &'static str) -> DatetimeParseError
-        ensures { fault_of result ≡ bare_fault (Some expected.now) }
-    {
-        DatetimeParseError {
-            what: None,
-            expected: Some(expected),
-        }
-    }
-
-    /// Something follows a date-time.
-    pub(crate) fn behind() -> DatetimeParseError
-        ensures { fault_of result ≡ bare_fault None }
-    {
-        DatetimeParseError {
-            what: None,
-            expected: None,
-        }
+        DatetimeParseError { check }
     }
 
     /// The part that is wrong: `date`, `date-time`, `time` or `offset`. None where the text doesn't
@@ -50,7 +109,7 @@ impl DatetimeParseError {
     pub fn what(&self) -> Option<&'static str>
         ensures { option_map (λ s. s.now) result ≡ (fault_of self.now).what }
     {
-        self.what
+        words(self.check).0
     }
 
     /// What was expected where the text is wrong, such as `month between 01 and 12`. None where
@@ -58,7 +117,7 @@ impl DatetimeParseError {
     pub fn expected(&self) -> Option<&'static str>
         ensures { option_map (λ s. s.now) result ≡ (fault_of self.now).expected }
     {
-        self.expected
+        words(self.check).1
     }
 }
 
@@ -68,8 +127,8 @@ impl Display for DatetimeParseError {
     ghost output = { λ error. Some (fault_text (fault_of error)) };
 
     fn fmt<W: fmt::Write>(&self, f: &mut fmt::Formatter<W>) -> fmt::Result {
-        let what = self.what.unwrap_or("datetime");
-        match self.expected {
+        let what = self.what().unwrap_or("datetime");
+        match self.expected() {
             Some(expected) => write!(f, "invalid {what}, expected {expected}"),
             None => write!(f, "invalid {what}"),
         }

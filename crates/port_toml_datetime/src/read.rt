@@ -6,11 +6,12 @@ ghost use Rattle.port_toml_datetime.specs.Faults.{fault_of};
 ghost use Rattle.port_toml_datetime.specs.Checks.{after_date, checks, dated_rows, first_failing, full_time_rows, local_time_rows, tail_rows};
 ghost use Rattle.port_toml_datetime.specs.inside.Values.{date_of, date_time_of, tail_of, time_of, value_of};
 
+use crate::error::{Check, DatetimeParseError};
 use crate::read_date::read_date;
 use crate::read_offset::read_offset;
 use crate::read_time::read_time;
-use crate::scan::{digits, end, mark, start_digits};
-use crate::{Date, Datetime, DatetimeParseError};
+use crate::scan::{digits, end, mark};
+use crate::{Date, Datetime};
 
 /// A time from its start, and perhaps an offset.
 #[tactic(auto, using(crate::proofs::Rows::failing_front, crate::proofs::Rows::failing_behind), unfolding(crate::specs::Checks::full_time_rows, crate::specs::inside::Values::date_time_of))]
@@ -19,8 +20,8 @@ fn read_full_time(date: Date, bytes: &[u8]) -> Result<Datetime, DatetimeParseErr
     ensures value { IfOk result (λ r. r ≡ date_time_of date bytes.now) }
     ensures err { IfErr result (λ e. first_failing (full_time_rows bytes.now) ≡ Some (fault_of e)) }
 {
-    let (hour, bytes) = digits(bytes, "time", "hour")?;
-    let bytes = mark(b':', bytes, "time", "`:` (HH:MM)")?;
+    let (hour, bytes) = digits(bytes, Check::Hour)?;
+    let bytes = mark(b':', bytes, Check::HourMark)?;
     let (time, bytes) = read_time(hour, bytes)?;
     let offset = read_offset(bytes)?;
     Ok(Datetime {
@@ -46,7 +47,7 @@ fn read_tail(date: Date, bytes: &[u8]) -> Result<Datetime, DatetimeParseError>
         [b'T', rest @ ..] => read_full_time(date, rest),
         [b't', rest @ ..] => read_full_time(date, rest),
         [b' ', rest @ ..] => read_full_time(date, rest),
-        _ => Err(DatetimeParseError::within("date-time", "`T` between date and time")),
+        _ => Err(DatetimeParseError::new(Check::Delimiter)),
     }
 }
 
@@ -85,10 +86,10 @@ pub(crate) fn read(bytes: &[u8]) -> Result<Datetime, DatetimeParseError>
     ensures value { IfOk result (λ r. r ≡ value_of bytes.now) }
     ensures err { IfErr result (λ e. first_failing (checks bytes.now) ≡ Some (fault_of e)) }
 {
-    let (first, rest) = start_digits(bytes)?;
+    let (first, rest) = digits(bytes, Check::YearOrHour)?;
     match rest {
         [b'-', rest @ ..] => read_dated(first, rest),
         [b':', rest @ ..] => read_local_time(first, rest),
-        _ => Err(DatetimeParseError::at_start("`-` (YYYY-MM) or `:` (HH:MM)")),
+        _ => Err(DatetimeParseError::new(Check::YearOrHourMark)),
     }
 }

@@ -1,14 +1,15 @@
 //! Dates, from behind the `-` that follows the year. The checks stand in the order of the table.
-ghost use Rattle.std.specs.Prelude.{◌≡◌, Some, None, IfOk, IfErr};
+ghost use Rattle.std.specs.Prelude.{◌≡◌, Some, None, codes, IfOk, IfErr};
 ghost use Rattle.scan_core.specs.Digits.{AreDigits};
 ghost use Rattle.port_toml_datetime.specs.Dates.{days_in_month, is_leap_year};
-ghost use Rattle.port_toml_datetime.specs.Faults.{fault_of};
+ghost use Rattle.port_toml_datetime.specs.Faults.{fault, fault_of, words_of};
 ghost use Rattle.port_toml_datetime.specs.Checks.{after_date, date_rows, day_words, first_failing};
 ghost use Rattle.port_toml_datetime.specs.inside.Values.{date_of};
 
+use crate::error::{Check, DatetimeParseError};
 use crate::numbers::{four_digits, two_digits};
 use crate::scan::{check, digits, mark};
-use crate::{Date, DatetimeParseError};
+use crate::Date;
 
 fn is_leap_year(year: u16) -> bool
     ensures { result ≡ is_leap_year year }
@@ -28,15 +29,16 @@ fn days_in_month(year: u16, month: u8) -> u8
     }
 }
 
+/// The check that the day is one of so many.
 #[tactic(auto, unfolding(crate::specs::Checks::day_words))]
-fn day_words(days: u8) -> &'static str
-    ensures { result.now ≡ day_words days }
+fn day_check(days: u8) -> Check
+    ensures { words_of result ≡ fault (codes "date") (day_words days) }
 {
     match days {
-        28 => "day between 01 and 28",
-        29 => "day between 01 and 29",
-        30 => "day between 01 and 30",
-        _ => "day between 01 and 31",
+        28 => Check::DayTo28,
+        29 => Check::DayTo29,
+        30 => Check::DayTo30,
+        _ => Check::DayTo31,
     }
 }
 
@@ -49,17 +51,17 @@ pub(crate) fn read_date<'a>(year: &[u8], bytes: &'a [u8]) -> Result<(Date, &'a [
     ensures rest { IfOk result (λ r. r.1.now ≡ after_date bytes.now) }
     ensures err { IfErr result (λ e. first_failing (date_rows year.now bytes.now) ≡ Some (fault_of e)) }
 {
-    let (month, bytes) = digits(bytes, "date", "month")?;
-    let bytes = mark(b'-', bytes, "date", "`-` (MM-DD)")?;
-    let (day, bytes) = digits(bytes, "date", "day")?;
-    check(year.len() == 4, "date", "a four-digit year (YYYY)")?;
-    check(month.len() == 2, "date", "a two-digit month (MM)")?;
-    check(day.len() == 2, "date", "a two-digit day (DD)")?;
+    let (month, bytes) = digits(bytes, Check::Month)?;
+    let bytes = mark(b'-', bytes, Check::MonthMark)?;
+    let (day, bytes) = digits(bytes, Check::Day)?;
+    check(year.len() == 4, Check::YearWidth)?;
+    check(month.len() == 2, Check::MonthWidth)?;
+    check(day.len() == 2, Check::DayWidth)?;
     let year = four_digits(year);
     let month = two_digits(month);
     let day = two_digits(day);
-    check(1 <= month && month <= 12, "date", "month between 01 and 12")?;
+    check(1 <= month && month <= 12, Check::MonthRange)?;
     let days = days_in_month(year, month);
-    check(1 <= day && day <= days, "date", day_words(days))?;
+    check(1 <= day && day <= days, day_check(days))?;
     Ok((Date { year, month, day }, bytes))
 }

@@ -5,9 +5,10 @@ ghost use Rattle.port_toml_datetime.specs.Faults.{fault_of};
 ghost use Rattle.port_toml_datetime.specs.Checks.{first_failing, numeric_offset_rows, offset_rows};
 ghost use Rattle.port_toml_datetime.specs.inside.Values.{numeric_offset_of, offset_of};
 
+use crate::error::{Check, DatetimeParseError};
 use crate::numbers::two_digits;
 use crate::scan::{check, digits, end, mark};
-use crate::{DatetimeParseError, Offset};
+use crate::Offset;
 
 fn with_sign(negative: bool, minutes: u16) -> i16
     requires { minutes ≤ 1439 }
@@ -24,15 +25,15 @@ fn read_numeric_offset(negative: bool, bytes: &[u8]) -> Result<Offset, DatetimeP
     ensures offset { IfOk result (λ r. r ≡ numeric_offset_of negative bytes.now) }
     ensures err { IfErr result (λ e. first_failing (numeric_offset_rows bytes.now) ≡ Some (fault_of e)) }
 {
-    let (hours, bytes) = digits(bytes, "offset", "hour")?;
-    let bytes = mark(b':', bytes, "offset", "`:` (HH:MM)")?;
-    let (minutes, bytes) = digits(bytes, "offset", "minute")?;
-    check(hours.len() == 2, "offset", "a two-digit hour (HH)")?;
-    check(minutes.len() == 2, "offset", "a two-digit minute (MM)")?;
+    let (hours, bytes) = digits(bytes, Check::OffsetHour)?;
+    let bytes = mark(b':', bytes, Check::OffsetHourMark)?;
+    let (minutes, bytes) = digits(bytes, Check::OffsetMinute)?;
+    check(hours.len() == 2, Check::OffsetHourWidth)?;
+    check(minutes.len() == 2, Check::OffsetMinuteWidth)?;
     let hours = two_digits(hours);
     let minutes = two_digits(minutes);
-    check(hours <= 23, "offset", "hours between 00 and 23")?;
-    check(minutes <= 59, "offset", "minutes between 00 and 59")?;
+    check(hours <= 23, Check::OffsetHourRange)?;
+    check(minutes <= 59, Check::OffsetMinuteRange)?;
     end(bytes)?;
     let minutes = 60 * u16::from(hours) + u16::from(minutes);
     Ok(Offset::Custom {
@@ -59,6 +60,6 @@ pub(crate) fn read_offset(bytes: &[u8]) -> Result<Option<Offset>, DatetimeParseE
         }
         [b'+', rest @ ..] => Ok(Some(read_numeric_offset(false, rest)?)),
         [b'-', rest @ ..] => Ok(Some(read_numeric_offset(true, rest)?)),
-        _ => Err(DatetimeParseError::within("offset", "`Z`, +OFFSET, -OFFSET")),
+        _ => Err(DatetimeParseError::new(Check::Offset)),
     }
 }

@@ -6,9 +6,10 @@ ghost use Rattle.port_toml_datetime.specs.Faults.{fault_of};
 ghost use Rattle.port_toml_datetime.specs.Checks.{after_time, first_failing, has_length, time_rows, where_there};
 ghost use Rattle.port_toml_datetime.specs.inside.Values.{time_of};
 
+use crate::error::{Check, DatetimeParseError};
 use crate::numbers::{nanoseconds, two_digits};
 use crate::scan::{check, digits, fraction, marked};
-use crate::{DatetimeParseError, Time};
+use crate::Time;
 
 /// Whether the second isn't there, or has two digits.
 fn is_two_digits(second: Option<&[u8]>) -> bool
@@ -59,18 +60,18 @@ pub(crate) fn read_time<'a>(hour: &[u8], bytes: &'a [u8]) -> Result<(Time, &'a [
     ensures rest { IfOk result (λ r. r.1.now ≡ after_time bytes.now) }
     ensures err { IfErr result (λ e. first_failing (time_rows hour.now bytes.now) ≡ Some (fault_of e)) }
 {
-    let (minute, bytes) = digits(bytes, "time", "minute")?;
-    let (second, bytes) = marked(b':', bytes, "second")?;
+    let (minute, bytes) = digits(bytes, Check::Minute)?;
+    let (second, bytes) = marked(b':', bytes, Check::Second)?;
     let (fraction, bytes) = fraction(second, bytes)?;
-    check(hour.len() == 2, "time", "a two-digit hour (HH)")?;
-    check(minute.len() == 2, "time", "a two-digit minute (MM)")?;
-    check(is_two_digits(second), "time", "a two-digit second (SS)")?;
+    check(hour.len() == 2, Check::HourWidth)?;
+    check(minute.len() == 2, Check::MinuteWidth)?;
+    check(is_two_digits(second), Check::SecondWidth)?;
     let hour = two_digits(hour);
     let minute = two_digits(minute);
     let second = second_number(second);
-    check(hour <= 23, "time", "hour between 00 and 23")?;
-    check(minute <= 59, "time", "minute between 00 and 59")?;
-    check(is_second(second), "time", "second between 00 and 60")?;
+    check(hour <= 23, Check::HourRange)?;
+    check(minute <= 59, Check::MinuteRange)?;
+    check(is_second(second), Check::SecondRange)?;
     let nanosecond = fraction_number(fraction);
     Ok((
         Time {

@@ -1,80 +1,52 @@
-//! Tokens in front of bytes. All access to bytes goes through these.
-ghost use Rattle.std.specs.Prelude.{◌≡◌, Some, true, false, [], ◌∷◌, codes, IfOk, IfErr, IfSome, option_map};
+//! Tokens in front of bytes, each with the check that asks for it. All access to bytes goes through these.
+ghost use Rattle.std.specs.Prelude.{◌≡◌, true, false, [], ◌∷◌, IfOk, IfErr, IfSome, option_map};
 ghost use Rattle.scan_core.specs.Digits.{AreDigits};
-ghost use Rattle.port_toml_datetime.specs.Faults.{bare_fault, fault, fault_of};
+ghost use Rattle.port_toml_datetime.specs.Faults.{fault_of, words_of};
 ghost use Rattle.port_toml_datetime.specs.Checks.{after_fraction, after_marked, fraction, marked, where_there};
 ghost use Rattle.port_toml_datetime.specs.Tokens.{after_token, first_token, is_digits, is_end, is_mark, is_of};
 
-use crate::DatetimeParseError;
+use crate::error::{Check, DatetimeParseError};
 use scan_core::split_digits;
 
-/// The digits that a date-time begins with, and what follows them.
-pub(crate) fn start_digits(bytes: &[u8]) -> Result<(&[u8], &[u8]), DatetimeParseError>
-    ensures is { IfOk result (λ r. is_digits (first_token bytes.now) ≡ true) }
-    ensures token { IfOk result (λ r. r.0.now ≡ first_token bytes.now) }
-    ensures rest { IfOk result (λ r. r.1.now ≡ after_token bytes.now) }
-    ensures digits { IfOk result (λ r. AreDigits r.0.now) }
-    ensures isnt { IfErr result (λ e. is_digits (first_token bytes.now) ≡ false) }
-    ensures err { IfErr result (λ e. fault_of e ≡ bare_fault (Some (codes "year or hour"))) }
-{
-    match bytes {
-        [b'0'..=b'9', ..] => Ok(split_digits(bytes)),
-        _ => Err(DatetimeParseError::at_start("year or hour")),
-    }
-}
-
 /// The digits in front and what follows them, or the error where there are none.
-pub(crate) fn digits<'a>(
-    bytes: &'a [u8],
-    what: &'static str,
-    expected: &'static str,
-) -> Result<(&'a [u8], &'a [u8]), DatetimeParseError>
+pub(crate) fn digits(bytes: &[u8], asked: Check) -> Result<(&[u8], &[u8]), DatetimeParseError>
     ensures is { IfOk result (λ r. is_digits (first_token bytes.now) ≡ true) }
     ensures token { IfOk result (λ r. r.0.now ≡ first_token bytes.now) }
     ensures rest { IfOk result (λ r. r.1.now ≡ after_token bytes.now) }
     ensures digits { IfOk result (λ r. AreDigits r.0.now) }
     ensures isnt { IfErr result (λ e. is_digits (first_token bytes.now) ≡ false) }
-    ensures err { IfErr result (λ e. fault_of e ≡ fault what.now expected.now) }
+    ensures err { IfErr result (λ e. fault_of e ≡ words_of asked) }
 {
     match bytes {
         [b'0'..=b'9', ..] => Ok(split_digits(bytes)),
-        _ => Err(DatetimeParseError::within(what, expected)),
+        _ => Err(DatetimeParseError::new(asked)),
     }
 }
 
 /// What follows the mark in front, or the error where it isn't there.
-pub(crate) fn mark<'a>(
-    mark: u8,
-    bytes: &'a [u8],
-    what: &'static str,
-    expected: &'static str,
-) -> Result<&'a [u8], DatetimeParseError>
+pub(crate) fn mark(mark: u8, bytes: &[u8], asked: Check) -> Result<&[u8], DatetimeParseError>
     requires { is_mark mark ≡ true }
     ensures is { IfOk result (λ r. is_of (mark ∷ []) (first_token bytes.now) ≡ true) }
     ensures rest { IfOk result (λ r. r.now ≡ after_token bytes.now) }
     ensures isnt { IfErr result (λ e. is_of (mark ∷ []) (first_token bytes.now) ≡ false) }
-    ensures err { IfErr result (λ e. fault_of e ≡ fault what.now expected.now) }
+    ensures err { IfErr result (λ e. fault_of e ≡ words_of asked) }
 {
     match bytes {
         [byte, rest @ ..] if *byte == mark => Ok(rest),
-        _ => Err(DatetimeParseError::within(what, expected)),
+        _ => Err(DatetimeParseError::new(asked)),
     }
 }
 
 /// The error where the check doesn't hold.
-pub(crate) fn check(
-    holds: bool,
-    what: &'static str,
-    expected: &'static str,
-) -> Result<(), DatetimeParseError>
+pub(crate) fn check(holds: bool, asked: Check) -> Result<(), DatetimeParseError>
     ensures is { IfOk result (λ r. holds ≡ true) }
     ensures isnt { IfErr result (λ e. holds ≡ false) }
-    ensures err { IfErr result (λ e. fault_of e ≡ fault what.now expected.now) }
+    ensures err { IfErr result (λ e. fault_of e ≡ words_of asked) }
 {
     if holds {
         Ok(())
     } else {
-        Err(DatetimeParseError::within(what, expected))
+        Err(DatetimeParseError::new(asked))
     }
 }
 
@@ -82,31 +54,28 @@ pub(crate) fn check(
 pub(crate) fn end(bytes: &[u8]) -> Result<(), DatetimeParseError>
     ensures is { IfOk result (λ r. is_end bytes.now ≡ true) }
     ensures isnt { IfErr result (λ e. is_end bytes.now ≡ false) }
-    ensures err { IfErr result (λ e. fault_of e ≡ bare_fault None) }
+    ensures err { IfErr result (λ e. fault_of e ≡ words_of Check.End) }
 {
-    match bytes {
-        [] => Ok(()),
-        _ => Err(DatetimeParseError::behind()),
-    }
+    check(bytes.is_empty(), Check::End)
 }
 
 /// The digits behind the mark in front, where the mark is there.
-pub(crate) fn marked<'a>(
+pub(crate) fn marked(
     mark: u8,
-    bytes: &'a [u8],
-    expected: &'static str,
-) -> Result<(Option<&'a [u8]>, &'a [u8]), DatetimeParseError>
+    bytes: &[u8],
+    asked: Check,
+) -> Result<(Option<&[u8]>, &[u8]), DatetimeParseError>
     requires { is_mark mark ≡ true }
     ensures is { IfOk result (λ r. where_there is_digits (marked (mark ∷ []) bytes.now) ≡ true) }
     ensures token { IfOk result (λ r. option_map (λ s. s.now) r.0 ≡ marked (mark ∷ []) bytes.now) }
     ensures rest { IfOk result (λ r. r.1.now ≡ after_marked (mark ∷ []) bytes.now) }
     ensures digits { IfOk result (λ r. IfSome r.0 (λ s. AreDigits s.now)) }
     ensures isnt { IfErr result (λ e. where_there is_digits (marked (mark ∷ []) bytes.now) ≡ false) }
-    ensures err { IfErr result (λ e. fault_of e ≡ fault (codes "time") expected.now) }
+    ensures err { IfErr result (λ e. fault_of e ≡ words_of asked) }
 {
     match bytes {
         [byte, rest @ ..] if *byte == mark => {
-            let (found, rest) = digits(rest, "time", expected)?;
+            let (found, rest) = digits(rest, asked)?;
             Ok((Some(found), rest))
         }
         _ => Ok((None, bytes)),
@@ -118,15 +87,19 @@ pub(crate) fn fraction<'a>(
     second: Option<&[u8]>,
     bytes: &'a [u8],
 ) -> Result<(Option<&'a [u8]>, &'a [u8]), DatetimeParseError>
-    ensures is { IfOk result (λ r. where_there is_digits (fraction (option_map (λ s. s.now) second.entry) bytes.now) ≡ true) }
-    ensures token { IfOk result (λ r. option_map (λ s. s.now) r.0 ≡ fraction (option_map (λ s. s.now) second.entry) bytes.now) }
-    ensures rest { IfOk result (λ r. r.1.now ≡ after_fraction (option_map (λ s. s.now) second.entry) bytes.now) }
+    ensures is { IfOk result (λ r.
+        where_there is_digits (fraction (option_map (λ s. s.now) second.entry) bytes.now) ≡ true) }
+    ensures token { IfOk result (λ r.
+        option_map (λ s. s.now) r.0 ≡ fraction (option_map (λ s. s.now) second.entry) bytes.now) }
+    ensures rest { IfOk result (λ r.
+        r.1.now ≡ after_fraction (option_map (λ s. s.now) second.entry) bytes.now) }
     ensures digits { IfOk result (λ r. IfSome r.0 (λ s. AreDigits s.now)) }
-    ensures isnt { IfErr result (λ e. where_there is_digits (fraction (option_map (λ s. s.now) second.entry) bytes.now) ≡ false) }
-    ensures err { IfErr result (λ e. fault_of e ≡ fault (codes "time") (codes "nanosecond")) }
+    ensures isnt { IfErr result (λ e.
+        where_there is_digits (fraction (option_map (λ s. s.now) second.entry) bytes.now) ≡ false) }
+    ensures err { IfErr result (λ e. fault_of e ≡ words_of Check.Nanosecond) }
 {
     match second {
-        Some(_) => marked(b'.', bytes, "nanosecond"),
+        Some(_) => marked(b'.', bytes, Check::Nanosecond),
         None => Ok((None, bytes)),
     }
 }
