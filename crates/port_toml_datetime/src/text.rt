@@ -1,31 +1,12 @@
 //! The written texts, piece by piece.
-ghost use Rattle.std.specs.Prelude.{◌≡◌, ◌+◌, ◌<◌, ◌≤◌, ◌++◌, [], ◌∷◌, length, take, codes};
+ghost use Rattle.std.specs.Prelude.{◌≡◌, ◌+◌, ◌<◌, ◌≤◌, ◌++◌, codes};
 ghost use Rattle.arrayvec.specs.ArrayString.{array_string_len};
-ghost use Rattle.scan_core.specs.Digits.{AreDigits};
 ghost use Rattle.scan_core.specs.Padded.{padded};
-ghost use Rattle.port_toml_datetime.specs.Texts.{date_text, delimiter_text, fraction_text, minutes_text, offset_text, part_text, or_zero, second_text, signed_text, text_of, time_text, trimmed};
+ghost use Rattle.port_toml_datetime.specs.Texts.{date_text, delimiter_text, fraction_text, minutes_text, offset_text, part_text, second_text, signed_text, text_of, time_text};
 
 use crate::{Date, Datetime, Offset, Time};
-use scan_core::{Short, push_padded, push_text};
-
-/// At least two digits.
-#[tactic(auto, using(crate::proofs::TextFacts::short_byte))]
-fn push_two(out: &mut Short, value: u8)
-    requires { array_string_len out.old + 3 ≤ 128 }
-    ensures bytes { out.new.bytes ≡ out.old.bytes ++ padded 2 value }
-    ensures len { array_string_len out.new ≤ array_string_len out.old + 3 }
-{
-    push_padded(out, u64::from(value), 2);
-}
-
-#[tactic(auto, using(crate::proofs::TextFacts::short_year))]
-fn push_year(out: &mut Short, value: u16)
-    requires { array_string_len out.old + 5 ≤ 128 }
-    ensures bytes { out.new.bytes ≡ out.old.bytes ++ padded 4 value }
-    ensures len { array_string_len out.new ≤ array_string_len out.old + 5 }
-{
-    push_padded(out, u64::from(value), 4);
-}
+use crate::number_text::{push_four, push_fraction, push_two};
+use scan_core::{Short, push_text};
 
 /// `YYYY-MM-DD`.
 #[tactic(auto, unfolding(crate::specs::Texts::date_text))]
@@ -34,68 +15,11 @@ fn push_date(out: &mut Short, date: Date)
     ensures bytes { out.new.bytes ≡ out.old.bytes ++ date_text date }
     ensures len { array_string_len out.new ≤ array_string_len out.old + 13 }
 {
-    push_year(out, date.year);
+    push_four(out, date.year);
     push_text(out, "-");
-    push_two(out, date.month);
+    push_two(out, u16::from(date.month));
     push_text(out, "-");
-    push_two(out, date.day);
-}
-
-/// How many of the digits are left without the zeros at the end: at least one.
-fn kept_len(digits: &[u8]) -> usize
-    requires { 0 < length digits.now }
-    ensures kept { take result digits.now ≡ or_zero (trimmed digits.now) }
-    ensures within { result ≤ length digits.now }
-{
-    let mut len = digits.len();
-    while 1 < len && digits[len - 1] == b'0' {
-        len -= 1;
-    }
-    len
-}
-
-fn push_digit(out: &mut Short, digit: u8)
-    requires digit { digit ≤ 57 }
-    requires room { array_string_len out.old + 1 ≤ 128 }
-    ensures bytes { out.new.bytes ≡ out.old.bytes ++ digit ∷ [] }
-    ensures len { array_string_len out.new ≡ array_string_len out.old + 1 }
-{
-    out.push(char::from(digit));
-}
-
-fn push_digits(out: &mut Short, digits: &[u8])
-    requires digits { AreDigits digits.now }
-    requires room { array_string_len out.old + length digits.now ≤ 128 }
-    ensures bytes { out.new.bytes ≡ out.old.bytes ++ digits.now }
-    ensures len { array_string_len out.new ≡ array_string_len out.old + length digits.now }
-{
-    for digit in digits {
-        push_digit(out, *digit);
-    }
-}
-
-/// At least nine digits.
-#[tactic(auto, using(crate::proofs::TextFacts::short_nanosecond))]
-fn nine_digits(nanosecond: u32) -> Short
-    ensures bytes { result.bytes ≡ padded 9 nanosecond }
-    ensures len { length result.bytes ≤ 10 }
-{
-    let mut padded = Short::new();
-    push_padded(&mut padded, u64::from(nanosecond), 9);
-    padded
-}
-
-/// The digits of a nanosecond without the zeros at the end.
-#[tactic(auto, using(crate::proofs::TextFacts::nine_are_digits, crate::proofs::TextFacts::nine_some, crate::proofs::TextFacts::take_short), unfolding(crate::specs::Texts::fraction_text))]
-fn push_fraction(out: &mut Short, nanosecond: u32)
-    requires { array_string_len out.old + 10 ≤ 128 }
-    ensures bytes { out.new.bytes ≡ out.old.bytes ++ fraction_text nanosecond }
-    ensures len { array_string_len out.new ≤ array_string_len out.old + 10 }
-{
-    let padded = nine_digits(nanosecond);
-    let digits = padded.as_str().as_bytes();
-    let len = kept_len(digits);
-    push_digits(out, &digits[..len]);
+    push_two(out, u16::from(date.day));
 }
 
 /// A colon, and at least two digits.
@@ -105,7 +29,7 @@ fn push_colon_two(out: &mut Short, value: u8)
     ensures len { array_string_len out.new ≤ array_string_len out.old + 4 }
 {
     push_text(out, ":");
-    push_two(out, value);
+    push_two(out, u16::from(value));
 }
 
 fn push_point_fraction(out: &mut Short, nanosecond: u32)
@@ -143,27 +67,26 @@ fn push_time(out: &mut Short, time: Time)
     ensures bytes { out.new.bytes ≡ out.old.bytes ++ time_text time }
     ensures len { array_string_len out.new ≤ array_string_len out.old + 22 }
 {
-    push_two(out, time.hour);
+    push_two(out, u16::from(time.hour));
     push_colon_two(out, time.minute);
     push_seconds(out, time.second, time.nanosecond);
 }
 
 /// `HH:MM` of so many minutes.
-#[tactic(auto, using(crate::proofs::TextFacts::short_hours, crate::proofs::TextFacts::short_minutes))]
 fn push_minutes(out: &mut Short, minutes: u16)
     requires minutes { minutes ≤ 32768 }
-    requires room { array_string_len out.old + 6 ≤ 128 }
+    requires room { array_string_len out.old + 7 ≤ 128 }
     ensures bytes { out.new.bytes ≡ out.old.bytes ++ minutes_text minutes }
     ensures len { array_string_len out.new ≤ array_string_len out.old + 6 }
 {
-    push_padded(out, u64::from(minutes / 60), 2);
+    push_two(out, minutes / 60);
     push_text(out, ":");
-    push_padded(out, u64::from(minutes % 60), 2);
+    push_two(out, minutes % 60);
 }
 
 #[tactic(auto, using(crate::proofs::TextFacts::negative_text, crate::proofs::TextFacts::positive_text))]
 fn push_signed(out: &mut Short, minutes: i16)
-    requires { array_string_len out.old + 7 ≤ 128 }
+    requires { array_string_len out.old + 8 ≤ 128 }
     ensures bytes { out.new.bytes ≡ out.old.bytes ++ signed_text minutes }
     ensures len { array_string_len out.new ≤ array_string_len out.old + 7 }
 {
@@ -178,7 +101,7 @@ fn push_signed(out: &mut Short, minutes: i16)
 
 #[tactic(auto, unfolding(crate::specs::Texts::offset_text))]
 fn push_offset(out: &mut Short, offset: Offset)
-    requires { array_string_len out.old + 7 ≤ 128 }
+    requires { array_string_len out.old + 8 ≤ 128 }
     ensures bytes { out.new.bytes ≡ out.old.bytes ++ offset_text offset }
     ensures len { array_string_len out.new ≤ array_string_len out.old + 7 }
 {
@@ -221,7 +144,7 @@ fn push_part_time(out: &mut Short, time: Option<Time>)
 }
 
 fn push_part_offset(out: &mut Short, offset: Option<Offset>)
-    requires { array_string_len out.old + 7 ≤ 128 }
+    requires { array_string_len out.old + 8 ≤ 128 }
     ensures bytes { out.new.bytes ≡ out.old.bytes ++ part_text offset_text offset }
     ensures len { array_string_len out.new ≤ array_string_len out.old + 7 }
 {

@@ -1,0 +1,80 @@
+//! Numbers as decimal digits, each appended to a text.
+ghost use Rattle.std.specs.Prelude.{◌≡◌, ◌+◌, ◌<◌, ◌≤◌, ◌++◌, [], ◌∷◌, length};
+ghost use Rattle.arrayvec.specs.ArrayString.{array_string_len};
+ghost use Rattle.scan_core.specs.Padded.{padded};
+ghost use Rattle.port_toml_datetime.specs.Texts.{fraction_text, trimmed};
+
+use scan_core::{Short, push_padded};
+
+fn push_digit(out: &mut Short, digit: u16)
+    requires digit { digit < 10 }
+    requires room { array_string_len out.old + 1 ≤ 128 }
+    ensures bytes { out.new.bytes ≡ out.old.bytes ++ (48 + digit) ∷ [] }
+    ensures len { array_string_len out.new ≡ array_string_len out.old + 1 }
+{
+    out.push(char::from(b'0' + digit as u8));
+}
+
+/// At least two digits.
+#[tactic(auto, using(crate::proofs::TextFacts::short_hours))]
+pub(crate) fn push_two(out: &mut Short, value: u16)
+    requires value { value < 1000 }
+    requires room { array_string_len out.old + 3 ≤ 128 }
+    ensures bytes { out.new.bytes ≡ out.old.bytes ++ padded 2 value }
+    ensures len { array_string_len out.new ≤ array_string_len out.old + 3 }
+    ensures two { value < 100 → array_string_len out.new ≡ array_string_len out.old + 2 }
+{
+    if value < 100 {
+        push_digit(out, value / 10);
+        push_digit(out, value % 10);
+    } else {
+        push_padded(out, u64::from(value), 2);
+    }
+}
+
+/// At least four digits.
+#[tactic(auto, using(crate::proofs::TextFacts::short_year))]
+pub(crate) fn push_four(out: &mut Short, value: u16)
+    requires { array_string_len out.old + 5 ≤ 128 }
+    ensures bytes { out.new.bytes ≡ out.old.bytes ++ padded 4 value }
+    ensures len { array_string_len out.new ≤ array_string_len out.old + 5 }
+{
+    if value < 10_000 {
+        push_two(out, value / 100);
+        push_two(out, value % 100);
+    } else {
+        push_padded(out, u64::from(value), 4);
+    }
+}
+
+/// The number without the zeros at its end, and how many of nine digits are left.
+fn without_zeros(nanosecond: u32) -> (u32, usize)
+    requires { 0 < nanosecond }
+    ensures trimmed { padded result.1 result.0 ≡ trimmed (padded 9 nanosecond) }
+    ensures short { length (padded result.1 result.0) ≤ 10 }
+    ensures width { result.1 ≤ 9 }
+    ensures some { 0 < length (padded result.1 result.0) }
+{
+    let mut value = nanosecond;
+    let mut width = 9;
+    while value % 10 == 0 {
+        value /= 10;
+        width -= 1;
+    }
+    (value, width)
+}
+
+/// The digits of a nanosecond without the zeros at the end, at least one.
+#[tactic(auto, unfolding(crate::specs::Texts::fraction_text))]
+pub(crate) fn push_fraction(out: &mut Short, nanosecond: u32)
+    requires { array_string_len out.old + 10 ≤ 128 }
+    ensures bytes { out.new.bytes ≡ out.old.bytes ++ fraction_text nanosecond }
+    ensures len { array_string_len out.new ≤ array_string_len out.old + 10 }
+{
+    if nanosecond == 0 {
+        out.push('0');
+    } else {
+        let (value, width) = without_zeros(nanosecond);
+        push_padded(out, u64::from(value), width);
+    }
+}
