@@ -46,3 +46,7 @@ unfolding nanoseconds
 all_nine ds i h =
     let whole : i ≡ length (nine ds) = omega (arith, nine_length ds) in
     rw whole (ap number_of (take-length (nine ds)))
+
+pub nine_short : (ds : List ℕ) → AreDigits ds → nanoseconds ds < 10 ^ 9
+unfolding nanoseconds
+nine_short ds all = let l = nine_length ds in rw l at (number_of-lt (nine ds) (nine_digits ds all))

@@ -199,8 +199,8 @@ table_exact text value (inl m) =
 table_exact text value (inr (inl (date, is, made))) = rw made (subst (λ (l : List ℕ). Passes l (datetime_of (Some date) None None)) (append-nil text) (dated date text [] _ is (nothing_behind date)))
 table_exact text value (inr (inr (time, is, made))) = rw made (local_time time text is)
 
-pub one_datetime : (text : List ℕ) (a b : Datetime) → IsDatetime text a → IsDatetime text b → a ≡ b
-one_datetime text a b is_a is_b = sym (table_exact text a is_a).reads ∙ (table_exact text b is_b).reads
+pub one_value : (text : List ℕ) (a b : Datetime) → IsDatetime text a → IsDatetime text b → a ≡ b
+one_value text a b is_a is_b = sym (table_exact text a is_a).reads ∙ (table_exact text b is_b).reads
 
 -- ---- what a reader answers by the table
 

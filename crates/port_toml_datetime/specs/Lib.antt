@@ -5,6 +5,7 @@ pub mod Datetimes
 pub mod Tokens
 pub mod Faults
 pub mod Checks
+pub mod Orders
 pub mod Reading
 pub mod Texts
 pub mod WellFormed

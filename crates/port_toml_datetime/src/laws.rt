@@ -1,22 +1,63 @@
-//! Laws of the grammar and the table, which no call needs.
-ghost use Rattle.std.specs.Prelude.{◌≡◌, ◌↔◌, ℕ, List, None};
+//! Laws of the grammar, the table, the written texts and the order, each for every value: functions that
+//! do nothing.
+ghost use Rattle.std.specs.Prelude.{◌≡◌, ◌↔◌, ℕ, List, None, IsTrue};
+ghost use Rattle.std.specs.Ordering.{ordering_then};
 ghost use Rattle.port_toml_datetime.specs.Checks.{checks, first_failing};
 ghost use Rattle.port_toml_datetime.specs.Datetimes.{IsDatetime};
+ghost use Rattle.port_toml_datetime.specs.Faults.{fault_of};
+ghost use Rattle.port_toml_datetime.specs.Orders.{date_cmp, none_first, offset_cmp, time_cmp};
 ghost use Rattle.port_toml_datetime.specs.Texts.{text_of};
 ghost use Rattle.port_toml_datetime.specs.WellFormed.{IsWellFormed};
-ghost use Rattle.port_toml_datetime.specs.declared.datetime.Datetime.{Datetime};
+ghost use Rattle.port_toml_datetime.specs.declared.date.Date.{Date as DateValue};
+ghost use Rattle.port_toml_datetime.specs.declared.time.Time.{Time as TimeValue};
+ghost use Rattle.port_toml_datetime.specs.declared.offset.Offset.{Offset as OffsetValue};
+ghost use Rattle.port_toml_datetime.specs.declared.datetime.Datetime.{Datetime as DatetimeValue};
+ghost use Rattle.port_toml_datetime.specs.declared.error.DatetimeParseError.{DatetimeParseError as ErrorValue};
+
+use crate::{Date, Datetime, DatetimeParseError, Offset, Time};
 
 /// No check fails exactly for the texts of the grammar.
 pub fn checks_are_the_grammar()
-    ensures { (text : List ℕ) → (first_failing (checks text) ≡ None) ↔ ((value : Datetime) × IsDatetime text value) }
+    ensures { (text : List ℕ) → (first_failing (checks text) ≡ None)
+        ↔ ((value : DatetimeValue) × IsDatetime text value) }
 {}
 
 /// A text has one value at most.
-pub fn one_datetime()
-    ensures { (text : List ℕ) (a b : Datetime) → IsDatetime text a → IsDatetime text b → a ≡ b }
+pub fn one_value()
+    ensures { (text : List ℕ) (a b : DatetimeValue) → IsDatetime text a → IsDatetime text b → a ≡ b }
 {}
 
-/// The text of a well-formed date-time is in the grammar, with its value.
+/// What a text spells is well-formed: one of the four kinds, each part in its range.
+pub fn values_are_well_formed()
+    ensures { (text : List ℕ) (value : DatetimeValue) → IsDatetime text value → IsWellFormed value }
+{}
+
+/// The written text of a well-formed date-time spells this value.
 pub fn texts_are_read_back()
-    ensures { (value : Datetime) → IsWellFormed value → IsDatetime (text_of value) value }
+    ensures { (value : DatetimeValue) → IsWellFormed value → IsDatetime (text_of value) value }
+{}
+
+/// Values are equal where all parts are.
+pub fn equality_is_by_parts()
+    ensures dates { (a b : DateValue) → IsTrue (⟦<Date as PartialEq>⟧.eq a b) ↔ (a ≡ b) }
+    ensures times { (a b : TimeValue) → IsTrue (⟦<Time as PartialEq>⟧.eq a b) ↔ (a ≡ b) }
+    ensures offsets { (a b : OffsetValue) → IsTrue (⟦<Offset as PartialEq>⟧.eq a b) ↔ (a ≡ b) }
+    ensures datetimes { (a b : DatetimeValue) → IsTrue (⟦<Datetime as PartialEq>⟧.eq a b) ↔ (a ≡ b) }
+{}
+
+/// Errors are equal exactly where they say the same.
+pub fn equal_errors_say_the_same()
+    ensures { (a b : ErrorValue) → IsTrue (⟦<DatetimeParseError as PartialEq>⟧.eq a b)
+        ↔ (fault_of a ≡ fault_of b) }
+{}
+
+/// The order goes by the parts in turn. A part that isn't there comes before each that is, and `Z`
+/// before each offset of minutes.
+pub fn order_is_by_parts()
+    ensures dates { (a b : DateValue) → ⟦<Date as Ord>⟧.cmp a b ≡ date_cmp a b }
+    ensures times { (a b : TimeValue) → ⟦<Time as Ord>⟧.cmp a b ≡ time_cmp a b }
+    ensures offsets { (a b : OffsetValue) → ⟦<Offset as Ord>⟧.cmp a b ≡ offset_cmp a b }
+    ensures datetimes { (a b : DatetimeValue) → ⟦<Datetime as Ord>⟧.cmp a b
+        ≡ ordering_then (none_first date_cmp a.date b.date)
+        (ordering_then (none_first time_cmp a.time b.time) (none_first offset_cmp a.offset b.offset)) }
 {}
