@@ -31,12 +31,6 @@ whole_mod n r w some below =
     let whole : n - n % w + r ≡ n / w * w + r = omega (arith, div-add-mod' n w) in
     rw whole (mod-mul-add (n / w) w r small)
 
-whole_div : (n r w : ℕ) → 0 < w → r ≤ n % w → (n - n % w + r) / w ≡ n / w
-whole_div n r w some below =
-    let small : r < w = omega (arith, mod-lt n some) in
-    let whole : n - n % w + r ≡ n / w * w + r = omega (arith, div-add-mod' n w) in
-    rw whole (div-mul-add (n / w) w r small)
-
 quotient_whole : (n w : ℕ) → 0 < w → w ≤ n → w ≤ n / w * w
 quotient_whole n w some high =
     let q : 1 ≤ n / w = le-div 1 n w some (omega arith) in

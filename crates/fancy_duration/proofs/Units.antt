@@ -1,5 +1,5 @@
 -- What a unit weighs, by the part that it names.
-use Rattle.std.proofs.Common.{◌≡◌, ◌≢◌, ℕ, ◌+◌, ◌*◌, Bool, true, false, ◌||◌, List, ◌∷◌, codes, bytes_eq, ◌-◌, ◌^◌, refl, sym, ◌∙◌, ap, arith, mul-zero}
+use Rattle.std.proofs.Common.{◌≡◌, ◌≢◌, ℕ, ◌+◌, ◌*◌, Bool, true, false, ◌||◌, List, ◌∷◌, codes, bytes_eq, refl, sym, ◌∙◌, ap, arith, mul-zero}
 use Rattle.std.proofs.lemmas.Slice.Eq.{bytes_eq-Decides}
 use Rattle.scan_core.specs.Digits.{number_of}
 use Rattle.fancy_duration.specs.declared.part.DurationPart.{DurationPart}
@@ -7,8 +7,7 @@ use Rattle.fancy_duration.specs.declared.part.DurationPart.TheVariants.{Years, M
 use Rattle.fancy_duration.specs.Parts.{unit_of}
 use Rattle.fancy_duration.specs.Items.{Item}
 use Rattle.fancy_duration.specs.Sums.{is_long, long_follows, weight_in, total}
-use Rattle.fancy_duration.specs.inside.Reading.{weight_if, is_long_part, capped, sum_with}
-use Rattle.fancy_duration.proofs.Caps.{min_item}
+use Rattle.fancy_duration.specs.inside.Reading.{weight_if, is_long_part, sum_with}
 
 pub bytes_eq-false : (xs ys : List ℕ) → xs ≢ ys → bytes_eq xs ys ≡ false
 bytes_eq-false xs ys h =
@@ -50,18 +49,6 @@ weight_in-other unit long h =
 pub is_long-other : (unit : List ℕ) → ((part : DurationPart) → unit ≢ unit_of part) → is_long unit ≡ false
 is_long-other unit h =
     simp (bytes_eq-false unit (codes "y") (h Years), bytes_eq-false unit (codes "m") (h Months), bytes_eq-false unit (codes "w") (h Weeks), bytes_eq-false unit (codes "d") (h Days), bytes_eq-false unit (codes "h") (h Hours))
-
--- a sum after one more item
-pub sums_item : (item : Item) (later : List Item) (number : ℕ) (part : DurationPart) (nanos pending : ℕ) → part ≢ Months → item.unit ≡ unit_of part → number ≡ capped (number_of item.digits) → capped (sum_with nanos pending (is_long_part part || long_follows later) (number * weight_if part (long_follows later) + total later)) ≡ capped (sum_with nanos pending (long_follows (item ∷ later)) (total (item ∷ later)))
-sums_item item later number part nanos pending h unit e =
-    let l = long_follows later in
-    let n = number_of item.digits in
-    let long : is_long item.unit ≡ is_long_part part = ap is_long unit ∙ is_long-unit_of part h in
-    let weight : weight_in item.unit l ≡ weight_if part l = ap (λ u. weight_in u l) unit ∙ weight_in-unit_of part l h in
-    ap (λ k. capped (sum_with nanos pending (is_long_part part || l) (k * weight_if part l + total later))) e
-    ∙ min_item (nanos + pending * weight_if Minutes (is_long_part part || l)) n (weight_if part l) (total later) (2 ^ 128 - 1)
-    ∙ ap (λ b. capped (sum_with nanos pending (b || l) (n * weight_if part l + total later))) (sym long)
-    ∙ ap (λ w. capped (sum_with nanos pending (is_long item.unit || l) (n * w + total later))) (sym weight)
 
 pub passes_item : (item : Item) (later : List Item) (nanos pending : ℕ) → ((part : DurationPart) → item.unit ≢ unit_of part) → sum_with nanos pending (long_follows later) (total later) ≡ sum_with nanos pending (long_follows (item ∷ later)) (total (item ∷ later))
 passes_item item later nanos pending h =

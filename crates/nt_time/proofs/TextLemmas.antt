@@ -48,9 +48,6 @@ text_of_numeral (c ∷ cs) has = ⊎_elim
     (λ isnt. (without_leading_plus (c ∷ cs), has, refl, inl (sym (without_leading_plus_none (c ∷ cs) isnt))))
     (cases_eq c 43)
 
-pub one_number : (text : List ℕ) (m n : ℕ) → IsTextOf text m → IsTextOf text n → m ≡ n
-one_number text m n first second = (numeral_of_text text m first).1 ∙ sym (numeral_of_text text n second).1
-
 -- ---- what a text reads as
 
 pub read_ok : (text : List ℕ) (t : ℕ) → IsNumeral 10 (without_leading_plus text) → digits_value 10 (without_leading_plus text) < 2 ^ 64 → t ≡ digits_value 10 (without_leading_plus text) → IsReadFrom text (Ok t)
