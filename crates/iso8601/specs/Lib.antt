@@ -5,6 +5,7 @@ pub mod Dates
 pub mod Times
 pub mod DateTimes
 pub mod Durations
+pub mod Calendar
 pub mod Written
 pub mod WrittenDurations
 pub mod Lengths

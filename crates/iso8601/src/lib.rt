@@ -1,6 +1,7 @@
 //! Dates, times, date-times and durations of ISO 8601.
 #![tactic(auto)]
 
+mod civil;
 mod duration_text;
 pub mod laws;
 pub mod parsers;
