@@ -7,7 +7,8 @@ use Rattle.dos_date.specs.Bits.{bits}
 use Rattle.dos_date.specs.DateWord.{IsDateWord, IsRealDay}
 
 -- the parts of a date are those of a real day
-pub parts_are_real : (date : Date) (y m d : ℤ) → date.year ≡ y → pos date.month ≡ m → pos date.day ≡ d → IsDate y m d
+pub parts_are_real : (date : Date) (y m d : ℤ) → date.year ≡ y → pos date.month ≡ m
+    → pos date.day ≡ d → IsDate y m d
 parts_are_real date y m d year month day =
     rw (← year, ← month, ← day) (omega (arith, ints), omega (arith, ints), omega (arith, ints))
 
@@ -40,7 +41,8 @@ real_date word fits real = (
 )
 
 -- a date word names one day
-pub one_day : (word : ℕ) (a b : Date) → IsDateWord word a → IsDateWord word b → (a.year ≡ b.year) × (a.month ≡ b.month) × (a.day ≡ b.day)
+pub one_day : (word : ℕ) (a b : Date) → IsDateWord word a → IsDateWord word b
+    → (a.year ≡ b.year) × (a.month ≡ b.month) × (a.day ≡ b.day)
 one_day word a b first second =
     let short : a.day < 32 = omega (arith, days_in_month-le a.year a.month) in
     let short' : b.day < 32 = omega (arith, days_in_month-le b.year b.month) in

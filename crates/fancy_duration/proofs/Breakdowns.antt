@@ -20,7 +20,8 @@ kept_in-none kept left = refl
 quotient_part : (n d : ℕ) → n / d * d ≡ n - n % d
 quotient_part n d = omega (arith, div-add-mod' n d)
 
-pub kept_in-cons : (kept : List DurationPart) (part : DurationPart) (parts : List DurationPart) (left : ℕ) → kept_in kept (part ∷ parts) left ≡ (if list_any (λ p. is_part p part) kept then left - left % weight_of part else 0) + kept_in kept parts (left % weight_of part)
+pub kept_in-cons : (kept : List DurationPart) (part : DurationPart) (parts : List DurationPart) (left : ℕ)
+    → kept_in kept (part ∷ parts) left ≡ (if list_any (λ p. is_part p part) kept then left - left % weight_of part else 0) + kept_in kept parts (left % weight_of part)
 unfolding kept_in
 kept_in-cons kept part parts left =
     elim (list_any (λ p. is_part p part) kept) as (λ t. list_any (λ p. is_part p part) kept ≡ t → kept_in kept (part ∷ parts) left ≡ (if list_any (λ p. is_part p part) kept then left - left % weight_of part else 0) + kept_in kept parts (left % weight_of part)) [
@@ -31,16 +32,23 @@ kept_in-cons kept part parts left =
 pub parts_end : (i : ℕ) → 10 ≤ i → drop i all_parts ≡ []
 parts_end i h = drop_all i all_parts h
 
-pub parts_more : (i : ℕ) (d : DurationPart) → i < 10 → drop i all_parts ≡ get_or all_parts i d ∷ drop (i + 1) all_parts
+pub parts_more : (i : ℕ) (d : DurationPart) → i < 10
+    → drop i all_parts ≡ get_or all_parts i d ∷ drop (i + 1) all_parts
 parts_more i d h = rw add-one (drop-cons all_parts i d h)
 
 -- one step of the loop over the parts, at a part that is kept and at one that isn't
-pub keeps_part : (kept parts more : List DurationPart) (part : DurationPart) (left weight sum sum' left' : ℕ) → parts ≡ part ∷ more → weight ≡ weight_of part → list_any (λ p. is_part p part) kept ≡ true → sum' ≡ sum + (left - left % weight) → left' ≡ left % weight → sum' + kept_in kept more left' ≡ sum + kept_in kept parts left
+pub keeps_part : (kept parts more : List DurationPart) (part : DurationPart) (left weight sum sum' left' : ℕ)
+    → parts ≡ part ∷ more → weight ≡ weight_of part → list_any (λ p. is_part p part) kept ≡ true
+    → sum' ≡ sum + (left - left % weight) → left' ≡ left % weight
+    → sum' + kept_in kept more left' ≡ sum + kept_in kept parts left
 keeps_part kept parts more part left weight sum sum' left' split w among s l =
     let step = kept_in-cons kept part more left in
     rw (s, l, split, step, among, w) (omega arith)
 
-pub skips_part : (kept parts more : List DurationPart) (part : DurationPart) (left weight sum sum' left' : ℕ) → parts ≡ part ∷ more → weight ≡ weight_of part → list_any (λ p. is_part p part) kept ≡ false → sum' ≡ sum → left' ≡ left % weight → sum' + kept_in kept more left' ≡ sum + kept_in kept parts left
+pub skips_part : (kept parts more : List DurationPart) (part : DurationPart) (left weight sum sum' left' : ℕ)
+    → parts ≡ part ∷ more → weight ≡ weight_of part → list_any (λ p. is_part p part) kept ≡ false
+    → sum' ≡ sum → left' ≡ left % weight
+    → sum' + kept_in kept more left' ≡ sum + kept_in kept parts left
 skips_part kept parts more part left weight sum sum' left' split w among s l =
     let step = kept_in-cons kept part more left in
     rw (s, l, split, step, among, w) (omega arith)
@@ -49,18 +57,23 @@ pub kept_in_end : (kept : List DurationPart) (i left : ℕ) → 10 ≤ i → kep
 kept_in_end kept i left h = ap (λ parts. kept_in kept parts left) (parts_end i h) ∙ kept_in-none kept left
 
 -- the first counts are those of the first parts
-take-counts_of : (limit : ℕ) (parts : List DurationPart) (left : ℕ) → take limit (counts_of parts left) ≡ counts_of (take limit parts) left
+take-counts_of : (limit : ℕ) (parts : List DurationPart) (left : ℕ)
+    → take limit (counts_of parts left) ≡ counts_of (take limit parts) left
 take-counts_of zero parts left = refl
 take-counts_of (suc limit) [] left = refl
 take-counts_of (suc limit) (part ∷ parts) left = ap (λ counts. record { part = part; count = left / weight_of part } ∷ counts) (take-counts_of limit parts (left % weight_of part))
 
 -- counts are what isn't left
-pub nanos_in-counts_of : (parts : List DurationPart) (left : ℕ) → nanos_in (counts_of parts left) + left_after parts left ≡ left
+pub nanos_in-counts_of : (parts : List DurationPart) (left : ℕ)
+    → nanos_in (counts_of parts left) + left_after parts left ≡ left
 nanos_in-counts_of [] left = omega arith
 nanos_in-counts_of (part ∷ parts) left = omega (arith, nanos_in-counts_of parts (left % weight_of part), div-add-mod' left (weight_of part))
 
 -- the parts that stay of a length
-pub truncated_by : (limit nanos end : ℕ) (parts : List DurationPart) (left : ℕ) → counts_of parts nanos ≡ from_first (counts_of all_parts nanos) → end ≡ min limit (length parts) → left ≡ left_after (take end parts) nanos → nanos - left ≡ truncated limit nanos
+pub truncated_by : (limit nanos end : ℕ) (parts : List DurationPart) (left : ℕ)
+    → counts_of parts nanos ≡ from_first (counts_of all_parts nanos)
+    → end ≡ min limit (length parts) → left ≡ left_after (take end parts) nanos
+    → nanos - left ≡ truncated limit nanos
 unfolding truncated breakdown
 truncated_by limit nanos end parts left begin e l =
     let stays = take limit parts in

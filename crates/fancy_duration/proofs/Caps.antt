@@ -4,7 +4,8 @@ use Rattle.std.specs.Str.Parse.{digits_value_after}
 use Rattle.std.specs.Char.{digit_value}
 
 -- the digits that follow a held number
-pub min_digits : (ds : List ℕ) (n m : ℕ) → min (digits_value_after 10 (min n m) ds) m ≡ min (digits_value_after 10 n ds) m
+pub min_digits : (ds : List ℕ) (n m : ℕ)
+    → min (digits_value_after 10 (min n m) ds) m ≡ min (digits_value_after 10 n ds) m
 min_digits [] n m = omega arith
 min_digits (d ∷ ds) n m =
     sym (min_digits ds (min n m * 10 + digit_value d) m) ∙ ap (λ k. min (digits_value_after 10 k ds) m) (same_push n m (digit_value d)) ∙ min_digits ds (n * 10 + digit_value d) m
@@ -13,7 +14,8 @@ min_digits (d ∷ ds) n m =
     same_push n m d = omega arith
 
 -- one more digit at a held number
-pub min_digit : (d n next m : ℕ) (ds : List ℕ) → next ≡ min (min (n * 10) m + digit_value d) m → min (digits_value_after 10 next ds) m ≡ min (digits_value_after 10 n (d ∷ ds)) m
+pub min_digit : (d n next m : ℕ) (ds : List ℕ) → next ≡ min (min (n * 10) m + digit_value d) m
+    → min (digits_value_after 10 next ds) m ≡ min (digits_value_after 10 n (d ∷ ds)) m
 min_digit d n next m ds e =
     let same : next ≡ min (n * 10 + digit_value d) m = omega arith in
     rw same (min_digits ds (n * 10 + digit_value d) m)

@@ -28,12 +28,14 @@ digit_not_blank d e = grind (arith, nat_tests)
 blank_not_letter : (b : ℕ) → is_blank b ≡ true → is_letter b ≡ false
 blank_not_letter b e = grind (arith, nat_tests)
 
-digits_begin : (digits rest : List ℕ) → 0 < length digits → AreDigits digits → (begins_by is_letter (digits ++ rest) ≡ false) × (begins_by is_blank (digits ++ rest) ≡ false)
+digits_begin : (digits rest : List ℕ) → 0 < length digits → AreDigits digits
+    → (begins_by is_letter (digits ++ rest) ≡ false) × (begins_by is_blank (digits ++ rest) ≡ false)
 digits_begin [] rest some are = absurd (omega arith)
 digits_begin (d ∷ ds) rest some are = let e : is_digit d ≡ true = is_digit-from d are.0 in (digit_not_letter d e, digit_not_blank d e)
 
 -- a count, and so a join of counts, begins by a digit
-counts_begin : (parts : List DurationPart) (text : List ℕ) → IsJoin IsCount text parts → (begins_by is_letter text ≡ false) × (begins_by is_blank text ≡ false)
+counts_begin : (parts : List DurationPart) (text : List ℕ) → IsJoin IsCount text parts
+    → (begins_by is_letter text ≡ false) × (begins_by is_blank text ≡ false)
 counts_begin [] text h = (ap (begins_by is_letter) h, ap (begins_by is_blank) h)
 counts_begin (part ∷ parts) text h =
     let tail = (unit_of part ++ h.2.blanks) ++ h.1 in
@@ -41,7 +43,8 @@ counts_begin (part ∷ parts) text h =
     let split : text ≡ h.2.digits ++ tail = h.4 ∙ ap (λ xs. xs ++ h.1) h.2.joined ∙ append_assoc h.2.digits (unit_of part ++ h.2.blanks) h.1 in
     (ap (begins_by is_letter) split ∙ begin.0, ap (begins_by is_blank) split ∙ begin.1)
 
-pub is_unit-unit_of : (part : DurationPart) (rest : List ℕ) → begins_by is_letter rest ≡ false → is_unit (unit_of part) rest ≡ true
+pub is_unit-unit_of : (part : DurationPart) (rest : List ℕ) → begins_by is_letter rest ≡ false
+    → is_unit (unit_of part) rest ≡ true
 is_unit-unit_of Years rest h = simp h
 is_unit-unit_of Months rest h = simp h
 is_unit-unit_of Weeks rest h = simp h
@@ -53,7 +56,8 @@ is_unit-unit_of Milliseconds rest h = refl
 is_unit-unit_of Microseconds rest h = refl
 is_unit-unit_of Nanoseconds rest h = refl
 
-begins_letter-blanks : (blanks rest : List ℕ) → list_all is_blank blanks ≡ true → begins_by is_letter rest ≡ false → begins_by is_letter (blanks ++ rest) ≡ false
+begins_letter-blanks : (blanks rest : List ℕ) → list_all is_blank blanks ≡ true
+    → begins_by is_letter rest ≡ false → begins_by is_letter (blanks ++ rest) ≡ false
 begins_letter-blanks [] rest h e = e
 begins_letter-blanks (b ∷ bs) rest h e = blank_not_letter b (and_parts (is_blank b) (list_all is_blank bs) h).0
 
@@ -63,7 +67,8 @@ pub record Splits (text rest : List ℕ) (part : DurationPart) : Type 0 where
   pub unit : unit_front (behind is_digit text) ≡ unit_of part
   pub after : behind is_blank (unit_behind (behind is_digit text)) ≡ rest
 
-pub count_splits : (parts : List DurationPart) (text rest piece : List ℕ) (part : DurationPart) (c : IsCount piece part) → IsJoin IsCount rest parts → text ≡ piece ++ rest → Splits text rest part
+pub count_splits : (parts : List DurationPart) (text rest piece : List ℕ) (part : DurationPart) (c : IsCount piece part)
+    → IsJoin IsCount rest parts → text ≡ piece ++ rest → Splits text rest part
 count_splits parts text rest piece part c h joined =
     let begin = counts_begin parts rest h in
     let unit = unit_of part in
@@ -85,23 +90,29 @@ count_splits parts text rest piece part c h joined =
     }
 
 -- a text that no digits begin, or that no unit follows
-pub counts_none : (text tail : List ℕ) → tail ≡ behind is_digit text → length tail ≡ length text → HasCounts text → text ≡ []
+pub counts_none : (text tail : List ℕ) → tail ≡ behind is_digit text → length tail ≡ length text
+    → HasCounts text → text ≡ []
 counts_none text tail e same ([], h) = h
 counts_none text tail e same (part ∷ parts, h) =
     let splits = count_splits parts text h.1 h.0 part h.2 h.3 h.4 in
     absurd (omega (arith, ap length e, splits.shorter))
 
-pub counts_other : (text tail unit : List ℕ) → tail ≡ behind is_digit text → unit ≡ unit_front tail → ((part : DurationPart) → unit ≢ unit_of part) → HasCounts text → text ≡ []
+pub counts_other : (text tail unit : List ℕ) → tail ≡ behind is_digit text → unit ≡ unit_front tail
+    → ((part : DurationPart) → unit ≢ unit_of part) → HasCounts text → text ≡ []
 counts_other text tail unit e u none ([], h) = h
 counts_other text tail unit e u none (part ∷ parts, h) =
     let splits = count_splits parts text h.1 h.0 part h.2 h.3 h.4 in
     absurd (none part (u ∙ ap unit_front e ∙ splits.unit))
 
-unit_letter : (part : DurationPart) (bs : List ℕ) → unit_front bs ≡ unit_of part → begins_by is_letter bs ≡ true
+unit_letter : (part : DurationPart) (bs : List ℕ) → unit_front bs ≡ unit_of part
+    → begins_by is_letter bs ≡ true
 unit_letter part bs e = unit_front_some bs (λ none. absurd (omega (arith, unit_some part, ap length e)))
 
 -- the join with a count taken from the front, both ways
-count_added : (text tail unit after rest : List ℕ) (part : DurationPart) → tail ≡ behind is_digit text → length tail ≢ length text → unit ≡ unit_front tail → after ≡ unit_behind tail → rest ≡ behind is_blank after → unit ≡ unit_of part → HasCounts rest → HasCounts text
+count_added : (text tail unit after rest : List ℕ) (part : DurationPart)
+    → tail ≡ behind is_digit text → length tail ≢ length text → unit ≡ unit_front tail
+    → after ≡ unit_behind tail → rest ≡ behind is_blank after → unit ≡ unit_of part → HasCounts rest
+    → HasCounts text
 count_added text tail unit after rest part t some u a r named (parts, h) =
     let digits = leading is_digit text in
     let blanks = leading is_blank after in
@@ -124,18 +135,25 @@ count_added text tail unit after rest part t some u a r named (parts, h) =
     } in
     (part ∷ parts, (digits ++ (unit_of part ++ blanks), rest, count, h, whole))
 
-count_taken : (text tail after rest : List ℕ) → tail ≡ behind is_digit text → length tail ≢ length text → after ≡ unit_behind tail → rest ≡ behind is_blank after → HasCounts text → HasCounts rest
+count_taken : (text tail after rest : List ℕ) → tail ≡ behind is_digit text
+    → length tail ≢ length text → after ≡ unit_behind tail → rest ≡ behind is_blank after
+    → HasCounts text → HasCounts rest
 count_taken text tail after rest t some a r ([], h) = absurd (some (ap length (t ∙ ap (behind is_digit) h) ∙ sym (ap length h)))
 count_taken text tail after rest t some a r (part ∷ parts, h) =
     let splits = count_splits parts text h.1 h.0 part h.2 h.3 h.4 in
     let same : rest ≡ h.1 = r ∙ ap (behind is_blank) (a ∙ ap unit_behind t) ∙ splits.after in
     subst HasCounts (sym same) (parts, h.3)
 
-pub count_stripped : (text tail unit after rest : List ℕ) (part : DurationPart) → tail ≡ behind is_digit text → length tail ≢ length text → unit ≡ unit_front tail → after ≡ unit_behind tail → rest ≡ behind is_blank after → unit ≡ unit_of part → HasCounts rest ↔ HasCounts text
+pub count_stripped : (text tail unit after rest : List ℕ) (part : DurationPart)
+    → tail ≡ behind is_digit text → length tail ≢ length text → unit ≡ unit_front tail
+    → after ≡ unit_behind tail → rest ≡ behind is_blank after → unit ≡ unit_of part
+    → HasCounts rest ↔ HasCounts text
 count_stripped text tail unit after rest part t some u a r named =
     (count_added text tail unit after rest part t some u a r named, count_taken text tail after rest t some a r)
 
-pub length-stripped : (text tail after rest : List ℕ) → tail ≡ behind is_digit text → length tail ≢ length text → after ≡ unit_behind tail → rest ≡ behind is_blank after → length rest < length text
+pub length-stripped : (text tail after rest : List ℕ) → tail ≡ behind is_digit text
+    → length tail ≢ length text → after ≡ unit_behind tail → rest ≡ behind is_blank after
+    → length rest < length text
 length-stripped text tail after rest t some a r =
     omega (arith, ap length t, length-behind is_digit text, ap length a, length-unit_behind tail, ap length r, length-behind is_blank after)
 

@@ -7,10 +7,12 @@ use Rattle.fancy_duration.specs.Items.{begins_by}
 use Rattle.scan_core.specs.Fronts.{leading, behind}
 use Rattle.fancy_duration.specs.inside.Reading.{unit_front, unit_behind, item_at, items_behind, items_of}
 
-pub front_more : (test : ℕ → Bool) (b : ℕ) (rest tail : List ℕ) → rest ≡ b ∷ tail → test b ≡ true → leading test rest ≡ b ∷ leading test tail
+pub front_more : (test : ℕ → Bool) (b : ℕ) (rest tail : List ℕ) → rest ≡ b ∷ tail → test b ≡ true
+    → leading test rest ≡ b ∷ leading test tail
 front_more test b rest tail e h = rw e (simp h)
 
-pub behind_more : (test : ℕ → Bool) (b : ℕ) (rest tail : List ℕ) → rest ≡ b ∷ tail → test b ≡ true → behind test tail ≡ behind test rest
+pub behind_more : (test : ℕ → Bool) (b : ℕ) (rest tail : List ℕ) → rest ≡ b ∷ tail → test b ≡ true
+    → behind test tail ≡ behind test rest
 behind_more test b rest tail e h = rw e (simp h)
 
 pub digit_value-digit : (b : ℕ) → is_digit b ≡ true → digit_value b ≡ b - 48
@@ -28,12 +30,16 @@ unfolding items_of
 items_of-other b bs e = simp e
 
 -- digits that a letter follows
-pub items_of-digits : (b : ℕ) (bs : List ℕ) → is_digit b ≡ true → begins_by is_letter (behind is_digit (b ∷ bs)) ≡ true → items_of (b ∷ bs) ≡ item_at (b ∷ bs) ∷ items_of (behind is_digit (b ∷ bs))
+pub items_of-digits : (b : ℕ) (bs : List ℕ) → is_digit b ≡ true
+    → begins_by is_letter (behind is_digit (b ∷ bs)) ≡ true
+    → items_of (b ∷ bs) ≡ item_at (b ∷ bs) ∷ items_of (behind is_digit (b ∷ bs))
 unfolding items_of
 items_of-digits b bs e f = simp (e, items_behind_digits bs) (let g = simp e at f in simp g)
 
 -- digits that none follows
-pub items_of-digits_alone : (b : ℕ) (bs : List ℕ) → is_digit b ≡ true → begins_by is_letter (behind is_digit (b ∷ bs)) ≡ false → items_of (b ∷ bs) ≡ items_of (behind is_digit (b ∷ bs))
+pub items_of-digits_alone : (b : ℕ) (bs : List ℕ) → is_digit b ≡ true
+    → begins_by is_letter (behind is_digit (b ∷ bs)) ≡ false
+    → items_of (b ∷ bs) ≡ items_of (behind is_digit (b ∷ bs))
 unfolding items_of
 items_of-digits_alone b bs e f = simp (e, items_behind_digits bs) (let g = simp e at f in simp g)
 
@@ -71,21 +77,27 @@ unit_front_some (b ∷ bs) =
     elim (is_letter b) as (λ t. is_letter b ≡ t → length (unit_front (b ∷ bs)) ≢ 0 → is_letter b ≡ true) [ true ↦ λ e h. e | false ↦ λ e. simp e (λ h. absurd (h refl)) ] refl
 
 -- the steps of a search for the first item
-pub passes_other : (b : ℕ) (rest tail : List ℕ) → rest ≡ b ∷ tail → is_digit b ≡ false → items_of rest ≡ items_of tail
+pub passes_other : (b : ℕ) (rest tail : List ℕ) → rest ≡ b ∷ tail → is_digit b ≡ false
+    → items_of rest ≡ items_of tail
 passes_other b rest tail e digit = rw e (items_of-other b tail digit)
 
-pub passes_digits : (b : ℕ) (rest tail after unit : List ℕ) → rest ≡ b ∷ tail → is_digit b ≡ true → after ≡ behind is_digit rest → unit ≡ unit_front after → length unit ≡ 0 → items_of rest ≡ items_of after
+pub passes_digits : (b : ℕ) (rest tail after unit : List ℕ) → rest ≡ b ∷ tail → is_digit b ≡ true
+    → after ≡ behind is_digit rest → unit ≡ unit_front after → length unit ≡ 0
+    → items_of rest ≡ items_of after
 passes_digits b rest tail after unit e digit f g none =
     let alone : begins_by is_letter (behind is_digit (b ∷ tail)) ≡ false = rw e at (rw f at (unit_front_none after (rw g at none))) in
     rw (f, e) (items_of-digits_alone b tail digit alone)
 
-pub finds_item : (b : ℕ) (rest tail after unit end : List ℕ) → rest ≡ b ∷ tail → is_digit b ≡ true → after ≡ behind is_digit rest → unit ≡ unit_front after → end ≡ unit_behind after → length unit ≢ 0 → items_of rest ≡ item_at rest ∷ items_of end
+pub finds_item : (b : ℕ) (rest tail after unit end : List ℕ) → rest ≡ b ∷ tail → is_digit b ≡ true
+    → after ≡ behind is_digit rest → unit ≡ unit_front after → end ≡ unit_behind after
+    → length unit ≢ 0 → items_of rest ≡ item_at rest ∷ items_of end
 finds_item b rest tail after unit end e digit f g h some =
     let followed : begins_by is_letter (behind is_digit (b ∷ tail)) ≡ true = rw e at (rw f at (unit_front_some after (rw g at some))) in
     rw (h, f, e) (items_of-digits b tail digit followed ∙ ap (λ items. item_at (b ∷ tail) ∷ items) (items_of-unit (behind is_digit (b ∷ tail))))
 
 -- what follows a digit run is shorter
-pub length-after_digits : (b : ℕ) (rest tail after : List ℕ) → rest ≡ b ∷ tail → is_digit b ≡ true → after ≡ behind is_digit rest → length after < length rest
+pub length-after_digits : (b : ℕ) (rest tail after : List ℕ) → rest ≡ b ∷ tail → is_digit b ≡ true
+    → after ≡ behind is_digit rest → length after < length rest
 length-after_digits b rest tail after e digit f =
     let shorter : length (behind is_digit tail) ≤ length tail = length-behind is_digit tail in
     rw (f, e) (simp digit (omega (arith, shorter)))

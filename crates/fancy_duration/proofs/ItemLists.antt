@@ -11,7 +11,8 @@ use Rattle.scan_core.proofs.FrontFacts.{length-behind, leading_and_behind, front
 use Rattle.fancy_duration.proofs.Fronts.{length-unit_behind, items_of-other, items_of-digits, items_of-digits_alone, items_of-unit, letter_not_digit}
 
 -- where a text has no item, no letter stands behind the digits that its first digit begins
-no_letter : (b : ℕ) (bs : List ℕ) → is_digit b ≡ true → has_no_item (b ∷ bs) ≡ true → begins_by is_letter (behind is_digit bs) ≡ false
+no_letter : (b : ℕ) (bs : List ℕ) → is_digit b ≡ true → has_no_item (b ∷ bs) ≡ true
+    → begins_by is_letter (behind is_digit bs) ≡ false
 no_letter b [] digit none = refl
 no_letter b (c ∷ cs) digit none =
     let parts = and_parts (not (is_digit b && is_letter c)) (has_no_item (c ∷ cs)) none in
@@ -21,7 +22,9 @@ no_letter b (c ∷ cs) digit none =
     ] refl
 
 -- no item begins at a byte where no letter stands behind its digits
-skips : (digit : Bool) (b : ℕ) (bs : List ℕ) → (is_digit b ≡ true → begins_by is_letter (behind is_digit bs) ≡ false) → items_behind digit (b ∷ bs) ≡ items_behind (is_digit b) bs
+skips : (digit : Bool) (b : ℕ) (bs : List ℕ)
+    → (is_digit b ≡ true → begins_by is_letter (behind is_digit bs) ≡ false)
+    → items_behind digit (b ∷ bs) ≡ items_behind (is_digit b) bs
 skips true b bs h = refl
 skips false b bs h =
     elim (is_digit b) as (λ t. is_digit b ≡ t → items_behind false (b ∷ bs) ≡ items_behind (is_digit b) bs) [ true ↦ λ e. simp (e, h e) | false ↦ λ e. simp e ] refl
@@ -33,7 +36,8 @@ items_none (b ∷ bs) digit none =
     skips digit b bs (λ e. no_letter b bs e none) ∙ items_none bs (is_digit b) parts.1
 
 -- the same inside a text, behind a part that doesn't end by a digit
-no_letter_within : (b : ℕ) (bs rest : List ℕ) → is_digit b ≡ true → has_no_item (b ∷ bs) ≡ true → ends_by is_digit (b ∷ bs) ≡ false → begins_by is_letter (behind is_digit (bs ++ rest)) ≡ false
+no_letter_within : (b : ℕ) (bs rest : List ℕ) → is_digit b ≡ true → has_no_item (b ∷ bs) ≡ true
+    → ends_by is_digit (b ∷ bs) ≡ false → begins_by is_letter (behind is_digit (bs ++ rest)) ≡ false
 no_letter_within b [] rest digit none maximal = absurd (true≢false (sym digit ∙ maximal))
 no_letter_within b (c ∷ cs) rest digit none maximal =
     let parts = and_parts (not (is_digit b && is_letter c)) (has_no_item (c ∷ cs)) none in
@@ -42,14 +46,17 @@ no_letter_within b (c ∷ cs) rest digit none maximal =
       | false ↦ λ e. simp e (let f = simp digit at (not-true _ parts.0) in f)
     ] refl
 
-items_within : (b : ℕ) (bs rest : List ℕ) (digit : Bool) → has_no_item (b ∷ bs) ≡ true → ends_by is_digit (b ∷ bs) ≡ false → items_behind digit ((b ∷ bs) ++ rest) ≡ items_behind false rest
+items_within : (b : ℕ) (bs rest : List ℕ) (digit : Bool) → has_no_item (b ∷ bs) ≡ true
+    → ends_by is_digit (b ∷ bs) ≡ false
+    → items_behind digit ((b ∷ bs) ++ rest) ≡ items_behind false rest
 items_within b [] rest digit none maximal =
     skips digit b rest (λ e. absurd (true≢false (sym e ∙ maximal))) ∙ ap (λ d. items_behind d rest) maximal
 items_within b (c ∷ cs) rest digit none maximal =
     let parts = and_parts (not (is_digit b && begins_by is_letter (c ∷ cs))) (has_no_item (c ∷ cs)) none in
     skips digit b ((c ∷ cs) ++ rest) (λ e. no_letter_within b (c ∷ cs) rest e none maximal) ∙ items_within c cs rest (is_digit b) parts.1 maximal
 
-items_of-before : (before rest : List ℕ) → has_no_item before ≡ true → ends_by is_digit before ≡ false → items_of (before ++ rest) ≡ items_of rest
+items_of-before : (before rest : List ℕ) → has_no_item before ≡ true
+    → ends_by is_digit before ≡ false → items_of (before ++ rest) ≡ items_of rest
 unfolding items_of
 items_of-before [] rest none maximal = refl
 items_of-before (b ∷ bs) rest none maximal = items_within b bs rest false none maximal
@@ -67,7 +74,8 @@ letters_no_digit : (rest : List ℕ) → begins_by is_letter rest ≡ true → B
 letters_no_digit [] h = tt
 letters_no_digit (b ∷ bs) h = letter_not_digit b h
 
-pub digits_split : (digits rest : List ℕ) → AreDigits digits → begins_by is_letter rest ≡ true → (leading is_digit (digits ++ rest) ≡ digits) × (behind is_digit (digits ++ rest) ≡ rest)
+pub digits_split : (digits rest : List ℕ) → AreDigits digits → begins_by is_letter rest ≡ true
+    → (leading is_digit (digits ++ rest) ≡ digits) × (behind is_digit (digits ++ rest) ≡ rest)
 digits_split digits rest h letter =
     let ends = letters_no_digit rest letter in
     (front_of digits rest h ends, after_of digits rest h ends)
@@ -79,7 +87,8 @@ unit_begins (a ∷ []) rest h = (and_parts (is_letter a) _ h).0
 unit_begins (a ∷ b ∷ []) rest h = (and_parts (is_letter a) _ h).0
 unit_begins (a ∷ b ∷ c ∷ cs) rest h = absurd (true≢false (sym h))
 
-pub unit_splits : (unit rest : List ℕ) → is_unit unit rest ≡ true → (unit_front (unit ++ rest) ≡ unit) × (unit_behind (unit ++ rest) ≡ rest)
+pub unit_splits : (unit rest : List ℕ) → is_unit unit rest ≡ true
+    → (unit_front (unit ++ rest) ≡ unit) × (unit_behind (unit ++ rest) ≡ rest)
 unit_splits [] rest h = absurd (true≢false (sym h))
 unit_splits (a ∷ []) [] h =
     let first = (and_parts (is_letter a) _ h).0 in
@@ -94,7 +103,9 @@ unit_splits (a ∷ b ∷ []) rest h =
 unit_splits (a ∷ b ∷ c ∷ cs) rest h = absurd (true≢false (sym h))
 
 -- the item at a text's front
-items_of-first : (digits unit rest : List ℕ) → 0 < length digits → AreDigits digits → is_unit unit rest ≡ true → items_of (digits ++ (unit ++ rest)) ≡ record { digits = digits; unit = unit } ∷ items_of rest
+items_of-first : (digits unit rest : List ℕ) → 0 < length digits → AreDigits digits
+    → is_unit unit rest ≡ true
+    → items_of (digits ++ (unit ++ rest)) ≡ record { digits = digits; unit = unit } ∷ items_of rest
 items_of-first [] unit rest some h u = absurd (omega arith)
 items_of-first (d ∷ ds) unit rest some h u =
     let letter = unit_begins unit rest u in
@@ -130,11 +141,13 @@ begins-behind test (b ∷ bs) =
 digit_not_letter : (b : ℕ) → digit_value b < 10 → is_letter b ≡ false
 digit_not_letter b h = grind (arith, nat_tests)
 
-ends_more : (b : ℕ) (bs : List ℕ) → is_digit b ≡ false → not (ends_by is_digit bs) ≡ true → not (ends_by is_digit (b ∷ bs)) ≡ true
+ends_more : (b : ℕ) (bs : List ℕ) → is_digit b ≡ false → not (ends_by is_digit bs) ≡ true
+    → not (ends_by is_digit (b ∷ bs)) ≡ true
 ends_more b [] e h = simp e
 ends_more b (c ∷ cs) e h = h
 
-pub add_other : (b : ℕ) (bs : List ℕ) (items : List Item) → is_digit b ≡ false → HasItems bs items → HasItems (b ∷ bs) items
+pub add_other : (b : ℕ) (bs : List ℕ) (items : List Item) → is_digit b ≡ false → HasItems bs items
+    → HasItems (b ∷ bs) items
 add_other b bs [] e h = simp e h
 add_other b bs (item ∷ items) e h =
     let first = h.1 in (
@@ -152,7 +165,8 @@ add_other b bs (item ∷ items) e h =
     )
 
 -- digits before a part that begins by no letter
-has_no_item-digits : (ds rest : List ℕ) → AreDigits ds → begins_by is_letter rest ≡ false → has_no_item rest ≡ true → has_no_item (ds ++ rest) ≡ true
+has_no_item-digits : (ds rest : List ℕ) → AreDigits ds → begins_by is_letter rest ≡ false
+    → has_no_item rest ≡ true → has_no_item (ds ++ rest) ≡ true
 has_no_item-digits [] rest digits other none = none
 has_no_item-digits (d ∷ []) rest digits other none = simp other (and_right_from (is_digit d) none)
   where
@@ -167,16 +181,20 @@ has_no_item-digits (d ∷ c ∷ ds) rest digits other none =
     and_right_from true h = h
     and_right_from false h = h
 
-ends_by-append : (ds : List ℕ) (c : ℕ) (cs : List ℕ) → ends_by is_digit (ds ++ c ∷ cs) ≡ ends_by is_digit (c ∷ cs)
+ends_by-append : (ds : List ℕ) (c : ℕ) (cs : List ℕ)
+    → ends_by is_digit (ds ++ c ∷ cs) ≡ ends_by is_digit (c ∷ cs)
 ends_by-append [] c cs = refl
 ends_by-append (d ∷ []) c cs = refl
 ends_by-append (d ∷ e ∷ ds) c cs = ends_by-append (e ∷ ds) c cs
 
-begins_by_digits : (digits rest : List ℕ) → 0 < length digits → AreDigits digits → begins_by is_digit (digits ++ rest) ≡ true
+begins_by_digits : (digits rest : List ℕ) → 0 < length digits → AreDigits digits
+    → begins_by is_digit (digits ++ rest) ≡ true
 begins_by_digits [] rest some h = absurd (omega arith)
 begins_by_digits (d ∷ ds) rest some h = is_digit-from d h.0
 
-add_digits : (ds rest : List ℕ) (items : List Item) → AreDigits ds → begins_by is_letter rest ≡ false → begins_by is_digit rest ≡ false → HasItems rest items → HasItems (ds ++ rest) items
+add_digits : (ds rest : List ℕ) (items : List Item) → AreDigits ds
+    → begins_by is_letter rest ≡ false → begins_by is_digit rest ≡ false → HasItems rest items
+    → HasItems (ds ++ rest) items
 add_digits ds rest [] digits letter digit h = has_no_item-digits ds rest digits letter h
 add_digits ds rest (item ∷ items) digits letter digit h =
     (h.0, behind_gap h.1.before h.1.passed_over h.1.maximal h.1.joined, h.2)
@@ -193,7 +211,8 @@ add_digits ds rest (item ∷ items) digits letter digit h =
       joined = ap (λ xs. ds ++ xs) joined ∙ sym (append_assoc ds (c ∷ cs) _);
     }
 
-pub unit_joins : (bs : List ℕ) → begins_by is_letter bs ≡ true → is_unit (unit_front bs) (unit_behind bs) ≡ true × (unit_front bs ++ unit_behind bs ≡ bs)
+pub unit_joins : (bs : List ℕ) → begins_by is_letter bs ≡ true
+    → is_unit (unit_front bs) (unit_behind bs) ≡ true × (unit_front bs ++ unit_behind bs ≡ bs)
 unit_joins [] h = absurd (true≢false (sym h))
 unit_joins (a ∷ []) h = (simp h, simp h)
 unit_joins (a ∷ b ∷ bs) h =
@@ -203,7 +222,9 @@ unit_joins (a ∷ b ∷ bs) h =
     ] refl
 
 -- the items of a text that begins by a digit, given those of all shorter ones
-items_at_digit : (b : ℕ) (bs : List ℕ) → is_digit b ≡ true → ((rest : List ℕ) → length rest ≤ length bs → HasItems rest (items_of rest)) → HasItems (b ∷ bs) (items_of (b ∷ bs))
+items_at_digit : (b : ℕ) (bs : List ℕ) → is_digit b ≡ true
+    → ((rest : List ℕ) → length rest ≤ length bs → HasItems rest (items_of rest))
+    → HasItems (b ∷ bs) (items_of (b ∷ bs))
 items_at_digit b bs e shorter =
     elim (begins_by is_letter rest) as (λ t. begins_by is_letter rest ≡ t → HasItems text (items_of text)) [
       | true ↦ λ f.

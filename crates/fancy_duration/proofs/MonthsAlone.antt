@@ -10,7 +10,8 @@ use Rattle.fancy_duration.specs.Written.{written}
 use Rattle.fancy_duration.specs.Collisions.{MonthsStandAlone}
 use Rattle.fancy_duration.proofs.ReadBack.{read_back}
 
-pub alone_by_remainders : (n : ℕ) → ((weight_of Months ≤ n % weight_of Years) × (n % weight_of Years % weight_of Months < weight_of Minutes)) ↔ MonthsStandAlone n
+pub alone_by_remainders : (n : ℕ)
+    → ((weight_of Months ≤ n % weight_of Years) × (n % weight_of Years % weight_of Months < weight_of Minutes)) ↔ MonthsStandAlone n
 unfolding breakdown count_of
 alone_by_remainders n = (
   λ h. record {
@@ -28,7 +29,10 @@ not_tested true is = (λ e. absurd (true≢false (sym e)), λ h. absurd (h (is.0
 not_tested false is = (λ e p. true≢false (sym (is.1 p)), λ h. refl)
 
 -- a text is read back where a test says that the months don't stand alone
-pub tells_read_back : (times : ℕ × ℕ) (nanos : ℕ) (alone : Bool) → nanos ≡ nanos_of times → nanos < 2 ^ 64 * 1_000_000_000 → times.1 < 1_000_000_000 → (IsTrue alone ↔ MonthsStandAlone nanos) → IsTrue (not alone) ↔ Denotes (written (nanos_of times)) times
+pub tells_read_back : (times : ℕ × ℕ) (nanos : ℕ) (alone : Bool) → nanos ≡ nanos_of times
+    → nanos < 2 ^ 64 * 1_000_000_000 → times.1 < 1_000_000_000
+    → (IsTrue alone ↔ MonthsStandAlone nanos)
+    → IsTrue (not alone) ↔ Denotes (written (nanos_of times)) times
 tells_read_back times nanos alone e small below is =
     let back = read_back times (omega arith) below in
     let test : IsTrue (not alone) ↔ (¬ (MonthsStandAlone (nanos_of times))) = not_tested alone (rw e at is) in

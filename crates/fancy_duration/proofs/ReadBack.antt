@@ -30,12 +30,14 @@ below_minutes s ms us ns = of Seconds s ∷ of Milliseconds ms ∷ of Microsecon
 abbrev pub below_months : ℕ → ℕ → ℕ → ℕ → ℕ → ℕ → ℕ → ℕ → List PartCount
 below_months w d h mi s ms us ns = of Weeks w ∷ of Days d ∷ of Hours h ∷ of Minutes mi ∷ below_minutes s ms us ns
 
-long-short : (c : PartCount) (counts : List PartCount) → is_long (unit_of c.part) ≡ false → long_follows (items_in (c ∷ counts)) ≡ long_follows (items_in counts)
+long-short : (c : PartCount) (counts : List PartCount) → is_long (unit_of c.part) ≡ false
+    → long_follows (items_in (c ∷ counts)) ≡ long_follows (items_in counts)
 long-short c counts e =
     let short : (nat_lt 0 c.count && is_long (unit_of c.part)) ≡ false = and_right (nat_lt 0 c.count) (is_long (unit_of c.part)) e in
     long-cons c counts ∙ ap (λ b. b || long_follows (items_in counts)) short
 
-long-long : (c : PartCount) (counts : List PartCount) → is_long (unit_of c.part) ≡ true → long_follows (items_in (c ∷ counts)) ≡ (nat_lt 0 c.count || long_follows (items_in counts))
+long-long : (c : PartCount) (counts : List PartCount) → is_long (unit_of c.part) ≡ true
+    → long_follows (items_in (c ∷ counts)) ≡ (nat_lt 0 c.count || long_follows (items_in counts))
 long-long c counts e =
     long-cons c counts ∙ ap (λ b. (nat_lt 0 c.count && b) || long_follows (items_in counts)) e ∙ ap (λ b. b || long_follows (items_in counts)) (and_true (nat_lt 0 c.count))
   where
@@ -55,7 +57,8 @@ none_long s ms us ns =
 abbrev some_long : ℕ → ℕ → ℕ → ℕ → Bool
 some_long w d h mi = nat_lt 0 w || (nat_lt 0 d || (nat_lt 0 h || (nat_lt 0 mi || false)))
 
-long_below_months : (w d h mi s ms us ns : ℕ) → long_follows (items_in (below_months w d h mi s ms us ns)) ≡ some_long w d h mi
+long_below_months : (w d h mi s ms us ns : ℕ)
+    → long_follows (items_in (below_months w d h mi s ms us ns)) ≡ some_long w d h mi
 long_below_months w d h mi s ms us ns =
     long-long (of Weeks w) (of Days d ∷ of Hours h ∷ of Minutes mi ∷ below_minutes s ms us ns) refl
     ∙ ap (λ b. nat_lt 0 w || b) (long-long (of Days d) (of Hours h ∷ of Minutes mi ∷ below_minutes s ms us ns) refl)
@@ -64,23 +67,29 @@ long_below_months w d h mi s ms us ns =
     ∙ ap (λ b. nat_lt 0 w || (nat_lt 0 d || (nat_lt 0 h || (nat_lt 0 mi || b)))) (none_long s ms us ns)
 
 -- a count of a part whose unit has one weight
-weighs : (part : DurationPart) (count weight : ℕ) (counts : List PartCount) → count < 2 ^ 64 → ((b : Bool) → weight_in (unit_of part) b ≡ weight) → total (items_in (of part count ∷ counts)) ≡ count * weight + total (items_in counts)
+weighs : (part : DurationPart) (count weight : ℕ) (counts : List PartCount) → count < 2 ^ 64
+    → ((b : Bool) → weight_in (unit_of part) b ≡ weight)
+    → total (items_in (of part count ∷ counts)) ≡ count * weight + total (items_in counts)
 weighs part count weight counts fits e =
     total-cons (of part count) counts fits ∙ ap (λ w. count * w + total (items_in counts)) (e (long_follows (items_in counts)))
 
-total_below_minutes : (s ms us ns : ℕ) → s < 2 ^ 64 → ms < 2 ^ 64 → us < 2 ^ 64 → ns < 2 ^ 64 → total (items_in (below_minutes s ms us ns)) ≡ s * 1_000_000_000 + (ms * 1_000_000 + (us * 1_000 + (ns * 1 + 0)))
+total_below_minutes : (s ms us ns : ℕ) → s < 2 ^ 64 → ms < 2 ^ 64 → us < 2 ^ 64 → ns < 2 ^ 64
+    → total (items_in (below_minutes s ms us ns)) ≡ s * 1_000_000_000 + (ms * 1_000_000 + (us * 1_000 + (ns * 1 + 0)))
 total_below_minutes s ms us ns fs fms fus fns =
     weighs Seconds s 1_000_000_000 (of Milliseconds ms ∷ of Microseconds us ∷ of Nanoseconds ns ∷ []) fs (λ b. refl)
     ∙ ap (λ n. s * 1_000_000_000 + n) (weighs Milliseconds ms 1_000_000 (of Microseconds us ∷ of Nanoseconds ns ∷ []) fms (λ b. refl)
     ∙ ap (λ n. ms * 1_000_000 + n) (weighs Microseconds us 1_000 (of Nanoseconds ns ∷ []) fus (λ b. refl)
     ∙ ap (λ n. us * 1_000 + n) (weighs Nanoseconds ns 1 [] fns (λ b. refl))))
 
-total_minutes : (mi s ms us ns : ℕ) → mi < 2 ^ 64 → total (items_in (of Minutes mi ∷ below_minutes s ms us ns)) ≡ mi * weight_of Minutes + total (items_in (below_minutes s ms us ns))
+total_minutes : (mi s ms us ns : ℕ) → mi < 2 ^ 64
+    → total (items_in (of Minutes mi ∷ below_minutes s ms us ns)) ≡ mi * weight_of Minutes + total (items_in (below_minutes s ms us ns))
 total_minutes mi s ms us ns fits =
     total-cons (of Minutes mi) (below_minutes s ms us ns) fits
     ∙ ap (λ b. mi * weight_in (codes "m") b + total (items_in (below_minutes s ms us ns))) (none_long s ms us ns)
 
-total_below_months : (w d h mi s ms us ns : ℕ) → w < 2 ^ 64 → d < 2 ^ 64 → h < 2 ^ 64 → mi < 2 ^ 64 → s < 2 ^ 64 → ms < 2 ^ 64 → us < 2 ^ 64 → ns < 2 ^ 64 → total (items_in (below_months w d h mi s ms us ns)) ≡ nanos_in (below_months w d h mi s ms us ns)
+total_below_months : (w d h mi s ms us ns : ℕ) → w < 2 ^ 64 → d < 2 ^ 64 → h < 2 ^ 64 → mi < 2 ^ 64
+    → s < 2 ^ 64 → ms < 2 ^ 64 → us < 2 ^ 64 → ns < 2 ^ 64
+    → total (items_in (below_months w d h mi s ms us ns)) ≡ nanos_in (below_months w d h mi s ms us ns)
 total_below_months w d h mi s ms us ns fw fd fh fmi fs fms fus fns =
     weighs Weeks w (weight_of Weeks) (of Days d ∷ of Hours h ∷ of Minutes mi ∷ below_minutes s ms us ns) fw (λ b. refl)
     ∙ ap (λ n. w * weight_of Weeks + n) (weighs Days d (weight_of Days) (of Hours h ∷ of Minutes mi ∷ below_minutes s ms us ns) fd (λ b. refl)
@@ -88,7 +97,9 @@ total_below_months w d h mi s ms us ns fw fd fh fmi fs fms fus fns =
     ∙ ap (λ n. h * weight_of Hours + n) (total_minutes mi s ms us ns fmi
     ∙ ap (λ n. mi * weight_of Minutes + n) (total_below_minutes s ms us ns fs fms fus fns))))
 
-total_with_months : (mo : ℕ) (counts : List PartCount) (b : Bool) → mo < 2 ^ 64 → long_follows (items_in counts) ≡ b → total (items_in (of Months mo ∷ counts)) ≡ mo * weight_in (codes "m") b + total (items_in counts)
+total_with_months : (mo : ℕ) (counts : List PartCount) (b : Bool) → mo < 2 ^ 64
+    → long_follows (items_in counts) ≡ b
+    → total (items_in (of Months mo ∷ counts)) ≡ mo * weight_in (codes "m") b + total (items_in counts)
 total_with_months mo counts b fits e =
     total-cons (of Months mo) counts fits ∙ ap (λ b. mo * weight_in (codes "m") b + total (items_in counts)) e
 
@@ -96,14 +107,18 @@ total_with_months mo counts b fits e =
 abbrev pub ten : ℕ → ℕ → ℕ → ℕ → ℕ → ℕ → ℕ → ℕ → ℕ → ℕ → List PartCount
 ten y mo w d h mi s ms us ns = of Years y ∷ of Months mo ∷ below_months w d h mi s ms us ns
 
-total_ten : (y mo w d h mi s ms us ns : ℕ) (b : Bool) → y < 2 ^ 64 → mo < 2 ^ 64 → some_long w d h mi ≡ b → total (items_in (below_months w d h mi s ms us ns)) ≡ nanos_in (below_months w d h mi s ms us ns) → total (items_in (ten y mo w d h mi s ms us ns)) ≡ y * weight_of Years + (mo * weight_in (codes "m") b + nanos_in (below_months w d h mi s ms us ns))
+total_ten : (y mo w d h mi s ms us ns : ℕ) (b : Bool) → y < 2 ^ 64 → mo < 2 ^ 64
+    → some_long w d h mi ≡ b
+    → total (items_in (below_months w d h mi s ms us ns)) ≡ nanos_in (below_months w d h mi s ms us ns)
+    → total (items_in (ten y mo w d h mi s ms us ns)) ≡ y * weight_of Years + (mo * weight_in (codes "m") b + nanos_in (below_months w d h mi s ms us ns))
 total_ten y mo w d h mi s ms us ns b fy fmo e below =
     weighs Years y (weight_of Years) (of Months mo ∷ below_months w d h mi s ms us ns) fy (λ b. refl)
     ∙ ap (λ n. y * weight_of Years + n) (total_with_months mo (below_months w d h mi s ms us ns) b fmo (long_below_months w d h mi s ms us ns ∙ e)
     ∙ ap (λ n. mo * weight_in (codes "m") b + n) below)
 
 -- the ten counts of a length
-pub breakdown_ten : (n : ℕ) → breakdown n ≡ ten (count_of Years n) (count_of Months n) (count_of Weeks n) (count_of Days n) (count_of Hours n) (count_of Minutes n) (count_of Seconds n) (count_of Milliseconds n) (count_of Microseconds n) (count_of Nanoseconds n)
+pub breakdown_ten : (n : ℕ)
+    → breakdown n ≡ ten (count_of Years n) (count_of Months n) (count_of Weeks n) (count_of Days n) (count_of Hours n) (count_of Minutes n) (count_of Seconds n) (count_of Milliseconds n) (count_of Microseconds n) (count_of Nanoseconds n)
 unfolding breakdown count_of
 breakdown_ten n = refl
 
@@ -111,7 +126,8 @@ pub breakdown_sum : (n : ℕ) → nanos_in (breakdown n) ≡ n
 unfolding breakdown
 breakdown_sum n = omega (arith, nanos_in-counts_of all_parts n)
 
-fits_ten : (y mo w d h mi s ms us ns : ℕ) → counts_fit (ten y mo w d h mi s ms us ns) ≡ true → (y < 2 ^ 64) × (mo < 2 ^ 64) × (total (items_in (below_months w d h mi s ms us ns)) ≡ nanos_in (below_months w d h mi s ms us ns))
+fits_ten : (y mo w d h mi s ms us ns : ℕ) → counts_fit (ten y mo w d h mi s ms us ns) ≡ true
+    → (y < 2 ^ 64) × (mo < 2 ^ 64) × (total (items_in (below_months w d h mi s ms us ns)) ≡ nanos_in (below_months w d h mi s ms us ns))
 fits_ten y mo w d h mi s ms us ns e =
     let py = and_parts (nat_lt y (2 ^ 64)) _ e in
     let pmo = and_parts (nat_lt mo (2 ^ 64)) _ py.1 in
@@ -190,11 +206,13 @@ longer_none w d h mi e =
     (omega (arith, ltb-false 0 w pw.0), omega (arith, ltb-false 0 d pd.0), omega (arith, ltb-false 0 h ph.0), omega (arith, ltb-false 0 mi pmi.0))
 
 -- where months stand alone, they are read as minutes
-pub read_alone : (n : ℕ) → n < 2 ^ 64 * 1_000_000_000 → MonthsStandAlone n → total (items_of (written n)) + count_of Months n * weight_of Months ≡ n + count_of Months n * weight_of Minutes
+pub read_alone : (n : ℕ) → n < 2 ^ 64 * 1_000_000_000 → MonthsStandAlone n
+    → total (items_of (written n)) + count_of Months n * weight_of Months ≡ n + count_of Months n * weight_of Minutes
 read_alone n h alone = (reads n h).short (none_longer _ _ _ _ alone.weeks alone.days alone.hours alone.minutes)
 
 -- and else the text is read as it was written
-pub read_whole : (n : ℕ) → n < 2 ^ 64 * 1_000_000_000 → (total (items_of (written n)) ≡ n) ⊎ MonthsStandAlone n
+pub read_whole : (n : ℕ) → n < 2 ^ 64 * 1_000_000_000
+    → (total (items_of (written n)) ≡ n) ⊎ MonthsStandAlone n
 read_whole n h =
     let w = count_of Weeks n in
     let d = count_of Days n in
@@ -212,7 +230,8 @@ read_whole n h =
         (λ (zero_months : count_of Months n ≤ 0). inl (omega (arith, sum, zero_months)))
         (cases_lt 0 (count_of Months n))
 
-pub read_back : (times : ℕ × ℕ) → times.0 < 2 ^ 64 → times.1 < 1_000_000_000 → Denotes (written (nanos_of times)) times ↔ (¬ (MonthsStandAlone (nanos_of times)))
+pub read_back : (times : ℕ × ℕ) → times.0 < 2 ^ 64 → times.1 < 1_000_000_000
+    → Denotes (written (nanos_of times)) times ↔ (¬ (MonthsStandAlone (nanos_of times)))
 read_back times fits below = (apart, whole)
   where
     bound : nanos_of times < 2 ^ 64 * 1_000_000_000

@@ -29,7 +29,8 @@ reduced-counts_of (part ∷ parts) n =
     (omega (arith, nanos_in-counts_of parts (n % weight_of part), mod-lt n (weight_some part)), reduced-counts_of parts (n % weight_of part))
 
 -- such counts are the counts of the length that they make
-counts_back : (counts : List PartCount) → Reduced counts → counts_of (map (λ c. c.part) counts) (nanos_in counts) ≡ counts
+counts_back : (counts : List PartCount) → Reduced counts
+    → counts_of (map (λ c. c.part) counts) (nanos_in counts) ≡ counts
 counts_back [] h = refl
 counts_back (c ∷ counts) h =
     let w = weight_of c.part in
@@ -46,7 +47,8 @@ pub breakdown_reduced : (n : ℕ) → Reduced (breakdown n)
 unfolding breakdown
 breakdown_reduced n = reduced-counts_of all_parts n
 
-reduced_minutes : (y k s ms us ns : ℕ) → Reduced (with_months y k s ms us ns) → Reduced (with_minutes y k s ms us ns)
+reduced_minutes : (y k s ms us ns : ℕ) → Reduced (with_months y k s ms us ns)
+    → Reduced (with_minutes y k s ms us ns)
 reduced_minutes y k s ms us ns h =
     let below : nanos_in (of Seconds s ∷ of Milliseconds ms ∷ of Microseconds us ∷ of Nanoseconds ns ∷ []) < weight_of Minutes = h.1.1.1.1.1.0 in (
       omega (arith, h.0, below),
@@ -65,7 +67,8 @@ reduced_minutes y k s ms us ns h =
       ),
     )
 
-pub breakdown_from : (counts : List PartCount) (n : ℕ) → map (λ c. c.part) counts ≡ all_parts → Reduced counts → nanos_in counts ≡ n → breakdown n ≡ counts
+pub breakdown_from : (counts : List PartCount) (n : ℕ) → map (λ c. c.part) counts ≡ all_parts
+    → Reduced counts → nanos_in counts ≡ n → breakdown n ≡ counts
 unfolding breakdown
 breakdown_from counts n parts h e = ap (λ m. counts_of all_parts m) (sym e) ∙ ap (λ ps. counts_of ps (nanos_in counts)) (sym parts) ∙ counts_back counts h
 
@@ -74,12 +77,14 @@ unfolding count_of
 count_in-breakdown part n = refl
 
 -- the counts of a length whose months stand alone
-alone_counts : (n : ℕ) → MonthsStandAlone n → breakdown n ≡ with_months (count_of Years n) (count_of Months n) (count_of Seconds n) (count_of Milliseconds n) (count_of Microseconds n) (count_of Nanoseconds n)
+alone_counts : (n : ℕ) → MonthsStandAlone n
+    → breakdown n ≡ with_months (count_of Years n) (count_of Months n) (count_of Seconds n) (count_of Milliseconds n) (count_of Microseconds n) (count_of Nanoseconds n)
 alone_counts n alone =
     breakdown_ten n ∙ (λ i. ten (count_of Years n) (count_of Months n) (alone.weeks i) (alone.days i) (alone.hours i) (alone.minutes i) (count_of Seconds n) (count_of Milliseconds n) (count_of Microseconds n) (count_of Nanoseconds n))
 
 -- a length whose months stand alone, and the one that its text is read as
-swaps : (s t y k sec ms us ns : ℕ) → 0 < k → breakdown s ≡ with_months y k sec ms us ns → t + k * weight_of Months ≡ s + k * weight_of Minutes → Swaps k s t
+swaps : (s t y k sec ms us ns : ℕ) → 0 < k → breakdown s ≡ with_months y k sec ms us ns
+    → t + k * weight_of Months ≡ s + k * weight_of Minutes → Swaps k s t
 swaps s t y k sec ms us ns some bs e =
     let reduced : Reduced (with_months y k sec ms us ns) = subst Reduced bs (breakdown_reduced s) in
     let sum : nanos_in (with_months y k sec ms us ns) ≡ s = ap nanos_in (sym bs) ∙ breakdown_sum s in
@@ -103,18 +108,23 @@ swaps s t y k sec ms us ns some bs e =
       nanoseconds = in_s Nanoseconds ∙ sym (in_t Nanoseconds);
     }
 
-alone_swaps : (s t : ℕ) → MonthsStandAlone s → t + count_of Months s * weight_of Months ≡ s + count_of Months s * weight_of Minutes → Swaps (count_of Months s) s t
+alone_swaps : (s t : ℕ) → MonthsStandAlone s
+    → t + count_of Months s * weight_of Months ≡ s + count_of Months s * weight_of Minutes
+    → Swaps (count_of Months s) s t
 alone_swaps s t alone e = swaps s t (count_of Years s) (count_of Months s) (count_of Seconds s) (count_of Milliseconds s) (count_of Microseconds s) (count_of Nanoseconds s) alone.months (alone_counts s alone) e
 
 -- two lengths whose months stand alone and that are read as one are one
-both_alone : (s t r : ℕ) → MonthsStandAlone s → MonthsStandAlone t → r + count_of Months s * weight_of Months ≡ s + count_of Months s * weight_of Minutes → r + count_of Months t * weight_of Months ≡ t + count_of Months t * weight_of Minutes → s ≡ t
+both_alone : (s t r : ℕ) → MonthsStandAlone s → MonthsStandAlone t
+    → r + count_of Months s * weight_of Months ≡ s + count_of Months s * weight_of Minutes
+    → r + count_of Months t * weight_of Months ≡ t + count_of Months t * weight_of Minutes → s ≡ t
 both_alone s t r alone_s alone_t es et =
     let first = alone_swaps s r alone_s es in
     let second = alone_swaps t r alone_t et in
     let months : count_of Months s ≡ count_of Months t = sym first.second_minutes ∙ second.second_minutes in
     omega (arith, es, et, months)
 
-pub shared : (s t : ℕ) → s < 2 ^ 64 * 1_000_000_000 → t < 2 ^ 64 * 1_000_000_000 → written s ≡ written t → s ≢ t → Collide s t
+pub shared : (s t : ℕ) → s < 2 ^ 64 * 1_000_000_000 → t < 2 ^ 64 * 1_000_000_000
+    → written s ≡ written t → s ≢ t → Collide s t
 shared s t hs ht e differ =
     let same : total (items_of (written s)) ≡ total (items_of (written t)) = ap (λ text. total (items_of text)) e in
     ⊎_elim
@@ -143,7 +153,8 @@ no_minutes : count_of Minutes 0 ≡ 0
 unfolding count_of breakdown
 no_minutes = refl
 
-same_pieces : (y k s ms us ns : ℕ) → 0 < k → map piece (above_zero (with_months y k s ms us ns)) ≡ map piece (above_zero (with_minutes y k s ms us ns))
+same_pieces : (y k s ms us ns : ℕ) → 0 < k
+    → map piece (above_zero (with_months y k s ms us ns)) ≡ map piece (above_zero (with_minutes y k s ms us ns))
 same_pieces y k s ms us ns some =
     let e : nat_lt 0 k ≡ true = lt-ltb 0 k some in
     elim (nat_lt 0 y) as (λ t. nat_lt 0 y ≡ t → map piece (above_zero (with_months y k s ms us ns)) ≡ map piece (above_zero (with_minutes y k s ms us ns))) [
@@ -172,7 +183,9 @@ collided s t (k, inl h) = swapped k s t h
 collided s t (k, inr h) = sym (swapped k t s h)
 
 -- over seconds and nanoseconds
-pub collisions : (s t : ℕ × ℕ) → s.0 < 2 ^ 64 → t.0 < 2 ^ 64 → s.1 < 1_000_000_000 → t.1 < 1_000_000_000 → s ≢ t → (written (nanos_of s) ≡ written (nanos_of t)) ↔ Collide (nanos_of s) (nanos_of t)
+pub collisions : (s t : ℕ × ℕ) → s.0 < 2 ^ 64 → t.0 < 2 ^ 64 → s.1 < 1_000_000_000
+    → t.1 < 1_000_000_000 → s ≢ t
+    → (written (nanos_of s) ≡ written (nanos_of t)) ↔ Collide (nanos_of s) (nanos_of t)
 collisions s t fs ft bs bt differ = (
   λ e. shared (nanos_of s) (nanos_of t) (omega arith) (omega arith) e (λ same. differ (one_pair same)),
   collided (nanos_of s) (nanos_of t),

@@ -11,7 +11,8 @@ concat-onto_first : (b : ℕ) (parts : List (List ℕ)) → concat (onto_first b
 concat-onto_first b [] = refl
 concat-onto_first b (part ∷ parts) = refl
 
-pub concat-slice_split : (bs : List ℕ) → concat (slice_split (λ b. nat_eq b 32) bs) ≡ filter (λ b. not (nat_eq b 32)) bs
+pub concat-slice_split : (bs : List ℕ)
+    → concat (slice_split (λ b. nat_eq b 32) bs) ≡ filter (λ b. not (nat_eq b 32)) bs
 concat-slice_split [] = refl
 concat-slice_split (b ∷ bs) =
     elim (nat_eq b 32) as (λ t. nat_eq b 32 ≡ t → concat (slice_split (λ b. nat_eq b 32) (b ∷ bs)) ≡ filter (λ b. not (nat_eq b 32)) (b ∷ bs)) [
@@ -24,6 +25,8 @@ flat_map-now [] = refl
 flat_map-now (x ∷ xs) = ap (λ ys. x.now ++ ys) (flat_map-now xs)
 
 -- the pieces that were collected are all pieces
-pub text_from_pieces : {S Z E : Type 0} {steps : S → Option (Bor (List ℕ)) → S → Type 0} {s : S} {all : List (List ℕ)} (r : Result (String Z) E) → MatchResult r (λ w. (xs : List (Bor (List ℕ))) × DrainsIf steps ⊤ s xs × (string_bytes w ≡ flat_map (λ x. x.now) xs)) (λ _. ⊤) → YieldsList steps (λ x. x.now) s all → IfOk r (λ w. string_bytes w ≡ concat all)
+pub text_from_pieces : {S Z E : Type 0} {steps : S → Option (Bor (List ℕ)) → S → Type 0} {s : S} {all : List (List ℕ)} (r : Result (String Z) E)
+    → MatchResult r (λ w. (xs : List (Bor (List ℕ))) × DrainsIf steps ⊤ s xs × (string_bytes w ≡ flat_map (λ x. x.now) xs)) (λ _. ⊤)
+    → YieldsList steps (λ x. x.now) s all → IfOk r (λ w. string_bytes w ≡ concat all)
 text_from_pieces (Err e) h yields = tt
 text_from_pieces (Ok w) h yields = h.2 ∙ flat_map-now h.0 ∙ ap concat (items_from_drains h.0 h.1 yields)

@@ -14,7 +14,8 @@ use Rattle.fancy_duration.proofs.Texts.{above_fits}
 use Rattle.fancy_duration.proofs.ReadBack.{breakdown_sum, breakdown_fits}
 
 -- a count with these blanks behind it
-is_count : (c : PartCount) (blanks : List ℕ) → c.count < 2 ^ 64 → list_all is_blank blanks ≡ true → IsCount (piece c ++ blanks) c.part
+is_count : (c : PartCount) (blanks : List ℕ) → c.count < 2 ^ 64 → list_all is_blank blanks ≡ true
+    → IsCount (piece c ++ blanks) c.part
 is_count c blanks fits blank =
     let numeral = decimal_is_IsNumeral c.count fits in
     record {
@@ -27,7 +28,8 @@ is_count c blanks fits blank =
     }
 
 -- counts with a space between each two are a join of counts
-joined_counts : (counts : List PartCount) → counts_fit counts ≡ true → IsJoin IsCount (join_with_byte 32 (map piece counts)) (map (λ c. c.part) counts)
+joined_counts : (counts : List PartCount) → counts_fit counts ≡ true
+    → IsJoin IsCount (join_with_byte 32 (map piece counts)) (map (λ c. c.part) counts)
 joined_counts [] fits = refl
 joined_counts (c ∷ []) fits =
     let first = is_count c [] (ltb-true _ _ (and_parts (nat_lt c.count (2 ^ 64)) true fits).0) refl in

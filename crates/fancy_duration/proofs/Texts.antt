@@ -17,7 +17,8 @@ use Rattle.fancy_duration.proofs.Counts.{is_unit-unit_of}
 abbrev pub item_of : PartCount → Item
 item_of c = record { digits = decimal c.count; unit = unit_of c.part }
 
-first_piece : (c : PartCount) (rest : List ℕ) → c.count < 2 ^ 64 → begins_by is_letter rest ≡ false → IsFirstItem (piece c ++ rest) (item_of c) rest
+first_piece : (c : PartCount) (rest : List ℕ) → c.count < 2 ^ 64 → begins_by is_letter rest ≡ false
+    → IsFirstItem (piece c ++ rest) (item_of c) rest
 first_piece c rest fits letter =
     let numeral = decimal_is_IsNumeral c.count fits in
     record {
@@ -30,7 +31,8 @@ first_piece c rest fits letter =
       joined = append_assoc (decimal c.count) (unit_of c.part) rest;
     }
 
-pub items_joined : (counts : List PartCount) → counts_fit counts ≡ true → HasItems (join_with_byte 32 (map piece counts)) (map item_of counts)
+pub items_joined : (counts : List PartCount) → counts_fit counts ≡ true
+    → HasItems (join_with_byte 32 (map piece counts)) (map item_of counts)
 items_joined [] fits = refl
 items_joined (c ∷ []) fits =
     let first = first_piece c [] (ltb-true _ _ (and_parts (nat_lt c.count (2 ^ 64)) true fits).0) refl in
@@ -51,7 +53,8 @@ above_fits (c ∷ counts) fits =
     ] refl
 
 -- the items of the text are the counts above 0
-pub written_items : (nanos : ℕ) → counts_fit (breakdown nanos) ≡ true → HasItems (written nanos) (map item_of (above_zero (breakdown nanos)))
+pub written_items : (nanos : ℕ) → counts_fit (breakdown nanos) ≡ true
+    → HasItems (written nanos) (map item_of (above_zero (breakdown nanos)))
 unfolding written breakdown
 written_items nanos fits =
     elim (nat_eq nanos 0) as (λ t. nat_eq nanos 0 ≡ t → HasItems (written nanos) (map item_of (above_zero (breakdown nanos)))) [
@@ -63,14 +66,16 @@ written_items nanos fits =
 abbrev pub items_in : List PartCount → List Item
 items_in counts = map item_of (above_zero counts)
 
-pub total-cons : (c : PartCount) (counts : List PartCount) → c.count < 2 ^ 64 → total (items_in (c ∷ counts)) ≡ c.count * weight_in (unit_of c.part) (long_follows (items_in counts)) + total (items_in counts)
+pub total-cons : (c : PartCount) (counts : List PartCount) → c.count < 2 ^ 64
+    → total (items_in (c ∷ counts)) ≡ c.count * weight_in (unit_of c.part) (long_follows (items_in counts)) + total (items_in counts)
 total-cons c counts fits =
     elim (nat_lt 0 c.count) as (λ t. nat_lt 0 c.count ≡ t → total (items_in (c ∷ counts)) ≡ c.count * weight_in (unit_of c.part) (long_follows (items_in counts)) + total (items_in counts)) [
       | true ↦ λ e. simp e (ap (λ n. n * weight_in (unit_of c.part) (long_follows (items_in counts)) + total (items_in counts)) (decimal_is_IsNumeral c.count fits).1)
       | false ↦ λ e. let z : c.count ≡ 0 = omega (arith, ltb-false 0 c.count e) in simp e (rw z (omega arith))
     ] refl
 
-pub long-cons : (c : PartCount) (counts : List PartCount) → long_follows (items_in (c ∷ counts)) ≡ ((nat_lt 0 c.count && is_long (unit_of c.part)) || long_follows (items_in counts))
+pub long-cons : (c : PartCount) (counts : List PartCount)
+    → long_follows (items_in (c ∷ counts)) ≡ ((nat_lt 0 c.count && is_long (unit_of c.part)) || long_follows (items_in counts))
 long-cons c counts =
     elim (nat_lt 0 c.count) as (λ t. nat_lt 0 c.count ≡ t → long_follows (items_in (c ∷ counts)) ≡ ((nat_lt 0 c.count && is_long (unit_of c.part)) || long_follows (items_in counts))) [
       | true ↦ λ e. simp e

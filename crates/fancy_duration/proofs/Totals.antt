@@ -13,7 +13,9 @@ pub sum_exists : (text : List ℕ) → SumsTo text (total (items_of text))
 sum_exists text = record { items = items_of text; all = items_exist text; sum = refl }
 
 -- a sum that 128 bits hold, by its seconds
-pub denotes : (text bytes : List ℕ) (nanos seconds : ℕ) → bytes ≡ text → nanos ≡ capped (total (items_of bytes)) → nanos / 1_000_000_000 < 2 ^ 64 → seconds ≡ nanos / 1_000_000_000 → Denotes text (seconds, nanos % 1_000_000_000)
+pub denotes : (text bytes : List ℕ) (nanos seconds : ℕ) → bytes ≡ text
+    → nanos ≡ capped (total (items_of bytes)) → nanos / 1_000_000_000 < 2 ^ 64
+    → seconds ≡ nanos / 1_000_000_000 → Denotes text (seconds, nanos % 1_000_000_000)
 denotes text bytes nanos seconds e held fits whole =
     let sum : nanos ≡ capped (total (items_of text)) = held ∙ ap (λ b. capped (total (items_of b))) e in
     let exact : seconds * 1_000_000_000 + nanos % 1_000_000_000 ≡ total (items_of text) = omega arith in
@@ -23,12 +25,14 @@ denotes text bytes nanos seconds e held fits whole =
       nanoseconds = omega arith;
     }
 
-pub is_too_big : (text bytes : List ℕ) (nanos : ℕ) → bytes ≡ text → nanos ≡ capped (total (items_of bytes)) → 2 ^ 64 ≤ nanos / 1_000_000_000 → IsTooBig text
+pub is_too_big : (text bytes : List ℕ) (nanos : ℕ) → bytes ≡ text
+    → nanos ≡ capped (total (items_of bytes)) → 2 ^ 64 ≤ nanos / 1_000_000_000 → IsTooBig text
 is_too_big text bytes nanos e held beyond =
     let sum : nanos ≡ capped (total (items_of text)) = held ∙ ap (λ b. capped (total (items_of b))) e in
     record { nanos = total (items_of text); sums = sum_exists text; beyond = omega arith }
 
-pub not_too_big : (text bytes : List ℕ) (nanos : ℕ) → bytes ≡ text → nanos ≡ capped (total (items_of bytes)) → nanos / 1_000_000_000 < 2 ^ 64 → IsTooBig text → ⊥
+pub not_too_big : (text bytes : List ℕ) (nanos : ℕ) → bytes ≡ text
+    → nanos ≡ capped (total (items_of bytes)) → nanos / 1_000_000_000 < 2 ^ 64 → IsTooBig text → ⊥
 not_too_big text bytes nanos e held fits big =
     let sum : nanos ≡ capped (total (items_of text)) = held ∙ ap (λ b. capped (total (items_of b))) e in
     let same : big.nanos ≡ total (items_of text) = sum_unique text big.nanos big.sums in
@@ -46,7 +50,9 @@ denotes_unique text s t hs ht =
     λ i. (secs i, nanos i)
 
 -- what 64 bits of seconds hold isn't too big
-pub not_beyond : (text bytes : List ℕ) (nanos : ℕ) (times : ℕ × ℕ) → bytes ≡ text → nanos ≡ capped (total (items_of bytes)) → 2 ^ 64 ≤ nanos / 1_000_000_000 → Denotes text times → ⊥
+pub not_beyond : (text bytes : List ℕ) (nanos : ℕ) (times : ℕ × ℕ) → bytes ≡ text
+    → nanos ≡ capped (total (items_of bytes)) → 2 ^ 64 ≤ nanos / 1_000_000_000 → Denotes text times
+    → ⊥
 not_beyond text bytes nanos times e held beyond h =
     let sum : nanos ≡ capped (total (items_of text)) = held ∙ ap (λ b. capped (total (items_of b))) e in
     let same : nanos_of times ≡ total (items_of text) = sum_unique text (nanos_of times) h.sums in

@@ -49,7 +49,8 @@ kept_within kept (part ∷ parts) n =
     let w = weight_of part in
     omega (arith, kept_in-cons kept part parts n, at_most (list_any (λ p. is_part p part) kept) (n - n % w), kept_within kept parts (n % w), div-add-mod' n w)
 
-kept_twice : (kept parts : List DurationPart) (n : ℕ) → kept_in kept parts (kept_in kept parts n) ≡ kept_in kept parts n
+kept_twice : (kept parts : List DurationPart) (n : ℕ)
+    → kept_in kept parts (kept_in kept parts n) ≡ kept_in kept parts n
 kept_twice kept [] n = kept_in-none kept (kept_in kept [] n) ∙ sym (kept_in-none kept n)
 kept_twice kept (part ∷ parts) n =
     elim (list_any (λ p. is_part p part) kept) as (λ t. list_any (λ p. is_part p part) kept ≡ t → kept_in kept (part ∷ parts) (kept_in kept (part ∷ parts) n) ≡ kept_in kept (part ∷ parts) n) [
@@ -82,7 +83,8 @@ first_within zero parts n = omega arith
 first_within (suc limit) [] n = omega arith
 first_within (suc limit) (part ∷ parts) n = omega (arith, first_within limit parts (n % weight_of part), div-add-mod' n (weight_of part))
 
-first_twice : (limit : ℕ) (parts : List DurationPart) (n : ℕ) → nanos_in (take limit (counts_of parts (nanos_in (take limit (counts_of parts n))))) ≡ nanos_in (take limit (counts_of parts n))
+first_twice : (limit : ℕ) (parts : List DurationPart) (n : ℕ)
+    → nanos_in (take limit (counts_of parts (nanos_in (take limit (counts_of parts n))))) ≡ nanos_in (take limit (counts_of parts n))
 first_twice zero parts n = refl
 first_twice (suc limit) [] n = refl
 first_twice (suc limit) (part ∷ parts) n =
@@ -98,10 +100,12 @@ first_in limit parts n = nanos_in (take limit (counts_of parts n))
 abbrev leading_in : ℕ → List DurationPart → ℕ → ℕ
 leading_in limit parts n = nanos_in (take limit (from_first (counts_of parts n)))
 
-leading-low : (limit : ℕ) (part : DurationPart) (parts : List DurationPart) (n : ℕ) → n < weight_of part → leading_in limit (part ∷ parts) n ≡ leading_in limit parts n
+leading-low : (limit : ℕ) (part : DurationPart) (parts : List DurationPart) (n : ℕ)
+    → n < weight_of part → leading_in limit (part ∷ parts) n ≡ leading_in limit parts n
 leading-low limit part parts n low = simp (div-eq_of_lt low, mod-eq_of_lt low)
 
-leading-high : (limit : ℕ) (part : DurationPart) (parts : List DurationPart) (n : ℕ) → weight_of part ≤ n → leading_in limit (part ∷ parts) n ≡ first_in limit (part ∷ parts) n
+leading-high : (limit : ℕ) (part : DurationPart) (parts : List DurationPart) (n : ℕ)
+    → weight_of part ≤ n → leading_in limit (part ∷ parts) n ≡ first_in limit (part ∷ parts) n
 leading-high limit part parts n high = simp (ne_eqb (n / weight_of part) 0 (quotient_some n (weight_of part) (weight_some part) high))
 
 leading_within : (limit : ℕ) (parts : List DurationPart) (n : ℕ) → leading_in limit parts n ≤ n
@@ -114,13 +118,16 @@ leading_within limit (part ∷ parts) n =
     (cases_lt n (weight_of part))
 
 -- the first count above 0 stays above 0
-leading_again : (limit : ℕ) (part : DurationPart) (parts : List DurationPart) (n : ℕ) → weight_of part ≤ n → leading_in limit (part ∷ parts) (first_in limit (part ∷ parts) n) ≡ first_in limit (part ∷ parts) n
+leading_again : (limit : ℕ) (part : DurationPart) (parts : List DurationPart) (n : ℕ)
+    → weight_of part ≤ n
+    → leading_in limit (part ∷ parts) (first_in limit (part ∷ parts) n) ≡ first_in limit (part ∷ parts) n
 leading_again zero part parts n high = refl
 leading_again (suc limit) part parts n high =
     let still : weight_of part ≤ first_in (suc limit) (part ∷ parts) n = omega (arith, quotient_whole n (weight_of part) (weight_some part) high) in
     leading-high (suc limit) part parts (first_in (suc limit) (part ∷ parts) n) still ∙ first_twice (suc limit) (part ∷ parts) n
 
-leading_twice : (limit : ℕ) (parts : List DurationPart) (n : ℕ) → leading_in limit parts (leading_in limit parts n) ≡ leading_in limit parts n
+leading_twice : (limit : ℕ) (parts : List DurationPart) (n : ℕ)
+    → leading_in limit parts (leading_in limit parts n) ≡ leading_in limit parts n
 leading_twice zero [] n = refl
 leading_twice (suc limit) [] n = refl
 leading_twice limit (part ∷ parts) n =
@@ -137,11 +144,13 @@ leading_twice limit (part ∷ parts) n =
 times_back : (n : ℕ) → nanos_of (times_of n) ≡ n
 times_back n = omega arith
 
-pub filter_twice : (kept : List DurationPart) (n : ℕ) → times_of (filtered kept (nanos_of (times_of (filtered kept n)))) ≡ times_of (filtered kept n)
+pub filter_twice : (kept : List DurationPart) (n : ℕ)
+    → times_of (filtered kept (nanos_of (times_of (filtered kept n)))) ≡ times_of (filtered kept n)
 filter_twice kept n =
     ap (λ m. times_of (filtered kept m)) (times_back (filtered kept n))
     ∙ ap times_of (sym (filtered_all kept (filtered kept n)) ∙ ap (kept_in kept all_parts) (sym (filtered_all kept n)) ∙ kept_twice kept all_parts n ∙ filtered_all kept n)
 
-pub truncate_twice : (limit n : ℕ) → times_of (truncated limit (nanos_of (times_of (truncated limit n)))) ≡ times_of (truncated limit n)
+pub truncate_twice : (limit n : ℕ)
+    → times_of (truncated limit (nanos_of (times_of (truncated limit n)))) ≡ times_of (truncated limit n)
 unfolding truncated breakdown
 truncate_twice limit n = ap (λ m. times_of (truncated limit m)) (times_back (truncated limit n)) ∙ ap times_of (leading_twice limit all_parts n)

@@ -17,7 +17,8 @@ bytes_eq-false xs ys h =
     ] refl
 
 -- of a named part
-pub weight_in-unit_of : (part : DurationPart) (long : Bool) → part ≢ Months → weight_in (unit_of part) long ≡ weight_if part long
+pub weight_in-unit_of : (part : DurationPart) (long : Bool) → part ≢ Months
+    → weight_in (unit_of part) long ≡ weight_if part long
 weight_in-unit_of Years long h = refl
 weight_in-unit_of Months long h = absurd (h refl)
 weight_in-unit_of Weeks long h = refl
@@ -42,7 +43,8 @@ is_long-unit_of Microseconds h = refl
 is_long-unit_of Nanoseconds h = refl
 
 -- of letters that are no unit
-pub weight_in-other : (unit : List ℕ) (long : Bool) → ((part : DurationPart) → unit ≢ unit_of part) → weight_in unit long ≡ 0
+pub weight_in-other : (unit : List ℕ) (long : Bool) → ((part : DurationPart) → unit ≢ unit_of part)
+    → weight_in unit long ≡ 0
 weight_in-other unit long h =
     simp (bytes_eq-false unit (codes "y") (h Years), bytes_eq-false unit (codes "m") (h Months), bytes_eq-false unit (codes "w") (h Weeks), bytes_eq-false unit (codes "d") (h Days), bytes_eq-false unit (codes "h") (h Hours), bytes_eq-false unit (codes "s") (h Seconds), bytes_eq-false unit (codes "ms") (h Milliseconds), bytes_eq-false unit (codes "us") (h Microseconds), bytes_eq-false unit (codes "ns") (h Nanoseconds))
 
@@ -50,7 +52,9 @@ pub is_long-other : (unit : List ℕ) → ((part : DurationPart) → unit ≢ un
 is_long-other unit h =
     simp (bytes_eq-false unit (codes "y") (h Years), bytes_eq-false unit (codes "m") (h Months), bytes_eq-false unit (codes "w") (h Weeks), bytes_eq-false unit (codes "d") (h Days), bytes_eq-false unit (codes "h") (h Hours))
 
-pub passes_item : (item : Item) (later : List Item) (nanos pending : ℕ) → ((part : DurationPart) → item.unit ≢ unit_of part) → sum_with nanos pending (long_follows later) (total later) ≡ sum_with nanos pending (long_follows (item ∷ later)) (total (item ∷ later))
+pub passes_item : (item : Item) (later : List Item) (nanos pending : ℕ)
+    → ((part : DurationPart) → item.unit ≢ unit_of part)
+    → sum_with nanos pending (long_follows later) (total later) ≡ sum_with nanos pending (long_follows (item ∷ later)) (total (item ∷ later))
 passes_item item later nanos pending h =
     let l = long_follows later in
     let nothing : number_of item.digits * weight_in item.unit l ≡ 0 = ap (λ w. number_of item.digits * w) (weight_in-other item.unit l h) ∙ mul-zero _ in

@@ -16,22 +16,33 @@ pub with_parts-none : (out : List ℕ) (i left : ℕ) → 10 ≤ i → with_part
 unfolding with_parts
 with_parts-none out i left h = rw (parts_end i h)
 
-pub writes_part : (parts more : List DurationPart) (part : DurationPart) (out out' : List ℕ) (left weight count left' : ℕ) → parts ≡ part ∷ more → weight ≡ weight_of part → count ≡ left / weight → left' ≡ left % weight → out' ≡ with_count out count part → with_parts out' more left' ≡ with_parts out parts left
+pub writes_part : (parts more : List DurationPart) (part : DurationPart) (out out' : List ℕ) (left weight count left' : ℕ)
+    → parts ≡ part ∷ more → weight ≡ weight_of part → count ≡ left / weight → left' ≡ left % weight
+    → out' ≡ with_count out count part → with_parts out' more left' ≡ with_parts out parts left
 unfolding with_parts
 writes_part parts more part out out' left weight count left' split w c l o = rw (o, c, l, w, split)
 
-room_head : (len : ℕ) (part : DurationPart) (more : List DurationPart) (left : ℕ) → HasRoom len (part ∷ more) left → (left / weight_of part < 2 ^ 64) × (len + (length (decimal (left / weight_of part)) + 3) ≤ 95)
+room_head : (len : ℕ) (part : DurationPart) (more : List DurationPart) (left : ℕ)
+    → HasRoom len (part ∷ more) left
+    → (left / weight_of part < 2 ^ 64) × (len + (length (decimal (left / weight_of part)) + 3) ≤ 95)
 room_head len part more left room = (ltb-true _ _ (and_parts _ _ room.fit).0, omega (arith, room.room))
 
-room_tail : (len len' : ℕ) (part : DurationPart) (more : List DurationPart) (left : ℕ) → len' ≤ len + (length (decimal (left / weight_of part)) + 3) → HasRoom len (part ∷ more) left → HasRoom len' more (left % weight_of part)
+room_tail : (len len' : ℕ) (part : DurationPart) (more : List DurationPart) (left : ℕ)
+    → len' ≤ len + (length (decimal (left / weight_of part)) + 3) → HasRoom len (part ∷ more) left
+    → HasRoom len' more (left % weight_of part)
 room_tail len len' part more left grown room = record { room = omega (arith, room.room); fit = (and_parts (nat_lt (left / weight_of part) (2 ^ 64)) _ room.fit).1 }
 
-pub room_for_part : (len : ℕ) (parts more : List DurationPart) (part : DurationPart) (left weight : ℕ) → parts ≡ part ∷ more → weight ≡ weight_of part → HasRoom len parts left → (left / weight < 2 ^ 64) × (len + (length (decimal (left / weight)) + 3) ≤ 95)
+pub room_for_part : (len : ℕ) (parts more : List DurationPart) (part : DurationPart) (left weight : ℕ)
+    → parts ≡ part ∷ more → weight ≡ weight_of part → HasRoom len parts left
+    → (left / weight < 2 ^ 64) × (len + (length (decimal (left / weight)) + 3) ≤ 95)
 room_for_part len parts more part left weight split w room =
     let P : List DurationPart → Type 0 = λ ps. HasRoom len ps left in
     rw w (room_head len part more left (subst P split room))
 
-pub room_after_part : (len len' : ℕ) (parts more : List DurationPart) (part : DurationPart) (left weight left' : ℕ) → parts ≡ part ∷ more → weight ≡ weight_of part → left' ≡ left % weight → len' ≤ len + (length (decimal (left / weight)) + 3) → HasRoom len parts left → HasRoom len' more left'
+pub room_after_part : (len len' : ℕ) (parts more : List DurationPart) (part : DurationPart) (left weight left' : ℕ)
+    → parts ≡ part ∷ more → weight ≡ weight_of part → left' ≡ left % weight
+    → len' ≤ len + (length (decimal (left / weight)) + 3) → HasRoom len parts left
+    → HasRoom len' more left'
 room_after_part len len' parts more part left weight left' split w l grown room =
     let P : List DurationPart → Type 0 = λ ps. HasRoom len ps left in
     rw (l, w) (room_tail len len' part more left (rw w at grown) (subst P split room))
@@ -40,7 +51,9 @@ room_after_part len len' parts more part left weight left' split w l grown room 
 short_count : (left weight : ℕ) → left / weight < 1000 → length (decimal (left / weight)) ≤ 3
 short_count left weight h = length-decimal-le 3 (left / weight) (omega arith) h (omega arith)
 
-fit_cons : (part : DurationPart) (more : List DurationPart) (left : ℕ) → left / weight_of part < 2 ^ 64 → counts_fit (counts_of more (left % weight_of part)) ≡ true → counts_fit (counts_of (part ∷ more) left) ≡ true
+fit_cons : (part : DurationPart) (more : List DurationPart) (left : ℕ)
+    → left / weight_of part < 2 ^ 64 → counts_fit (counts_of more (left % weight_of part)) ≡ true
+    → counts_fit (counts_of (part ∷ more) left) ≡ true
 fit_cons part more left h e = and_from (nat_lt (left / weight_of part) (2 ^ 64)) _ (lt-ltb (left / weight_of part) (2 ^ 64) h) e
 
 pub room_at_start : (nanos : ℕ) → nanos < 2 ^ 64 * 1_000_000_000 → HasRoom 0 all_parts nanos
@@ -71,14 +84,16 @@ room_at_start nanos h =
     }
 
 -- the counts above 0, joined by spaces
-join_twice : (x y : List ℕ) (rest : List (List ℕ)) → join_with_byte 32 ((x ++ (32 ∷ y)) ∷ rest) ≡ join_with_byte 32 (x ∷ y ∷ rest)
+join_twice : (x y : List ℕ) (rest : List (List ℕ))
+    → join_with_byte 32 ((x ++ (32 ∷ y)) ∷ rest) ≡ join_with_byte 32 (x ∷ y ∷ rest)
 join_twice x y [] = refl
 join_twice x y (z ∷ rest) = append_assoc x (32 ∷ y) (32 ∷ join_with_byte 32 (z ∷ rest))
 
 spaced_append : (b : ℕ) (bs ys : List ℕ) → spaced (b ∷ bs) ++ ys ≡ (b ∷ bs) ++ (32 ∷ ys)
 spaced_append b bs ys = append_assoc (b ∷ bs) (32 ∷ []) ys
 
-with_counts_more : (b : ℕ) (bs : List ℕ) (counts : List PartCount) → with_counts (b ∷ bs) counts ≡ join_with_byte 32 ((b ∷ bs) ∷ map piece (above_zero counts))
+with_counts_more : (b : ℕ) (bs : List ℕ) (counts : List PartCount)
+    → with_counts (b ∷ bs) counts ≡ join_with_byte 32 ((b ∷ bs) ∷ map piece (above_zero counts))
 unfolding with_count
 with_counts_more b bs [] = refl
 with_counts_more b bs (c ∷ counts) =
@@ -87,7 +102,8 @@ with_counts_more b bs (c ∷ counts) =
       | false ↦ λ e. simp e (with_counts_more b bs counts)
     ] refl
 
-with_counts_some : (out : List ℕ) (counts : List PartCount) → 0 < length out → with_counts out counts ≡ join_with_byte 32 (out ∷ map piece (above_zero counts))
+with_counts_some : (out : List ℕ) (counts : List PartCount) → 0 < length out
+    → with_counts out counts ≡ join_with_byte 32 (out ∷ map piece (above_zero counts))
 with_counts_some [] counts h = absurd (omega arith)
 with_counts_some (b ∷ bs) counts h = with_counts_more b bs counts
 
@@ -106,7 +122,8 @@ unit_some Nanoseconds = omega arith
 piece_some : (c : PartCount) → 0 < length (piece c)
 piece_some c = omega (arith, length-append (decimal c.count) (unit_of c.part), unit_some c.part)
 
-with_counts_none : (counts : List PartCount) → with_counts [] counts ≡ join_with_byte 32 (map piece (above_zero counts))
+with_counts_none : (counts : List PartCount)
+    → with_counts [] counts ≡ join_with_byte 32 (map piece (above_zero counts))
 unfolding with_count
 with_counts_none [] = refl
 with_counts_none (c ∷ counts) =
@@ -115,7 +132,8 @@ with_counts_none (c ∷ counts) =
       | false ↦ λ e. simp e (with_counts_none counts)
     ] refl
 
-pub with_parts-zero : (out : List ℕ) (nanos : ℕ) → nanos ≡ 0 → with_parts [] all_parts nanos ++ codes "0" ≡ written nanos
+pub with_parts-zero : (out : List ℕ) (nanos : ℕ) → nanos ≡ 0
+    → with_parts [] all_parts nanos ++ codes "0" ≡ written nanos
 unfolding with_parts with_count written breakdown
 with_parts-zero out nanos e = rw e
 

@@ -14,7 +14,9 @@ use Rattle.nt_time.specs.declared.error.FileTimeRangeErrorKind.TheVariants.{Nega
 use Rattle.nt_time.specs.Civil.{IsUtcOf, IsDosFrom, past_civil}
 
 -- the first civil date-time
-pub first_nanos : (civil : DateTime) → civil.date.year ≡ neg_ℤ (pos 9999) → civil.date.month ≡ 1 → civil.date.day ≡ 1 → time_nanos civil.time ≡ 0 → civil_nanos civil ≡ neg_ℤ (pos 377_705_116_800_000_000_000)
+pub first_nanos : (civil : DateTime) → civil.date.year ≡ neg_ℤ (pos 9999) → civil.date.month ≡ 1
+    → civil.date.day ≡ 1 → time_nanos civil.time ≡ 0
+    → civil_nanos civil ≡ neg_ℤ (pos 377_705_116_800_000_000_000)
 first_nanos civil year month day midnight =
     let first : epoch_day civil.date ≡ neg_ℤ (pos 4_371_587) = rw (year, month, day) days_from_civil-min in
     omega (arith, ints, first, midnight, civil_nanos-parts civil)
@@ -49,7 +51,8 @@ unfolding first_of_2108 jiff_on_literals
 epoch_day-2108 = refl
 
 -- no date of a year is before the first of January
-first_is_first : (first date : Date) → first.month ≡ 1 → first.day ≡ 1 → first.year ≤ℤ date.year → epoch_day first ≤ℤ epoch_day date
+first_is_first : (first date : Date) → first.month ≡ 1 → first.day ≡ 1 → first.year ≤ℤ date.year
+    → epoch_day first ≤ℤ epoch_day date
 first_is_first first date month day year =
     by_lt_z first.year date.year (λ lt. omega (arith, ints, epoch_day-lt first date (inl lt)))
     (λ ge. let same : first.year ≡ date.year = omega (arith, ints) in
@@ -61,26 +64,30 @@ first_is_first first date month day year =
     (cases_lt first.month date.month))
 
 -- a moment is in an earlier year exactly where it is before that year's first moment
-before_year : (first : Date) (civil : DateTime) → first.month ≡ 1 → first.day ≡ 1 → (civil.date.year <ℤ first.year) ↔ (civil_nanos civil <ℤ (epoch_day first *ℤ pos 86_400_000_000_000))
+before_year : (first : Date) (civil : DateTime) → first.month ≡ 1 → first.day ≡ 1
+    → (civil.date.year <ℤ first.year) ↔ (civil_nanos civil <ℤ (epoch_day first *ℤ pos 86_400_000_000_000))
 before_year first civil month day = (
   λ lt. omega (arith, ints, civil_nanos-parts civil, time_nanos_bound civil.time, epoch_day-lt civil.date first (inl lt)),
   λ lt. by_lt_z civil.date.year first.year (λ h. h) (λ ge. absurd (omega (arith, ints, civil_nanos-parts civil, first_is_first first civil.date month day ge))),
 )
 
-before_1980 : (civil : DateTime) → (civil.date.year <ℤ pos 1980) ↔ (civil_nanos civil <ℤ pos 315_532_800_000_000_000)
+before_1980 : (civil : DateTime)
+    → (civil.date.year <ℤ pos 1980) ↔ (civil_nanos civil <ℤ pos 315_532_800_000_000_000)
 unfolding first_of_1980
 before_1980 civil =
     let year = before_year first_of_1980 civil refl refl in
     (λ lt. omega (arith, ints, year.0 lt, epoch_day-1980), λ lt. year.1 (omega (arith, ints, epoch_day-1980)))
 
-before_2108 : (civil : DateTime) → (civil.date.year <ℤ pos 2108) ↔ (civil_nanos civil <ℤ pos 4_354_819_200_000_000_000)
+before_2108 : (civil : DateTime)
+    → (civil.date.year <ℤ pos 2108) ↔ (civil_nanos civil <ℤ pos 4_354_819_200_000_000_000)
 unfolding first_of_2108
 before_2108 civil =
     let year = before_year first_of_2108 civil refl refl in
     (λ lt. omega (arith, ints, year.0 lt, epoch_day-2108), λ lt. year.1 (omega (arith, ints, epoch_day-2108)))
 
 -- the DOS date-time of a tick within the civil years
-pub dos_from : (ticks : ℕ) (civil : DateTime) (result : Result Words DosRangeErrorKind) → IsUtcOf ticks civil → ticks < past_civil → IsFromCivil civil result → IsDosFrom ticks result
+pub dos_from : (ticks : ℕ) (civil : DateTime) (result : Result Words DosRangeErrorKind)
+    → IsUtcOf ticks civil → ticks < past_civil → IsFromCivil civil result → IsDosFrom ticks result
 dos_from ticks civil result utc below from = record {
   civil = λ _. (civil, utc, from);
   beyond = λ past. absurd (omega arith);
@@ -103,7 +110,8 @@ since_1980 civil year =
     by_lt_z (civil_nanos civil) (pos 0) (λ lt. absurd (let early = (before_1980 civil).1 (omega (arith, ints)) in omega (arith, ints, early))) (λ h. h)
 
 -- a call that meets neither bound succeeds
-pub succeeds : (result : Result ℕ FileTimeRangeErrorKind) → ¬ IsErrOf result Negative → ¬ IsErrOf result Overflow → IsOk result
+pub succeeds : (result : Result ℕ FileTimeRangeErrorKind) → ¬ IsErrOf result Negative
+    → ¬ IsErrOf result Overflow → IsOk result
 succeeds (Ok ticks) no_negative no_overflow = refl
 succeeds (Err Negative) no_negative no_overflow = absurd (no_negative refl)
 succeeds (Err Overflow) no_negative no_overflow = absurd (no_overflow refl)

@@ -32,16 +32,19 @@ plain = numerals_by_value _ tells_digits
 no_plus : (ds : List ℕ) → IsNumeral 10 ds → without_leading_plus ds ≡ ds
 no_plus ds h = without_leading_plus_none ds (not_in_digits plain ds 43 h.1 (omega arith) 0 h.0)
 
-digits_of_text : (text digits : List ℕ) → IsNumeral 10 digits → (text ≡ digits) ⊎ (text ≡ 43 ∷ digits) → without_leading_plus text ≡ digits
+digits_of_text : (text digits : List ℕ) → IsNumeral 10 digits
+    → (text ≡ digits) ⊎ (text ≡ 43 ∷ digits) → without_leading_plus text ≡ digits
 digits_of_text text digits h (inl e) = rw e (no_plus digits h)
 digits_of_text text digits h (inr e) = rw e (without_leading_plus_plus (43 ∷ digits) refl)
 
-pub numeral_of_text : (text : List ℕ) (n : ℕ) → IsTextOf text n → IsNumeral 10 (without_leading_plus text) × (n ≡ digits_value 10 (without_leading_plus text))
+pub numeral_of_text : (text : List ℕ) (n : ℕ) → IsTextOf text n
+    → IsNumeral 10 (without_leading_plus text) × (n ≡ digits_value 10 (without_leading_plus text))
 numeral_of_text text n has =
     let e = digits_of_text text has.0 has.1 has.3 in
     rw e (has.1, has.2)
 
-text_of_numeral : (text : List ℕ) → IsNumeral 10 (without_leading_plus text) → IsTextOf text (digits_value 10 (without_leading_plus text))
+text_of_numeral : (text : List ℕ) → IsNumeral 10 (without_leading_plus text)
+    → IsTextOf text (digits_value 10 (without_leading_plus text))
 text_of_numeral [] has = absurd (omega arith)
 text_of_numeral (c ∷ cs) has = ⊎_elim
     (λ is. (without_leading_plus (c ∷ cs), has, refl, inr (rw (without_leading_plus_plus (c ∷ cs) is, is))))
@@ -50,7 +53,9 @@ text_of_numeral (c ∷ cs) has = ⊎_elim
 
 -- ---- what a text reads as
 
-pub read_ok : (text : List ℕ) (t : ℕ) → IsNumeral 10 (without_leading_plus text) → digits_value 10 (without_leading_plus text) < 2 ^ 64 → t ≡ digits_value 10 (without_leading_plus text) → IsReadFrom text (Ok t)
+pub read_ok : (text : List ℕ) (t : ℕ) → IsNumeral 10 (without_leading_plus text)
+    → digits_value 10 (without_leading_plus text) < 2 ^ 64
+    → t ≡ digits_value 10 (without_leading_plus text) → IsReadFrom text (Ok t)
 read_ok text t has fits e =
     let written : IsTextOf text t = rw e (text_of_numeral text has) in
     record {
@@ -62,7 +67,8 @@ read_ok text t has fits e =
       overflow = (λ r. cc, λ h. absurd (let value = (numeral_of_text text h.0 h.1).1 in omega (arith, value)));
     }
 
-pub read_overflow : (text : List ℕ) → IsNumeral 10 (without_leading_plus text) → 2 ^ 64 ≤ digits_value 10 (without_leading_plus text) → IsReadFrom text (Err Overflow)
+pub read_overflow : (text : List ℕ) → IsNumeral 10 (without_leading_plus text)
+    → 2 ^ 64 ≤ digits_value 10 (without_leading_plus text) → IsReadFrom text (Err Overflow)
 read_overflow text has large = record {
   ok = tt;
   fits = tt;

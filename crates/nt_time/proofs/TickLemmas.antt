@@ -12,20 +12,24 @@ not_negative test z tells isnt = by_lt_z z (pos 0) (λ negative. let is : test �
 same_moment : (from to : ℕ) → IsAfterBy 0 to from → IsAfterBy 0 from to
 same_moment from to back = (back.0, back.1, omega arith)
 
-pub moved_forward : (z : ℤ) (from : ℕ) (r : Option ℕ) → pos 0 ≤ℤ z → IfSome r (IsAfterBy (unsigned_abs z) from) → IfSome r (IsMovedBy z from)
+pub moved_forward : (z : ℤ) (from : ℕ) (r : Option ℕ) → pos 0 ≤ℤ z
+    → IfSome r (IsAfterBy (unsigned_abs z) from) → IfSome r (IsMovedBy z from)
 moved_forward (pos n) from r h moved = moved
 moved_forward (negsuc n) from r h moved = absurd (omega (arith, ints))
 
-pub moved_back : (z : ℤ) (from : ℕ) (r : Option ℕ) → z <ℤ pos 0 → IfSome r (λ to. IsAfterBy (unsigned_abs z) to from) → IfSome r (IsMovedBy z from)
+pub moved_back : (z : ℤ) (from : ℕ) (r : Option ℕ) → z <ℤ pos 0
+    → IfSome r (λ to. IsAfterBy (unsigned_abs z) to from) → IfSome r (IsMovedBy z from)
 moved_back (pos n) from r h moved = absurd (omega (arith, ints))
 moved_back (negsuc n) from r h moved = moved
 
 -- the same by the negated length
-pub moved_forward-neg : (z : ℤ) (from : ℕ) (r : Option ℕ) → z <ℤ pos 0 → IfSome r (IsAfterBy (unsigned_abs z) from) → IfSome r (IsMovedBy (neg_ℤ z) from)
+pub moved_forward-neg : (z : ℤ) (from : ℕ) (r : Option ℕ) → z <ℤ pos 0
+    → IfSome r (IsAfterBy (unsigned_abs z) from) → IfSome r (IsMovedBy (neg_ℤ z) from)
 moved_forward-neg (pos n) from r h moved = absurd (omega (arith, ints))
 moved_forward-neg (negsuc n) from r h moved = moved
 
-pub moved_back-neg : (z : ℤ) (from : ℕ) (r : Option ℕ) → pos 0 ≤ℤ z → IfSome r (λ to. IsAfterBy (unsigned_abs z) to from) → IfSome r (IsMovedBy (neg_ℤ z) from)
+pub moved_back-neg : (z : ℤ) (from : ℕ) (r : Option ℕ) → pos 0 ≤ℤ z
+    → IfSome r (λ to. IsAfterBy (unsigned_abs z) to from) → IfSome r (IsMovedBy (neg_ℤ z) from)
 moved_back-neg (pos zero) from None h moved = moved
 moved_back-neg (pos zero) from (Some to) h moved = same_moment from to moved
 moved_back-neg (pos (suc n)) from r h moved = moved
