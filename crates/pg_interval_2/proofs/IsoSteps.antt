@@ -1,5 +1,5 @@
 -- One more pair, read and counted.
-use Rattle.std.proofs.Common.{◌≡◌, ℕ, ◌<◌, Bool, true, false, List, [], ◌∷◌, ◌++◌, length, Some, None, refl, sym, ◌∙◌, ap, subst, append_assoc, append-nil, length-append, arith, inl, inr, codes, ◌≢◌, ◌==◌}
+use Rattle.std.proofs.Common.{◌≡◌, ℕ, ◌<◌, Bool, true, false, List, [], ◌∷◌, ◌++◌, length, Option, Some, None, IfSome, IfNone, refl, sym, ◌∙◌, ap, subst, append_assoc, append-nil, length-append, arith, inl, inr, codes, ◌≢◌, ◌==◌}
 use Rattle.std.proofs.lemmas.Bool.Decides.{nat_tests}
 use Rattle.scan_core.specs.Count.{Count}
 use Rattle.scan_core.specs.Digits.{AreDigits}
@@ -8,8 +8,9 @@ use Rattle.scan_core.proofs.Joins.{join_push, join_same}
 use Rattle.pg_interval_2.specs.declared.tally.Tally.{Tally}
 use Rattle.pg_interval_2.specs.Denotes.{HasNoShape}
 use Rattle.pg_interval_2.specs.Iso.{unit_in, IsPair, IsIso}
-use Rattle.pg_interval_2.specs.IsoTally.{TakesPairs, IsTallied}
-use Rattle.pg_interval_2.specs.Reading.{read_pair}
+use Rattle.pg_interval_2.specs.IsoTally.{IsTallied, StopsBehindPairs, TakesPairs, ends_pairs}
+use Rattle.scan_core.specs.Scanning.{Passes, Place, ahead}
+use Rattle.pg_interval_2.specs.Reading.{read_number, read_pair, read_unsigned}
 use Rattle.pg_interval_2.specs.Tallies.{Tallies}
 use Rattle.pg_interval_2.proofs.IsoCounts.{is_pair, finds_pair, nothing_read, time_ends, no_time, behind_dates}
 
@@ -109,19 +110,36 @@ no_shape_behind_times text date time rest old mid new spelled dates times stuck 
           some (join_same (IsPair (unit_in true)) (read_pair (unit_in true)) (finds_pair true) times.front timed.0 rest [] times.counts timed.1 times.pairs timed.3 split stuck (nothing_read true)).1
     ]
 
--- an ISO text begins with `P`, and something follows it
-pub no_shape_alone : HasNoShape IsIso (codes "P")
-no_shape_alone counts (inl alone) = let tails : [] ≡ alone.0 = let e : codes "P" ≡ codes "P" ++ alone.0 = alone.3 in cc in alone.2 (sym tails)
-no_shape_alone counts (inr timed) =
-    let tails : [] ≡ timed.date ++ (codes "T" ++ timed.time) = let e : codes "P" ≡ codes "P" ++ (timed.date ++ (codes "T" ++ timed.time)) = timed.spelled in cc in
-    let lengths = ap (λ (l : List ℕ). length l) tails ∙ length-append timed.date (codes "T" ++ timed.time) in
-    omega (arith, lengths)
+-- ---- where the pairs end
 
-pub no_shape_nothing : HasNoShape IsIso []
-no_shape_nothing counts (inl alone) = let e : [] ≡ codes "P" ++ alone.0 = alone.3 in cc
-no_shape_nothing counts (inr timed) = let e : [] ≡ codes "P" ++ (timed.date ++ (codes "T" ++ timed.time)) = timed.spelled in cc
+is_time : (b : ℕ) → (b == 84) ≡ true → b ≡ 84
+is_time b h = grind (arith, nat_tests)
 
-pub no_shape_other : (first : ℕ) (rest : List ℕ) → first ≢ 80 → HasNoShape IsIso (first ∷ rest)
-no_shape_other first rest other counts (inl alone) = let e : first ∷ rest ≡ codes "P" ++ alone.0 = alone.3 in let heads : first ≡ 80 = cc in other heads
-no_shape_other first rest other counts (inr timed) =
-    let e : first ∷ rest ≡ codes "P" ++ (timed.date ++ (codes "T" ++ timed.time)) = timed.spelled in let heads : first ≡ 80 = cc in other heads
+-- no pair stands where pairs may end
+pub no_pair_at_end : (in_time : Bool) (rest : List ℕ) → ends_pairs rest ≡ true → read_pair (unit_in in_time) rest ≡ None
+unfolding read_pair read_number read_unsigned
+no_pair_at_end in_time [] ends = refl
+no_pair_at_end in_time (b ∷ bs) ends = let letter = is_time b ends in rw letter refl
+
+-- behind the pairs of the date, where the text goes on, the time begins
+pub time_begins : (passed : Option ℕ) (old new : Place) → IfSome passed (λ byte. Passes (byte ∷ []) old new) → IfNone passed ((ahead old ≡ []) × (new ≡ old))
+    → ends_pairs (ahead old) ≡ true → ahead old ≢ [] → ahead old ≡ codes "T" ++ ahead new
+time_begins None old new some none ends more = absurd (more none.0)
+time_begins (Some b) old new some none ends more = let letter : b ≡ 84 = is_time b (sym (ap ends_pairs some.split) ∙ ends) in some.split ∙ ap (λ (x : ℕ). x ∷ ahead new) letter
+
+some_left : (rest : List ℕ) → ends_pairs rest ≡ false → rest ≢ []
+some_left [] goes_on e = cc
+some_left (b ∷ bs) goes_on e = cc
+
+no_time_left : (rest time : List ℕ) → ends_pairs rest ≡ false → rest ≢ codes "T" ++ time
+no_time_left [] time goes_on e = cc
+no_time_left (b ∷ bs) time goes_on e = let letter : b ≡ 84 = cc in let ends : (b == 84) ≡ true = rw letter refl in cc
+
+-- where the pairs of the date stop at something else, or those of the time, the text has no shape
+pub stopped_dates : (text date : List ℕ) (old : Tally) → text ≡ codes "P" ++ date → StopsBehindPairs false date old → HasNoShape IsIso text
+stopped_dates text date old spelled stop =
+    no_shape_behind_dates text date stop.rest old stop.mid spelled stop.taken stop.stuck (some_left stop.rest stop.goes_on) (λ time. no_time_left stop.rest time stop.goes_on)
+
+pub stopped_times : (text date time : List ℕ) (old mid : Tally) → text ≡ codes "P" ++ date → TakesPairs false date (codes "T" ++ time) old mid → StopsBehindPairs true time mid → HasNoShape IsIso text
+stopped_times text date time old mid spelled dates stop =
+    no_shape_behind_times text date time stop.rest old mid stop.mid spelled dates stop.taken stop.stuck (some_left stop.rest stop.goes_on)

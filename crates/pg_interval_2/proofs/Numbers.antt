@@ -6,57 +6,14 @@ use Rattle.std.proofs.lemmas.Bool.Decides.{nat_tests}
 use Rattle.std.proofs.lemmas.Option.{cond_some}
 use Rattle.scan_core.specs.Digits.{AreDigits}
 use Rattle.scan_core.specs.Number.{IsSign, IsFraction, IsNumber}
-use Rattle.pg_interval_2.specs.Reading.{Numeral, front_digits, after_digits, read_sign, read_fraction, read_unsigned, read_number}
+use Rattle.scan_core.specs.Fronts.{NoDigitFirst, front_digits, after_digits}
+use Rattle.scan_core.proofs.FrontFacts.{front_of, after_of, front_are_digits, front_and_after}
+use Rattle.pg_interval_2.specs.Reading.{Numeral, read_sign, read_fraction, read_unsigned, read_number}
 
--- the text doesn't begin with a digit, or with a point
-abbrev pub NoDigitFirst : List ℕ → Type 0
-NoDigitFirst [] = Unit {0}
-NoDigitFirst (b ∷ bs) = is_ascii_digit b ≡ false
-
+-- the text doesn't begin with a point
 abbrev pub NoPointFirst : List ℕ → Type 0
 NoPointFirst [] = Unit {0}
 NoPointFirst (b ∷ bs) = (b == 46) ≡ false
-
-pub is_digit : (c : ℕ) → digit_value c < 10 → is_ascii_digit c ≡ true
-is_digit c h = let r = digit_from_value c h in grind (arith, nat_tests)
-
-pub digit_is : (c : ℕ) → is_ascii_digit c ≡ true → digit_value c < 10
-digit_is c h = grind (arith, nat_tests)
-
-pub front_of : (digits rest : List ℕ) → AreDigits digits → NoDigitFirst rest → front_digits (digits ++ rest) ≡ digits
-front_of [] [] d n = refl
-front_of [] (b ∷ bs) d n = rw n refl
-front_of (c ∷ cs) rest d n = let yes = is_digit c d.0 in rw yes (ap (λ (ds : List ℕ). c ∷ ds) (front_of cs rest d.1 n))
-
-pub after_of : (digits rest : List ℕ) → AreDigits digits → NoDigitFirst rest → after_digits (digits ++ rest) ≡ rest
-after_of [] [] d n = refl
-after_of [] (b ∷ bs) d n = rw n refl
-after_of (c ∷ cs) rest d n = let yes = is_digit c d.0 in rw yes (after_of cs rest d.1 n)
-
--- the same of what a test chooses
-digits_if : (t : Bool) (b : ℕ) (ds : List ℕ) → (t ≡ true → digit_value b < 10) → AreDigits ds → AreDigits (cond t (b ∷ ds) [])
-digits_if true b ds is h = (is refl, h)
-digits_if false b ds is h = tt
-
-parts_if : (t : Bool) (b : ℕ) (bs ds rest : List ℕ) → ds ++ rest ≡ bs → cond t (b ∷ ds) [] ++ cond t rest (b ∷ bs) ≡ b ∷ bs
-parts_if true b bs ds rest h = ap (λ (l : List ℕ). b ∷ l) h
-parts_if false b bs ds rest h = refl
-
-no_digit_if : (t : Bool) (b : ℕ) (bs rest : List ℕ) → (t ≡ false → is_ascii_digit b ≡ false) → NoDigitFirst rest → NoDigitFirst (cond t rest (b ∷ bs))
-no_digit_if true b bs rest is h = h
-no_digit_if false b bs rest is h = is refl
-
-pub front_are_digits : (bytes : List ℕ) → AreDigits (front_digits bytes)
-front_are_digits [] = tt
-front_are_digits (b ∷ bs) = digits_if (is_ascii_digit b) b (front_digits bs) (digit_is b) (front_are_digits bs)
-
-pub front_and_after : (bytes : List ℕ) → front_digits bytes ++ after_digits bytes ≡ bytes
-front_and_after [] = refl
-front_and_after (b ∷ bs) = parts_if (is_ascii_digit b) b bs (front_digits bs) (after_digits bs) (front_and_after bs)
-
-pub after_no_digit : (bytes : List ℕ) → NoDigitFirst (after_digits bytes)
-after_no_digit [] = tt
-after_no_digit (b ∷ bs) = no_digit_if (is_ascii_digit b) b bs (after_digits bs) (λ h. h) (after_no_digit bs)
 
 no_fraction : (rest : List ℕ) → NoPointFirst rest → read_fraction rest ≡ ([], rest)
 no_fraction [] p = refl

@@ -4,25 +4,23 @@ use Rattle.std.specs.Char.{is_ascii_alphabetic}
 use Rattle.std.specs.List.{list_all}
 use Rattle.scan_core.specs.Blanks.{is_blank}
 use Rattle.scan_core.specs.Count.{Count}
+use Rattle.scan_core.specs.Fronts.{behind, leading, front_digits, after_digits}
 use Rattle.scan_core.specs.declared.share.Unit.{Unit as TimeUnit}
 use Rattle.pg_interval_2.specs.Clock.{clock_counts}
 use Rattle.pg_interval_2.specs.Postgres.{counts_unit, has_distinct_units}
-use Rattle.pg_interval_2.specs.Reading.{Numeral, count_with, front_digits, after_digits, read_sign, read_fraction, read_number}
+use Rattle.pg_interval_2.specs.Reading.{Numeral, count_with, read_sign, read_fraction, read_number}
 use Rattle.pg_interval_2.specs.UnitNames.{unit_named}
 
 -- what follows the blanks in front
 abbrev pub after_blanks : List ℕ → List ℕ
-after_blanks [] = []
-after_blanks (b ∷ bs) = if is_blank b then after_blanks bs else (b ∷ bs)
+after_blanks bytes = behind is_blank bytes
 
 -- the letters in front, and what follows them
 abbrev pub front_letters : List ℕ → List ℕ
-front_letters [] = []
-front_letters (b ∷ bs) = if is_ascii_alphabetic b then (b ∷ front_letters bs) else []
+front_letters bytes = leading is_ascii_alphabetic bytes
 
 abbrev pub after_letters : List ℕ → List ℕ
-after_letters [] = []
-after_letters (b ∷ bs) = if is_ascii_alphabetic b then after_letters bs else (b ∷ bs)
+after_letters bytes = behind is_ascii_alphabetic bytes
 
 -- a word ends here
 abbrev pub ends_word : List ℕ → Bool

@@ -1,18 +1,11 @@
 -- What the small readers answer, as functions on lists: cited by private contracts alone. Each answers a value and what follows it.
 use Rattle.std.specs.Prelude.{ℕ, ◌+◌, Bool, true, false, ◌&&◌, ◌==◌, nat_lt, List, [], ◌∷◌, length, Option, Some, None, if◌then◌else◌, option_and_then}
-use Rattle.std.specs.Char.{is_ascii_digit}
 use Rattle.scan_core.specs.Count.{Count}
+use Rattle.scan_core.specs.Fronts.{front_digits, after_digits}
+use Rattle.scan_core.specs.Runs.{IsRun, digits_of}
+use Rattle.pg_interval_2.specs.declared.number.Decimal.{Decimal}
 use Rattle.pg_interval_2.specs.declared.scan.Number.{Number}
 use Rattle.scan_core.specs.declared.share.Unit.{Unit as TimeUnit}
-
--- the digits at the front, and what follows them
-abbrev pub front_digits : List ℕ → List ℕ
-front_digits [] = []
-front_digits (b ∷ bs) = if is_ascii_digit b then (b ∷ front_digits bs) else []
-
-abbrev pub after_digits : List ℕ → List ℕ
-after_digits [] = []
-after_digits (b ∷ bs) = if is_ascii_digit b then after_digits bs else (b ∷ bs)
 
 -- whether a minus stands in front, and what follows the sign
 abbrev pub read_sign : Bool → List ℕ → Bool × List ℕ
@@ -29,6 +22,15 @@ pub record Numeral : Type 0 where
   pub negative : Bool
   pub whole : List ℕ
   pub fraction : List ℕ
+
+-- a number that was passed in a text, by its digits
+abbrev pub numeral_in : List ℕ → Decimal → Numeral
+numeral_in text n = record { negative = n.negative; whole = digits_of text n.whole; fraction = digits_of text n.fraction }
+
+-- its digits stand in the text
+pub record IsDecimal (text : List ℕ) (n : Decimal) : Type 0 where
+  pub whole : IsRun text n.whole
+  pub fraction : IsRun text n.fraction
 
 -- a number of the code, without where its digits lie
 abbrev pub numeral_of : Number → Numeral

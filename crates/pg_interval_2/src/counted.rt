@@ -85,7 +85,7 @@ impl Counted {
             return false;
         }
         self.units.insert(unit);
-        self.tally.add(number, unit);
+        self.tally.add_number(number, unit);
         true
     }
 

@@ -1,16 +1,19 @@
 //! The ISO style: `P1Y2M3DT4H5M6S`.
-ghost use Rattle.std.specs.Prelude.{◌≡◌, ◌+◌, ◌<◌, ◌≤◌, ◌^◌, length, IfSome, IfNone, IfOk, IfErr, option_map};
+ghost use Rattle.std.specs.Prelude.{◌≡◌, ◌+◌, ◌*◌, ◌-◌, ◌<◌, ◌≤◌, ◌^◌, true, false, None, Some, length, IfSome, IfNone, IfOk, IfErr};
+ghost use Rattle.scan_core.specs.Scanning.{Spends, ahead, unseen};
 ghost use Rattle.pg_interval_2.specs.Denotes.{Denotes, HasNoShape, NoPlace, Refuses};
 ghost use Rattle.pg_interval_2.specs.Iso.{IsIso, unit_in};
-ghost use Rattle.pg_interval_2.specs.IsoTally.{IsTallied, TakesPairs};
+ghost use Rattle.pg_interval_2.specs.IsoTally.{IsTallied, StopsBehindPairs, TakesPairs, ends_pairs};
 ghost use Rattle.pg_interval_2.specs.Messages.{not_iso};
-ghost use Rattle.pg_interval_2.specs.Reading.{count_with, numeral_of, read_pair};
+ghost use Rattle.pg_interval_2.specs.Reading.{IsDecimal, count_with, numeral_in, read_pair};
 
 use crate::error::ParseError;
 use crate::interval::Interval;
-use crate::scan::{Number, split_number, strip_byte};
+use crate::number::{Decimal, number};
 use crate::tally::Tally;
-use scan_core::Unit;
+use scan_core::{Looked, Scan, Steps, Unit};
+use std::marker::Brand;
+use std::sync::ledger::{Blank, Ledger};
 
 /// The unit that a letter means, before the `T` or behind it.
 fn unit_of(in_time: bool, letter: u8) -> Option<Unit>
@@ -27,49 +30,123 @@ fn unit_of(in_time: bool, letter: u8) -> Option<Unit>
     }
 }
 
-/// The number and the unit in front, and what follows them; None exactly where no such pair is there.
+/// The number and the unit in front, which are passed; None exactly where no such pair is there.
+#[inline(always)]
 #[tactic(auto, unfolding(crate::specs::Reading::read_pair))]
-fn split_pair(in_time: bool, bytes: &[u8]) -> Option<(Number<'_>, Unit, &[u8])>
-    ensures { option_map (λ r. (count_with (numeral_of r.0) r.1, r.2.now)) result ≡ read_pair (unit_in in_time) bytes.now }
+fn pair<L: Ledger>(
+    in_time: bool,
+    scan: &mut Scan<'_>,
+    steps: &mut Steps<L>,
+) -> Option<(Decimal, Unit)>
+    ensures read { IfSome result (λ pair. Some (count_with (numeral_in scan.new.text pair.0) pair.1, ahead scan.new)
+        ≡ read_pair (unit_in in_time) (ahead scan.old)) }
+    ensures none { IfNone result (None ≡ read_pair (unit_in in_time) (ahead scan.old)) }
+    ensures number { IfSome result (λ pair. IsDecimal scan.new.text pair.0) }
+    ensures shorter { IfSome result (λ pair.
+        (pair.0.fraction.end - pair.0.fraction.start) + length (ahead scan.new) < length (ahead scan.old)) }
+    ensures same { scan.new.text ≡ scan.old.text }
+    ensures onward { length (ahead scan.new) ≤ length (ahead scan.old) }
+    ensures ticks { steps.new + unseen (ahead scan.new) ≡ steps.old + unseen (ahead scan.old) }
 {
-    let (number, rest) = split_number(false, bytes)?;
-    let (letter, rest) = rest.split_first()?;
-    let unit = unit_of(in_time, *letter)?;
-    Some((number, unit, rest))
+    let number = number(false, scan, steps)?;
+    let letter = scan.next(steps)?;
+    let unit = unit_of(in_time, letter)?;
+    Some((number, unit))
 }
 
-/// Takes the pairs in front into the tally, as many as there are, and answers what is left.
-fn add_pairs<'a>(tally: &mut Tally, in_time: bool, bytes: &'a [u8]) -> &'a [u8]
-    requires room { tally.old.totals.adds + length bytes.now < 2 ^ 63 }
-    ensures room { tally.new.totals.adds + length result.now ≤ tally.old.totals.adds + length bytes.now }
-    ensures taken { TakesPairs in_time bytes.now result.now tally.old tally.new }
-    ensures stuck { read_pair (unit_in in_time) result.now ≡ None }
+/// Whether no pair can stand here: the text ends, or the time begins.
+#[inline(always)]
+fn ends_pairs(scan: &Scan<'_>) -> bool
+    ensures { result ≡ ends_pairs (ahead scan.now) }
 {
-    let mut rest = bytes;
-    while let Some((number, unit, after)) = split_pair(in_time, rest) {
-        tally.add(number, unit);
-        rest = after;
+    match scan.peek() {
+        None | Some(b'T') => true,
+        Some(_) => false,
     }
-    rest
+}
+
+/// Takes the pairs up to the end or a `T` into the tally, and answers whether nothing else stands there.
+#[inline(always)]
+fn take_pairs<L: Ledger>(
+    tally: &mut Tally,
+    in_time: bool,
+    scan: &mut Scan<'_>,
+    steps: &mut Steps<L>,
+) -> bool
+    requires room { tally.old.totals.adds + length (ahead scan.old) < 2 ^ 63 }
+    ensures room { tally.new.totals.adds + length (ahead scan.new) ≤ tally.old.totals.adds + length (ahead scan.old) }
+    ensures taken { result ≡ true → TakesPairs in_time (ahead scan.old) (ahead scan.new) tally.old tally.new }
+    ensures ends { result ≡ true → ends_pairs (ahead scan.new) ≡ true }
+    ensures stops { result ≡ false → StopsBehindPairs in_time (ahead scan.old) tally.old }
+    ensures same { scan.new.text ≡ scan.old.text }
+    ensures spends { Spends steps.old (ahead scan.old) steps.new (ahead scan.new) }
+{
+    while !ends_pairs(scan) {
+        let (number, unit) = match pair(in_time, scan, steps) {
+            Some(pair) => pair,
+            None => return false,
+        };
+        tally.add(scan.text(), number, unit, steps);
+    }
+    true
 }
 
 /// The tally of the counts that the text spells, or None exactly where it has no shape.
-fn tally_of(text: &[u8]) -> Option<Tally>
+#[inline(always)]
+fn tally_of<L: Ledger>(text: &Looked<'_>, steps: &mut Steps<L>) -> Option<Tally>
     ensures some { IfSome result (IsTallied text.now) }
     ensures none { IfNone result (HasNoShape IsIso text.now) }
+    ensures most { steps.new ≤ steps.old + 2 * length text.now }
+    ensures least { IfSome result (λ _. steps.old + length text.now ≤ steps.new) }
 {
-    let date = strip_byte(b'P', text)?;
-    if date.is_empty() {
+    let mut scan = Scan::new(text, steps);
+    if !scan.next_if(b'P', steps) {
+        return None;
+    }
+    if scan.is_done() {
         return None;
     }
     let mut tally = Tally::new();
-    let rest = add_pairs(&mut tally, false, date);
-    if rest.is_empty() {
+    if !take_pairs(&mut tally, false, &mut scan, steps) {
+        return None;
+    }
+    if scan.is_done() {
         return Some(tally);
     }
-    let time = strip_byte(b'T', rest)?;
-    let rest = add_pairs(&mut tally, true, time);
-    if rest.is_empty() { Some(tally) } else { None }
+    scan.next(steps);
+    if !take_pairs(&mut tally, true, &mut scan, steps) {
+        return None;
+    }
+    if scan.is_done() { Some(tally) } else { None }
+}
+
+/// What `Interval::from_iso` answers, with at most two looks a byte, and with one at least where it is Ok.
+pub(crate) fn read_iso<L: Ledger>(
+    text: &Looked<'_>,
+    steps: &mut Steps<L>,
+) -> Result<Interval, ParseError>
+    ensures ok { IfOk result (λ t. Denotes IsIso text.now t) }
+    ensures all { (t : Interval) → Denotes IsIso text.now t → result ≡ Ok t }
+    ensures err { IfErr result (λ e. Refuses IsIso NoPlace not_iso text.now e) }
+    ensures most { steps.new ≤ steps.old + 2 * length text.now }
+    ensures least { IfOk result (λ _. steps.old + length text.now ≤ steps.new) }
+{
+    match tally_of(text, steps) {
+        Some(tally) => tally.answer(),
+        None => Err(ParseError::InvalidInterval("not an iso interval")),
+    }
+}
+
+/// The same with a counter of its own.
+fn read_iso_alone<L: Ledger>(text: &Looked<'_>, blank: Blank) -> Result<Interval, ParseError>
+    requires name { blank.name ≡ L.name }
+    requires parts { blank.parts ≡ L.parts }
+    requires some { 0 < L.parts }
+    ensures ok { IfOk result (λ t. Denotes IsIso text.now t) }
+    ensures all { (t : Interval) → Denotes IsIso text.now t → result ≡ Ok t }
+    ensures err { IfErr result (λ e. Refuses IsIso NoPlace not_iso text.now e) }
+{
+    read_iso(text, &mut Steps::<L>::new(blank))
 }
 
 impl Interval {
@@ -84,10 +161,7 @@ impl Interval {
         ensures all { (t : Interval) → Denotes IsIso text.now t → result ≡ Ok t }
         ensures err { IfErr result (λ e. Refuses IsIso NoPlace not_iso text.now e) }
     {
-        match tally_of(text.as_bytes()) {
-            Some(tally) => tally.answer(),
-            None => Err(ParseError::InvalidInterval("not an iso interval")),
-        }
+        read_iso_alone::<Brand>(&Looked::new(text), Blank::new(1))
     }
 }
 

@@ -13,6 +13,7 @@ mod iso;
 mod iso_text;
 mod items;
 pub mod laws;
+mod number;
 mod parts;
 mod postgres;
 mod postgres_text;

@@ -1,6 +1,7 @@
 //! The small readers at the front of a text: signs, digits, numbers. All access to bytes goes through them.
 ghost use Rattle.std.specs.Prelude.{◌≡◌, ◌≢◌, ℕ, List, ◌∷◌, IfSome, IfNone, option_map};
-ghost use Rattle.pg_interval_2.specs.Reading.{front_digits, after_digits, read_sign, read_fraction, read_unsigned, read_number, numeral_of};
+ghost use Rattle.scan_core.specs.Fronts.{front_digits, after_digits};
+ghost use Rattle.pg_interval_2.specs.Reading.{read_sign, read_fraction, read_unsigned, read_number, numeral_of};
 
 /// A number as slices of the text: its digits are gone back to once, for the share.
 #[derive(Clone, Copy)]

@@ -1,15 +1,17 @@
 //! The tally of a text's counts: exact sums, and which parts a share has left. Nothing is judged before the end.
-ghost use Rattle.std.specs.Prelude.{◌≡◌, ◌+◌, ◌<◌, ◌≤◌, ◌^◌, [], ◌∷◌, ◌++◌, List};
+ghost use Rattle.std.specs.Prelude.{◌≡◌, ◌+◌, ◌-◌, ◌<◌, ◌≤◌, ◌^◌, [], ◌∷◌, ◌++◌, List};
 ghost use Rattle.scan_core.specs.Count.{Count};
 ghost use Rattle.scan_core.specs.Digits.{AreDigits};
 ghost use Rattle.scan_core.specs.Shares.{main_part};
-ghost use Rattle.pg_interval_2.specs.Reading.{count_with, numeral_of};
+ghost use Rattle.pg_interval_2.specs.Reading.{IsDecimal, count_with, numeral_in, numeral_of};
 ghost use Rattle.pg_interval_2.specs.Tallies.{Tallies, Answers, marked};
 
 use crate::error::ParseError;
 use crate::interval::Interval;
+use crate::number::Decimal;
 use crate::scan::Number;
-use scan_core::{Part, Totals, Unit, count_share};
+use scan_core::{Looked, Part, Steps, Totals, Unit, add_scanned, count_share};
+use std::sync::ledger::Ledger;
 
 /// The sums of the shares that fit, and of each part whether all shares do.
 #[derive(Clone, Copy)]
@@ -34,8 +36,43 @@ impl Tally {
         }
     }
 
+    /// Takes one more count, whose digits a scan of the text has passed.
+    #[inline(always)]
+    pub(crate) fn add<L: Ledger>(
+        &mut self,
+        text: &Looked<'_>,
+        number: Decimal,
+        unit: Unit,
+        steps: &mut Steps<L>,
+    )
+        requires number { IsDecimal text.now number }
+        requires room { self.old.totals.adds < 2 ^ 63 }
+        ensures adds { self.new.totals.adds ≤ self.old.totals.adds + 1 }
+        ensures tallied { (counts : List Count) → Tallies self.old counts
+            → Tallies self.new (counts ++ count_with (numeral_in text.now number) unit ∷ []) }
+        ensures least { steps.old ≤ steps.new }
+        ensures most { steps.new ≤ steps.old + (number.fraction.end - number.fraction.start) }
+    {
+        let Decimal {
+            negative,
+            whole,
+            fraction,
+        } = number;
+        if !add_scanned(
+            &mut self.totals,
+            text,
+            negative,
+            whole,
+            fraction,
+            unit,
+            steps,
+        ) {
+            self.mark(unit);
+        }
+    }
+
     /// Takes one more count.
-    pub(crate) fn add(&mut self, number: Number<'_>, unit: Unit)
+    pub(crate) fn add_number(&mut self, number: Number<'_>, unit: Unit)
         requires whole { AreDigits number.whole.now }
         requires fraction { AreDigits number.fraction.now }
         requires room { self.old.totals.adds < 2 ^ 63 }

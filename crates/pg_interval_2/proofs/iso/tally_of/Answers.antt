@@ -1,32 +1,40 @@
-use Rattle.std.proofs.Common.{ℕ, List, subst, false, true}
+use Rattle.std.proofs.Common.{◌≡◌, ◌≢◌, ℕ, List, [], ◌∷◌, ◌++◌, ap, codes, false, refl, subst, sym, true, ◌∙◌}
+use Rattle.std.proofs.lemmas.Bool.{false≢true}
+use Rattle.scan_core.specs.Scanning.{Place, ahead}
 use Rattle.pg_interval_2.specs.IsoTally.{TakesPairs}
-use Rattle.pg_interval_2.proofs.IsoSteps.{is_nothing, is_something, alone_tallied, timed_tallied, no_shape_behind_dates, no_shape_behind_times}
+use Rattle.pg_interval_2.proofs.IsoSteps.{alone_tallied, no_shape_behind_times, no_pair_at_end, stopped_dates, stopped_times, time_begins, timed_tallied}
 use Rattle.pg_interval_2.proofs.iso.tally_of.Goals as goal
 
-pub returns-then-is_empty-2-clause-some : goal.returns-then-is_empty-2-clause-some
-returns-then-is_empty-2-clause-some c =
-    let nothing = is_nothing c.add_pairs-rest.result.now c.if-is_empty-2.ensures in
-    alone_tallied c.args.text.now c.in_ok-date.date.now c.new-tally.result c.add_pairs-rest.new.tally c.in_ok-date.ensures.some (is_something _ c.if-is_empty.ensures)
-    (subst (λ (l : List ℕ). TakesPairs false c.in_ok-date.date.now l c.new-tally.result c.add_pairs-rest.new.tally) nothing c.add_pairs-rest.ensures.taken)
-    c.new-tally.ensures.tallied
+pub returns-then-not-take_pairs-clause-none : goal.returns-then-not-take_pairs-clause-none
+returns-then-not-take_pairs-clause-none g c =
+    let spelled = sym (ap ahead c.new-scan.ensures.place) ∙ (c.if-not-next_if.ensures.passed refl).split in
+    stopped_dates c.args.text.now (ahead c.next_if.new.self) c.new-tally.result spelled (c.if-not-take_pairs.ensures.stops refl)
 
-pub returns-in_err-time-clause-none : goal.returns-in_err-time-clause-none
-returns-in_err-time-clause-none c =
-    rw c.from_residual-in_err-time.ensures
-    (no_shape_behind_dates c.args.text.now c.in_ok-date.date.now c.add_pairs-rest.result.now _ _ c.in_ok-date.ensures.some c.add_pairs-rest.ensures.taken c.add_pairs-rest.ensures.stuck
-    (is_something _ c.if-is_empty-2.ensures) c.in_err-time.ensures.none)
+pub returns-then-is_done-2-clause-some : goal.returns-then-is_done-2-clause-some
+returns-then-is_done-2-clause-some g c =
+    let spelled = sym (ap ahead c.new-scan.ensures.place) ∙ (c.if-not-next_if.ensures.passed refl).split in
+    let dates = subst (λ (rest : List ℕ). TakesPairs false (ahead c.next_if.new.self) rest c.new-tally.result c.take_pairs.new.tally) (c.if-is_done-2.ensures.0 refl) (c.if-not-take_pairs.ensures.taken refl) in
+    alone_tallied c.args.text.now (ahead c.next_if.new.self) c.new-tally.result c.take_pairs.new.tally spelled (λ none. false≢true (c.if-is_done.ensures.1 none)) dates c.new-tally.ensures.tallied
 
-pub returns-then-is_empty-3-clause-some : goal.returns-then-is_empty-3-clause-some
-returns-then-is_empty-3-clause-some c =
-    let nothing = is_nothing c.add_pairs-rest-2.result.now c.if-is_empty-3.ensures in
-    timed_tallied c.args.text.now c.in_ok-date.date.now c.in_ok-time.time.now c.new-tally.result c.add_pairs-rest.new.tally c.add_pairs-rest-2.new.tally c.in_ok-date.ensures.some
-    (subst (λ (l : List ℕ). TakesPairs false c.in_ok-date.date.now l c.new-tally.result c.add_pairs-rest.new.tally) c.in_ok-time.ensures.some c.add_pairs-rest.ensures.taken)
-    (subst (λ (l : List ℕ). TakesPairs true c.in_ok-time.time.now l c.add_pairs-rest.new.tally c.add_pairs-rest-2.new.tally) nothing c.add_pairs-rest-2.ensures.taken)
-    c.new-tally.ensures.tallied
+pub returns-then-not-take_pairs-2-clause-none : goal.returns-then-not-take_pairs-2-clause-none
+returns-then-not-take_pairs-2-clause-none g c =
+    let spelled = sym (ap ahead c.new-scan.ensures.place) ∙ (c.if-not-next_if.ensures.passed refl).split in
+    let begins = time_begins c.next.result c.take_pairs.new.scan c.next.new.self c.next.ensures.some c.next.ensures.none (c.if-not-take_pairs.ensures.ends refl) (λ none. false≢true (c.if-is_done-2.ensures.1 none)) in
+    let dates = subst (λ (rest : List ℕ). TakesPairs false (ahead c.next_if.new.self) rest c.new-tally.result c.take_pairs.new.tally) begins (c.if-not-take_pairs.ensures.taken refl) in
+    stopped_times c.args.text.now (ahead c.next_if.new.self) (ahead c.next.new.self) c.new-tally.result c.take_pairs.new.tally spelled dates (c.if-not-take_pairs-2.ensures.stops refl)
 
-pub returns-else-is_empty-3-clause-none : goal.returns-else-is_empty-3-clause-none
-returns-else-is_empty-3-clause-none c =
-    no_shape_behind_times c.args.text.now c.in_ok-date.date.now c.in_ok-time.time.now c.add_pairs-rest-2.result.now c.new-tally.result c.add_pairs-rest.new.tally c.add_pairs-rest-2.new.tally
-    c.in_ok-date.ensures.some
-    (subst (λ (l : List ℕ). TakesPairs false c.in_ok-date.date.now l c.new-tally.result c.add_pairs-rest.new.tally) c.in_ok-time.ensures.some c.add_pairs-rest.ensures.taken)
-    c.add_pairs-rest-2.ensures.taken c.add_pairs-rest-2.ensures.stuck (is_something _ c.if-is_empty-3.ensures)
+pub returns-then-is_done-3-clause-some : goal.returns-then-is_done-3-clause-some
+returns-then-is_done-3-clause-some g c =
+    let spelled = sym (ap ahead c.new-scan.ensures.place) ∙ (c.if-not-next_if.ensures.passed refl).split in
+    let begins = time_begins c.next.result c.take_pairs.new.scan c.next.new.self c.next.ensures.some c.next.ensures.none (c.if-not-take_pairs.ensures.ends refl) (λ none. false≢true (c.if-is_done-2.ensures.1 none)) in
+    let dates = subst (λ (rest : List ℕ). TakesPairs false (ahead c.next_if.new.self) rest c.new-tally.result c.take_pairs.new.tally) begins (c.if-not-take_pairs.ensures.taken refl) in
+    let times = subst (λ (rest : List ℕ). TakesPairs true (ahead c.next.new.self) rest c.take_pairs.new.tally c.take_pairs-2.new.tally) (c.if-is_done-3.ensures.0 refl) (c.if-not-take_pairs-2.ensures.taken refl) in
+    timed_tallied c.args.text.now (ahead c.next_if.new.self) (ahead c.next.new.self) c.new-tally.result c.take_pairs.new.tally c.take_pairs-2.new.tally spelled dates times c.new-tally.ensures.tallied
+
+pub returns-else-is_done-3-clause-none : goal.returns-else-is_done-3-clause-none
+returns-else-is_done-3-clause-none g c =
+    let spelled = sym (ap ahead c.new-scan.ensures.place) ∙ (c.if-not-next_if.ensures.passed refl).split in
+    let begins = time_begins c.next.result c.take_pairs.new.scan c.next.new.self c.next.ensures.some c.next.ensures.none (c.if-not-take_pairs.ensures.ends refl) (λ none. false≢true (c.if-is_done-2.ensures.1 none)) in
+    let dates = subst (λ (rest : List ℕ). TakesPairs false (ahead c.next_if.new.self) rest c.new-tally.result c.take_pairs.new.tally) begins (c.if-not-take_pairs.ensures.taken refl) in
+    no_shape_behind_times c.args.text.now (ahead c.next_if.new.self) (ahead c.next.new.self) (ahead c.take_pairs-2.new.scan) c.new-tally.result c.take_pairs.new.tally c.take_pairs-2.new.tally spelled dates
+    (c.if-not-take_pairs-2.ensures.taken refl) (no_pair_at_end true (ahead c.take_pairs-2.new.scan) (c.if-not-take_pairs-2.ensures.ends refl)) (λ none. false≢true (c.if-is_done-3.ensures.1 none))

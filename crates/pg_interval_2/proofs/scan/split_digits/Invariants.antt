@@ -1,5 +1,5 @@
 use Rattle.std.proofs.Common.{◌≡◌, ◌≤◌, ◌-◌, ◌++◌, length, take, drop}
-use Rattle.pg_interval_2.specs.Reading.{front_digits, after_digits}
+use Rattle.scan_core.specs.Fronts.{front_digits, after_digits}
 use Rattle.pg_interval_2.proofs.scan.split_digits.Given as goal
 
 abbrev pub invariant-loop-len : goal.invariant-loop-len

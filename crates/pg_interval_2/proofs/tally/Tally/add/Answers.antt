@@ -1,19 +1,27 @@
-use Rattle.std.proofs.Common.{refl, rules}
-use Rattle.pg_interval_2.specs.Reading.{count_with, numeral_of}
+use Rattle.std.proofs.Common.{refl}
+use Rattle.scan_core.specs.Runs.{digits_of}
+use Rattle.pg_interval_2.specs.Reading.{count_with, numeral_in}
 use Rattle.pg_interval_2.proofs.TallyFacts.{tally_share, tally_mark, off_unless}
 use Rattle.pg_interval_2.proofs.tally.Tally.add.Goals as goal
 
-pub returns-in-Some-clause-tallied : goal.returns-in-Some-clause-tallied
-returns-in-Some-clause-tallied c =
-    λ counts h. tally_share c.args.self.now _ counts (count_with (numeral_of c.args.number) c.args.unit) c.requires.fraction (c.in-Some.ensures.fits.0 refl) (record {
+pub returns-then-not-add_scanned-clause-tallied : goal.returns-then-not-add_scanned-clause-tallied
+returns-then-not-add_scanned-clause-tallied g c =
+    λ counts h.
+    let number = c.args.number in
+    let text = c.args.text.now in
+    let kept = c.if-not-add_scanned.ensures.kept refl in
+    let marked = c.mark.ensures in
+    rw (marked, kept) (tally_mark c.args.unit number.negative (digits_of text number.whole) (digits_of text number.fraction) c.args.self.now counts (off_unless _ c.if-not-add_scanned.ensures.fits.1) h)
+
+pub returns-else-not-add_scanned-clause-tallied : goal.returns-else-not-add_scanned-clause-tallied
+returns-else-not-add_scanned-clause-tallied g c =
+    λ counts h.
+    let added = c.if-not-add_scanned.ensures in
+    tally_share c.args.self.now _ counts (count_with (numeral_in c.args.text.now c.args.number) c.args.unit) c.requires.number.fraction.digits (added.fits.0 refl) (record {
       months_fit = refl;
       days_fit = refl;
       micros_fit = refl;
-      months = search rules;
-      days = search rules;
-      micros = search rules;
+      months = added.months refl;
+      days = added.days refl;
+      micros = added.micros refl;
     }) h
-
-pub returns-in-None-clause-tallied : goal.returns-in-None-clause-tallied
-returns-in-None-clause-tallied c =
-    λ counts h. rw c.mark.ensures (tally_mark c.args.unit c.args.number.negative c.args.number.whole.now c.args.number.fraction.now c.args.self.now counts (off_unless _ c.in-None.ensures.fits.1) h)
