@@ -8,7 +8,9 @@ use Rattle.pg_interval_2.specs.Clock.{IsField}
 use Rattle.pg_interval_2.specs.ItemReading.{after_blanks}
 use Rattle.pg_interval_2.specs.Sql.{IsSignOr, IsYearMonth, IsDays, HasSeconds, IsTime}
 use Rattle.pg_interval_2.specs.inside.SqlReading.{SqlWord, YearMonth, Days, Time, seconds_counts, word_counts, read_sign_or, read_field, read_seconds, read_time, read_months, read_behind, closed_word, read_word}
-use Rattle.pg_interval_2.proofs.Numbers.{NoDigitFirst, NoSignFirst, front_of, after_of, fraction_of, digits_no_sign, tail_no_digit}
+use Rattle.scan_core.specs.Fronts.{NoDigitFirst}
+use Rattle.scan_core.proofs.FrontFacts.{front_of, after_of}
+use Rattle.pg_interval_2.proofs.Numbers.{NoSignFirst, fraction_of, digits_no_sign, tail_no_digit}
 use Rattle.pg_interval_2.proofs.ItemFacts.{blank_is_no, ends_test}
 use Rattle.pg_interval_2.proofs.ItemsInFront.{end_closes, positive}
 

@@ -3,7 +3,8 @@ use Rattle.std.specs.Prelude.{ℕ, Bool, true, false, ◌&&◌, ◌==◌, nat_lt
 use Rattle.scan_core.specs.Count.{Count, count_of}
 use Rattle.scan_core.specs.Digits.{number_of}
 use Rattle.scan_core.specs.declared.share.Unit.TheVariants.{Year, Month, Day, Hour, Minute, Second}
-use Rattle.pg_interval_2.specs.Reading.{front_digits, after_digits, read_fraction}
+use Rattle.scan_core.specs.Fronts.{front_digits, after_digits}
+use Rattle.pg_interval_2.specs.Reading.{read_fraction}
 use Rattle.pg_interval_2.specs.ItemReading.{after_blanks, ends_word}
 
 -- what a word is
