@@ -42,7 +42,7 @@ padded_step width n two fits =
           let last : n % 10 ≡ n = omega (arith, small) in
           let e : width - 1 ≡ (width - 1 - 1) + 1 = omega (arith, two) in
           let zeros : replicate (width - 1) 48 ≡ replicate (width - 1 - 1) 48 ++ (48 ∷ []) =
-              ap (λ (k : ℕ). replicate k 48) e ∙ sym (replicate-append-replicate {A = ℕ} (width - 1 - 1) 1 48) in
+          ap (λ (k : ℕ). replicate k 48) e ∙ sym (replicate-append-replicate {A = ℕ} (width - 1 - 1) 1 48) in
           let front : padded (width - 1) 0 ≡ replicate (width - 1) 48 = padded_digit (width - 1) 0 (omega arith) ∙ sym zeros in
           padded_digit width n small ∙ rw (none, last, front) refl
     ]

@@ -6,10 +6,10 @@ ghost use Rattle.port_toml_datetime.specs.Faults.{fault, fault_of, words_of};
 ghost use Rattle.port_toml_datetime.specs.Checks.{after_date, date_rows, day_words, first_failing};
 ghost use Rattle.port_toml_datetime.specs.inside.Values.{date_of};
 
+use crate::Date;
 use crate::error::{Check, DatetimeParseError};
 use crate::numbers::{four_digits, two_digits};
 use crate::scan::{check, digits, mark};
-use crate::Date;
 
 fn is_leap_year(year: u16) -> bool
     ensures { result ≡ is_leap_year year }
@@ -44,7 +44,10 @@ fn day_check(days: u8) -> Check
 
 /// A date, from behind the `-` that follows the year.
 #[tactic(auto, unfolding(crate::specs::Checks::date_rows, crate::specs::inside::Values::date_of))]
-pub(crate) fn read_date<'a>(year: &[u8], bytes: &'a [u8]) -> Result<(Date, &'a [u8]), DatetimeParseError>
+pub(crate) fn read_date<'a>(
+    year: &[u8],
+    bytes: &'a [u8],
+) -> Result<(Date, &'a [u8]), DatetimeParseError>
     requires { AreDigits year.now }
     ensures pass { IfOk result (λ r. first_failing (date_rows year.now bytes.now) ≡ None) }
     ensures date { IfOk result (λ r. r.0 ≡ date_of year.now bytes.now) }

@@ -5,10 +5,10 @@ ghost use Rattle.port_toml_datetime.specs.Faults.{fault_of};
 ghost use Rattle.port_toml_datetime.specs.Checks.{first_failing, numeric_offset_rows, offset_rows};
 ghost use Rattle.port_toml_datetime.specs.inside.Values.{numeric_offset_of, offset_of};
 
+use crate::Offset;
 use crate::error::{Check, DatetimeParseError};
 use crate::numbers::two_digits;
 use crate::scan::{check, digits, end, mark};
-use crate::Offset;
 
 fn with_sign(negative: bool, minutes: u16) -> i16
     requires { minutes ≤ 1439 }

@@ -6,10 +6,10 @@ ghost use Rattle.port_toml_datetime.specs.Faults.{fault_of};
 ghost use Rattle.port_toml_datetime.specs.Checks.{after_time, first_failing, has_length, time_rows, where_there};
 ghost use Rattle.port_toml_datetime.specs.inside.Values.{time_of};
 
+use crate::Time;
 use crate::error::{Check, DatetimeParseError};
 use crate::numbers::{nanoseconds, two_digits};
 use crate::scan::{check, digits, fraction, marked};
-use crate::Time;
 
 /// Whether the second isn't there, or has two digits.
 fn is_two_digits(second: Option<&[u8]>) -> bool
@@ -53,7 +53,10 @@ fn fraction_number(fraction: Option<&[u8]>) -> Option<u32>
 
 /// A time, from behind the `:` that follows the hour.
 #[tactic(auto, unfolding(crate::specs::Checks::time_rows, crate::specs::Checks::after_time, crate::specs::inside::Values::time_of))]
-pub(crate) fn read_time<'a>(hour: &[u8], bytes: &'a [u8]) -> Result<(Time, &'a [u8]), DatetimeParseError>
+pub(crate) fn read_time<'a>(
+    hour: &[u8],
+    bytes: &'a [u8],
+) -> Result<(Time, &'a [u8]), DatetimeParseError>
     requires { AreDigits hour.now }
     ensures pass { IfOk result (λ r. first_failing (time_rows hour.now bytes.now) ≡ None) }
     ensures time { IfOk result (λ r. r.0 ≡ time_of hour.now bytes.now) }

@@ -8,15 +8,27 @@ use std::test::Fail;
 fn each_check_has_a_text(rt: HostRuntime) -> Result<(), Fail> {
     for (text, said) in [
         ("x", "invalid datetime, expected year or hour"),
-        ("1979", "invalid datetime, expected `-` (YYYY-MM) or `:` (HH:MM)"),
+        (
+            "1979",
+            "invalid datetime, expected `-` (YYYY-MM) or `:` (HH:MM)",
+        ),
         ("1979--05-27", "invalid date, expected month"),
         ("1979-05:27", "invalid date, expected `-` (MM-DD)"),
         ("1979-05-T", "invalid date, expected day"),
-        ("197-05-27", "invalid date, expected a four-digit year (YYYY)"),
+        (
+            "197-05-27",
+            "invalid date, expected a four-digit year (YYYY)",
+        ),
         ("1979-5-27", "invalid date, expected a two-digit month (MM)"),
         ("1979-05-7", "invalid date, expected a two-digit day (DD)"),
-        ("1979-00-27", "invalid date, expected month between 01 and 12"),
-        ("1979-13-27", "invalid date, expected month between 01 and 12"),
+        (
+            "1979-00-27",
+            "invalid date, expected month between 01 and 12",
+        ),
+        (
+            "1979-13-27",
+            "invalid date, expected month between 01 and 12",
+        ),
         ("1979-02-00", "invalid date, expected day between 01 and 28"),
         ("1979-02-29", "invalid date, expected day between 01 and 28"),
         ("1900-02-29", "invalid date, expected day between 01 and 28"),
@@ -28,8 +40,14 @@ fn each_check_has_a_text(rt: HostRuntime) -> Result<(), Fail> {
         ("1979-11-31", "invalid date, expected day between 01 and 30"),
         ("1979-01-32", "invalid date, expected day between 01 and 31"),
         ("1979-12-00", "invalid date, expected day between 01 and 31"),
-        ("1979-05-27x", "invalid date-time, expected `T` between date and time"),
-        ("1979-05-27Z", "invalid date-time, expected `T` between date and time"),
+        (
+            "1979-05-27x",
+            "invalid date-time, expected `T` between date and time",
+        ),
+        (
+            "1979-05-27Z",
+            "invalid date-time, expected `T` between date and time",
+        ),
         ("1979-05-27T:", "invalid time, expected hour"),
         ("1979-05-27T07.32", "invalid time, expected `:` (HH:MM)"),
         ("07:x", "invalid time, expected minute"),
@@ -40,16 +58,40 @@ fn each_check_has_a_text(rt: HostRuntime) -> Result<(), Fail> {
         ("07:32:0", "invalid time, expected a two-digit second (SS)"),
         ("24:00", "invalid time, expected hour between 00 and 23"),
         ("07:60", "invalid time, expected minute between 00 and 59"),
-        ("07:32:61", "invalid time, expected second between 00 and 60"),
-        ("1979-05-27T07:32x", "invalid offset, expected `Z`, +OFFSET, -OFFSET"),
-        ("1979-05-27T07:32.5", "invalid offset, expected `Z`, +OFFSET, -OFFSET"),
+        (
+            "07:32:61",
+            "invalid time, expected second between 00 and 60",
+        ),
+        (
+            "1979-05-27T07:32x",
+            "invalid offset, expected `Z`, +OFFSET, -OFFSET",
+        ),
+        (
+            "1979-05-27T07:32.5",
+            "invalid offset, expected `Z`, +OFFSET, -OFFSET",
+        ),
         ("1979-05-27T07:32+Z", "invalid offset, expected hour"),
-        ("1979-05-27T07:32+0700", "invalid offset, expected `:` (HH:MM)"),
+        (
+            "1979-05-27T07:32+0700",
+            "invalid offset, expected `:` (HH:MM)",
+        ),
         ("1979-05-27T07:32-07:x", "invalid offset, expected minute"),
-        ("1979-05-27T07:32-7:00", "invalid offset, expected a two-digit hour (HH)"),
-        ("1979-05-27T07:32-07:0", "invalid offset, expected a two-digit minute (MM)"),
-        ("1979-05-27T07:32+24:00", "invalid offset, expected hours between 00 and 23"),
-        ("1979-05-27T07:32+07:60", "invalid offset, expected minutes between 00 and 59"),
+        (
+            "1979-05-27T07:32-7:00",
+            "invalid offset, expected a two-digit hour (HH)",
+        ),
+        (
+            "1979-05-27T07:32-07:0",
+            "invalid offset, expected a two-digit minute (MM)",
+        ),
+        (
+            "1979-05-27T07:32+24:00",
+            "invalid offset, expected hours between 00 and 23",
+        ),
+        (
+            "1979-05-27T07:32+07:60",
+            "invalid offset, expected minutes between 00 and 59",
+        ),
         ("1979-05-27T07:32+07:00x", "invalid datetime"),
         ("1979-05-27T07:32Zx", "invalid datetime"),
         ("07:32:00Z", "invalid datetime"),
@@ -81,10 +123,26 @@ fn first_failing_check_is_said(rt: HostRuntime) -> Result<(), Fail> {
         ("24:60:0", Some("time"), Some("a two-digit second (SS)")),
         ("24:60:61x", Some("time"), Some("hour between 00 and 23")),
         ("23:60:61", Some("time"), Some("minute between 00 and 59")),
-        ("1979-05-27T25:00", Some("time"), Some("hour between 00 and 23")),
-        ("1979-05-27T07:61x", Some("time"), Some("minute between 00 and 59")),
-        ("1979-05-27T07:32+24:0", Some("offset"), Some("a two-digit minute (MM)")),
-        ("1979-05-27T07:32+24:60x", Some("offset"), Some("hours between 00 and 23")),
+        (
+            "1979-05-27T25:00",
+            Some("time"),
+            Some("hour between 00 and 23"),
+        ),
+        (
+            "1979-05-27T07:61x",
+            Some("time"),
+            Some("minute between 00 and 59"),
+        ),
+        (
+            "1979-05-27T07:32+24:0",
+            Some("offset"),
+            Some("a two-digit minute (MM)"),
+        ),
+        (
+            "1979-05-27T07:32+24:60x",
+            Some("offset"),
+            Some("hours between 00 and 23"),
+        ),
         ("1979-02-30", Some("date"), Some("day between 01 and 28")),
         ("07:32:00Z", None, None),
         ("", None, Some("year or hour")),
@@ -101,8 +159,14 @@ fn first_failing_check_is_said(rt: HostRuntime) -> Result<(), Fail> {
 fn each_front_of_a_text(rt: HostRuntime) -> Result<(), Fail> {
     for (text, said) in [
         ("", "invalid datetime, expected year or hour"),
-        ("1", "invalid datetime, expected `-` (YYYY-MM) or `:` (HH:MM)"),
-        ("197", "invalid datetime, expected `-` (YYYY-MM) or `:` (HH:MM)"),
+        (
+            "1",
+            "invalid datetime, expected `-` (YYYY-MM) or `:` (HH:MM)",
+        ),
+        (
+            "197",
+            "invalid datetime, expected `-` (YYYY-MM) or `:` (HH:MM)",
+        ),
         ("1979-", "invalid date, expected month"),
         ("1979-0", "invalid date, expected `-` (MM-DD)"),
         ("1979-05", "invalid date, expected `-` (MM-DD)"),
@@ -114,18 +178,36 @@ fn each_front_of_a_text(rt: HostRuntime) -> Result<(), Fail> {
         ("1979-05-27T0", "invalid time, expected `:` (HH:MM)"),
         ("1979-05-27T07", "invalid time, expected `:` (HH:MM)"),
         ("1979-05-27T07:", "invalid time, expected minute"),
-        ("1979-05-27T07:3", "invalid time, expected a two-digit minute (MM)"),
+        (
+            "1979-05-27T07:3",
+            "invalid time, expected a two-digit minute (MM)",
+        ),
         ("1979-05-27T07:32", "1979-05-27T07:32"),
         ("1979-05-27T07:32:", "invalid time, expected second"),
-        ("1979-05-27T07:32:0", "invalid time, expected a two-digit second (SS)"),
+        (
+            "1979-05-27T07:32:0",
+            "invalid time, expected a two-digit second (SS)",
+        ),
         ("1979-05-27T07:32:00", "1979-05-27T07:32:00"),
         ("1979-05-27T07:32:00.", "invalid time, expected nanosecond"),
         ("1979-05-27T07:32:00.5", "1979-05-27T07:32:00.5"),
         ("1979-05-27T07:32:00.5-", "invalid offset, expected hour"),
-        ("1979-05-27T07:32:00.5-0", "invalid offset, expected `:` (HH:MM)"),
-        ("1979-05-27T07:32:00.5-07", "invalid offset, expected `:` (HH:MM)"),
-        ("1979-05-27T07:32:00.5-07:", "invalid offset, expected minute"),
-        ("1979-05-27T07:32:00.5-07:0", "invalid offset, expected a two-digit minute (MM)"),
+        (
+            "1979-05-27T07:32:00.5-0",
+            "invalid offset, expected `:` (HH:MM)",
+        ),
+        (
+            "1979-05-27T07:32:00.5-07",
+            "invalid offset, expected `:` (HH:MM)",
+        ),
+        (
+            "1979-05-27T07:32:00.5-07:",
+            "invalid offset, expected minute",
+        ),
+        (
+            "1979-05-27T07:32:00.5-07:0",
+            "invalid offset, expected a two-digit minute (MM)",
+        ),
         ("1979-05-27T07:32:00.5-07:00", "1979-05-27T07:32:00.5-07:00"),
     ] {
         let answer = match Datetime::from_str(text) {
@@ -144,7 +226,10 @@ fn valid_date_times(rt: HostRuntime) -> Result<(), Fail> {
         ("1979-05-27T07:32:00Z", "1979-05-27T07:32:00Z"),
         ("1979-05-27T00:32:00-07:00", "1979-05-27T00:32:00-07:00"),
         ("1979-05-27T00:32:00.5-07:00", "1979-05-27T00:32:00.5-07:00"),
-        ("1979-05-27T00:32:00.999999-07:00", "1979-05-27T00:32:00.999999-07:00"),
+        (
+            "1979-05-27T00:32:00.999999-07:00",
+            "1979-05-27T00:32:00.999999-07:00",
+        ),
         ("1979-05-27 07:32:00Z", "1979-05-27T07:32:00Z"),
         ("1979-05-27 07:32Z", "1979-05-27T07:32Z"),
         ("1979-05-27 07:32z", "1979-05-27T07:32Z"),
@@ -161,8 +246,14 @@ fn valid_date_times(rt: HostRuntime) -> Result<(), Fail> {
         ("2000-02-29 15:15:15Z", "2000-02-29T15:15:15Z"),
         ("2024-02-29 15:15:15.123", "2024-02-29T15:15:15.123"),
         ("0001-01-01 00:00:00Z", "0001-01-01T00:00:00Z"),
-        ("9999-12-31T23:59:60.999999999+23:59", "9999-12-31T23:59:60.999999999+23:59"),
-        ("1979-05-27T07:32:00.9999999999Z", "1979-05-27T07:32:00.999999999Z"),
+        (
+            "9999-12-31T23:59:60.999999999+23:59",
+            "9999-12-31T23:59:60.999999999+23:59",
+        ),
+        (
+            "1979-05-27T07:32:00.9999999999Z",
+            "1979-05-27T07:32:00.999999999Z",
+        ),
         ("1979-05-27T07:32:00-00:00", "1979-05-27T07:32:00+00:00"),
         ("07:32:00.000", "07:32:00.0"),
         ("07:32:00.0000000019", "07:32:00.000000001"),
@@ -182,37 +273,109 @@ fn valid_date_times(rt: HostRuntime) -> Result<(), Fail> {
 #[test]
 fn invalid_date_times(rt: HostRuntime) -> Result<(), Fail> {
     for (text, said) in [
-        ("2100-02-29T15:15:15Z", "invalid date, expected day between 01 and 28"),
-        ("1988-02-30T15:15:15Z", "invalid date, expected day between 01 and 29"),
-        ("2006-01-01T24:00:00-00:00", "invalid time, expected hour between 00 and 23"),
-        ("2006-01-32T00:00:00-00:00", "invalid date, expected day between 01 and 31"),
-        ("2006-01-00T00:00:00-00:00", "invalid date, expected day between 01 and 31"),
-        ("2006-01-01T00:60:00-00:00", "invalid time, expected minute between 00 and 59"),
-        ("2006-13-01T00:00:00-00:00", "invalid date, expected month between 01 and 12"),
-        ("1987-7-05T17:45:00Z", "invalid date, expected a two-digit month (MM)"),
-        ("1987-07-5T17:45:00.12Z", "invalid date, expected a two-digit day (DD)"),
-        ("1987-07-0517:45:00Z", "invalid date, expected a two-digit day (DD)"),
-        ("2006-01-01T00:00:61-00:00", "invalid time, expected second between 00 and 60"),
-        ("2023-10-01T1:32:00Z", "invalid time, expected a two-digit hour (HH)"),
-        ("1985-06-18 17:04:07+25:00", "invalid offset, expected hours between 00 and 23"),
-        ("1985-06-18 17:04:07+12:61", "invalid offset, expected minutes between 00 and 59"),
-        ("1985-06-18 17:04:07+12:6", "invalid offset, expected a two-digit minute (MM)"),
-        ("10000-01-01 00:00:00z", "invalid date, expected a four-digit year (YYYY)"),
+        (
+            "2100-02-29T15:15:15Z",
+            "invalid date, expected day between 01 and 28",
+        ),
+        (
+            "1988-02-30T15:15:15Z",
+            "invalid date, expected day between 01 and 29",
+        ),
+        (
+            "2006-01-01T24:00:00-00:00",
+            "invalid time, expected hour between 00 and 23",
+        ),
+        (
+            "2006-01-32T00:00:00-00:00",
+            "invalid date, expected day between 01 and 31",
+        ),
+        (
+            "2006-01-00T00:00:00-00:00",
+            "invalid date, expected day between 01 and 31",
+        ),
+        (
+            "2006-01-01T00:60:00-00:00",
+            "invalid time, expected minute between 00 and 59",
+        ),
+        (
+            "2006-13-01T00:00:00-00:00",
+            "invalid date, expected month between 01 and 12",
+        ),
+        (
+            "1987-7-05T17:45:00Z",
+            "invalid date, expected a two-digit month (MM)",
+        ),
+        (
+            "1987-07-5T17:45:00.12Z",
+            "invalid date, expected a two-digit day (DD)",
+        ),
+        (
+            "1987-07-0517:45:00Z",
+            "invalid date, expected a two-digit day (DD)",
+        ),
+        (
+            "2006-01-01T00:00:61-00:00",
+            "invalid time, expected second between 00 and 60",
+        ),
+        (
+            "2023-10-01T1:32:00Z",
+            "invalid time, expected a two-digit hour (HH)",
+        ),
+        (
+            "1985-06-18 17:04:07+25:00",
+            "invalid offset, expected hours between 00 and 23",
+        ),
+        (
+            "1985-06-18 17:04:07+12:61",
+            "invalid offset, expected minutes between 00 and 59",
+        ),
+        (
+            "1985-06-18 17:04:07+12:6",
+            "invalid offset, expected a two-digit minute (MM)",
+        ),
+        (
+            "10000-01-01 00:00:00z",
+            "invalid date, expected a four-digit year (YYYY)",
+        ),
         ("2006-01-30T", "invalid time, expected hour"),
-        ("199-09-09", "invalid date, expected a four-digit year (YYYY)"),
+        (
+            "199-09-09",
+            "invalid date, expected a four-digit year (YYYY)",
+        ),
         ("199709-09", "invalid date, expected `-` (MM-DD)"),
-        ("1997-09-0909", "invalid date, expected a two-digit day (DD)"),
+        (
+            "1997-09-0909",
+            "invalid date, expected a two-digit day (DD)",
+        ),
         ("1997-09-09T09:09:09.09+", "invalid offset, expected hour"),
-        ("1997-09-09T09:09:09.09+09:9", "invalid offset, expected a two-digit minute (MM)"),
+        (
+            "1997-09-09T09:09:09.09+09:9",
+            "invalid offset, expected a two-digit minute (MM)",
+        ),
         ("1997-09-09T09:09:09.", "invalid time, expected nanosecond"),
         ("1979-05-27  07:32", "invalid time, expected hour"),
         (" 1979-05-27", "invalid datetime, expected year or hour"),
-        ("\u{ff11}979-05-27", "invalid datetime, expected year or hour"),
-        ("1979\u{2010}05-27", "invalid datetime, expected `-` (YYYY-MM) or `:` (HH:MM)"),
+        (
+            "\u{ff11}979-05-27",
+            "invalid datetime, expected year or hour",
+        ),
+        (
+            "1979\u{2010}05-27",
+            "invalid datetime, expected `-` (YYYY-MM) or `:` (HH:MM)",
+        ),
         ("1979-05-\u{662}7", "invalid date, expected day"),
-        ("1979-05-27\u{a0}07:32", "invalid date-time, expected `T` between date and time"),
-        ("1979-05-27T07:32:00.\u{665}", "invalid time, expected nanosecond"),
-        ("1979-05-27T07:32\u{2212}07:00", "invalid offset, expected `Z`, +OFFSET, -OFFSET"),
+        (
+            "1979-05-27\u{a0}07:32",
+            "invalid date-time, expected `T` between date and time",
+        ),
+        (
+            "1979-05-27T07:32:00.\u{665}",
+            "invalid time, expected nanosecond",
+        ),
+        (
+            "1979-05-27T07:32\u{2212}07:00",
+            "invalid offset, expected `Z`, +OFFSET, -OFFSET",
+        ),
         ("07:32\u{e9}", "invalid datetime"),
     ] {
         match Datetime::from_str(text) {
@@ -231,9 +394,24 @@ fn values(rt: HostRuntime) -> Result<(), Fail> {
     for (text, second, nanosecond, offset) in [
         ("1979-05-27T07:32", None, None, None),
         ("1979-05-27 07:32:60", Some(60), None, None),
-        ("1979-05-27t07:32:00.9999999999Z", Some(0), Some(999_999_999), Some(Offset::Z)),
-        ("1979-05-27T07:32:09.5z", Some(9), Some(500_000_000), Some(Offset::Z)),
-        ("1979-05-27T07:32:00.12345678-00:00", Some(0), Some(123_456_780), custom(0)),
+        (
+            "1979-05-27t07:32:00.9999999999Z",
+            Some(0),
+            Some(999_999_999),
+            Some(Offset::Z),
+        ),
+        (
+            "1979-05-27T07:32:09.5z",
+            Some(9),
+            Some(500_000_000),
+            Some(Offset::Z),
+        ),
+        (
+            "1979-05-27T07:32:00.12345678-00:00",
+            Some(0),
+            Some(123_456_780),
+            custom(0),
+        ),
         ("1979-05-27T07:32-23:59", None, None, custom(-1439)),
         ("1979-05-27T07:32+07:30", None, None, custom(450)),
     ] {
@@ -304,7 +482,11 @@ fn texts_of_any_fields(rt: HostRuntime) -> Result<(), Fail> {
         let offset = Offset::Custom { minutes };
         assert_eq!(rt; format!(in rt.alloc(); "{offset}")?.as_str(), written);
     }
-    for (year, written) in [(0, "0000-00-255"), (99, "0099-00-255"), (65535, "65535-00-255")] {
+    for (year, written) in [
+        (0, "0000-00-255"),
+        (99, "0099-00-255"),
+        (65535, "65535-00-255"),
+    ] {
         let date = Date {
             year,
             month: 0,
@@ -333,7 +515,12 @@ fn texts_of_any_parts(rt: HostRuntime) -> Result<(), Fail> {
         (None, None, None, ""),
         (None, None, custom(i16::MIN), "-546:08"),
         (date, None, Some(Offset::Z), "65535-255-255Z"),
-        (date, time, custom(i16::MIN), "65535-255-255T255:255:255.4294967295-546:08"),
+        (
+            date,
+            time,
+            custom(i16::MIN),
+            "65535-255-255T255:255:255.4294967295-546:08",
+        ),
     ] {
         let value = Datetime { date, time, offset };
         assert_eq!(rt; value.text().as_str(), written);
@@ -382,6 +569,9 @@ fn very_many_digits(rt: HostRuntime) -> Result<(), Fail> {
     }
     digits.push_str("-05-27")?;
     let said = Datetime::from_str(digits.as_str()).err();
-    assert_eq!(rt; said.map(|error| (error.what(), error.expected())), Some((None, None)));
+    assert_eq!(rt;
+        said.map(|error| (error.what(), error.expected())),
+        Some((None, None))
+    );
     Ok(())
 }

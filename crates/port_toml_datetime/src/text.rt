@@ -4,8 +4,8 @@ ghost use Rattle.arrayvec.specs.ArrayString.{array_string_len};
 ghost use Rattle.scan_core.specs.Padded.{padded};
 ghost use Rattle.port_toml_datetime.specs.Texts.{date_text, delimiter_text, fraction_text, minutes_text, offset_text, part_text, second_text, signed_text, text_of, time_text};
 
-use crate::{Date, Datetime, Offset, Time};
 use crate::number_text::{push_four, push_fraction, push_two};
+use crate::{Date, Datetime, Offset, Time};
 use scan_core::{Short, push_text};
 
 /// `YYYY-MM-DD`.

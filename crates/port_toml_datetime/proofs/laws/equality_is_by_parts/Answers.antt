@@ -17,7 +17,7 @@ parts_are a b = (λ h. same a.date b.date a.time b.time a.offset b.offset h.0 h.
 pub returns-clause-datetimes : goal.returns-clause-datetimes
 returns-clause-datetimes c a b =
     three_are _ _ _
-      (option_is _ (λ (x y : Date). search rules) a.date b.date)
-      (option_is _ (λ (x y : Time). search rules) a.time b.time)
-      (option_is _ (λ (x y : Offset). search rules) a.offset b.offset)
-      (parts_are a b)
+    (option_is _ (λ (x y : Date). search rules) a.date b.date)
+    (option_is _ (λ (x y : Time). search rules) a.time b.time)
+    (option_is _ (λ (x y : Offset). search rules) a.offset b.offset)
+    (parts_are a b)
