@@ -1,5 +1,5 @@
 -- Marks in front of a text.
-use Rattle.std.proofs.Common.{◌≡◌, ℕ, ◌||◌, ◌==◌, ◌⊎◌, Bool, true, false, cond, List, [], ◌∷◌, refl, sym, ◌∙◌, arith, inl, inr}
+use Rattle.std.proofs.Common.{◌≡◌, ℕ, ◌||◌, ◌==◌, ◌⊎◌, Bool, true, false, cond, List, [], ◌∷◌, codes, refl, sym, ◌∙◌, arith, inl, inr}
 use Rattle.std.specs.Char.{is_ascii_digit}
 use Rattle.std.proofs.lemmas.Bool.Decides.{nat_tests}
 use Rattle.scan_core.specs.Fronts.{front_digits}
@@ -46,3 +46,21 @@ either_sound m n (b ∷ bs) d k e l h =
 pub end_sound : (text : List ℕ) → is_end text ≡ true → text ≡ []
 end_sound [] h = refl
 end_sound (b ∷ bs) h = absurd (let no : false ≡ true = h in cc)
+
+delimiter_is : (b : ℕ) → is_one_of (codes "Tt ") b ≡ true → (b ≡ 84) ⊎ ((b ≡ 116) ⊎ (b ≡ 32))
+delimiter_is b h = grind (arith, nat_tests)
+
+pub record IsMarkFirst (marks text rest : List ℕ) : Type 0 where
+  pub is : is_of marks (first_token text) ≡ true
+  pub follows : after_token text ≡ rest
+
+pub delimiter_first : (b : ℕ) (bs : List ℕ) → is_one_of (codes "Tt ") b ≡ true → IsMarkFirst (codes "Tt ") (b ∷ bs) bs
+delimiter_first b bs h =
+    elim (delimiter_is b h) [
+      | inl upper ↦ rw upper (record { is = refl; follows = refl })
+      | inr (inl lower) ↦ rw lower (record { is = refl; follows = refl })
+      | inr (inr space) ↦ rw space (record { is = refl; follows = refl })
+    ]
+
+pub no_delimiter_first : (b : ℕ) (bs : List ℕ) → is_one_of (codes "Tt ") b ≡ false → is_of (codes "Tt ") (first_token (b ∷ bs)) ≡ false
+no_delimiter_first b bs h = of_first (codes "Tt ") b bs ∙ h

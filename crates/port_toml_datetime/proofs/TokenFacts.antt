@@ -1,5 +1,5 @@
 -- Tokens in front of a text: digits, marks, and what follows them.
-use Rattle.std.proofs.Common.{◌≡◌, ℕ, ◌<◌, Bool, true, false, cond, List, [], ◌∷◌, ◌++◌, length, refl, sym, ◌∙◌, ap, arith}
+use Rattle.std.proofs.Common.{◌≡◌, ℕ, ◌<◌, ◌==◌, Bool, true, false, cond, List, [], ◌∷◌, ◌++◌, length, refl, sym, ◌∙◌, ap, arith}
 use Rattle.std.specs.Char.{is_ascii_digit, digit_value}
 use Rattle.std.proofs.lemmas.Bool.Decides.{nat_tests}
 use Rattle.std.proofs.lemmas.Str.Parse.{digit_from_value}
@@ -43,3 +43,40 @@ run_if false false b bs e h = absurd (let no : false ≡ true = sym e ∙ h in c
 pub run_sound : (text : List ℕ) → is_digits (first_token text) ≡ true → IsFront text
 run_sound [] h = absurd (let no : false ≡ true = h in cc)
 run_sound (b ∷ bs) h = let r = run_if (is_ascii_digit b) (is_mark b) b bs refl h in record { some = r.0; digits = r.1; joined = r.2 }
+
+-- ---- digits at the front are looked for first
+
+pub record IsFrontToken (text : List ℕ) : Type 0 where
+  pub is : is_digits (first_token text) ≡ true
+  pub first : front_digits text ≡ first_token text
+  pub follows : after_digits text ≡ after_token text
+
+front_if : (t m : Bool) (b : ℕ) (bs : List ℕ) → is_ascii_digit b ≡ t → 0 < length (cond {A = List ℕ} t (b ∷ front_digits bs) []) → IsFrontToken (b ∷ bs)
+front_if true m b bs e some = record { is = rw (e, e) refl; first = rw e refl; follows = rw e refl }
+front_if false m b bs e some = absurd (omega (arith, some))
+
+front_token : (text : List ℕ) → 0 < length (front_digits text) → IsFrontToken text
+front_token [] some = absurd (omega (arith, some))
+front_token (b ∷ bs) some = front_if (is_ascii_digit b) (is_mark b) b bs refl some
+
+none_if : (t m : Bool) (b : ℕ) (bs : List ℕ) → is_ascii_digit b ≡ t → length (cond {A = List ℕ} t (b ∷ front_digits bs) []) ≡ 0
+    → is_digits (cond {A = List ℕ} t (b ∷ front_digits bs) (cond m (b ∷ []) (b ∷ bs))) ≡ false
+none_if true m b bs e none = absurd (omega (arith, none))
+none_if false true b bs e none = e
+none_if false false b bs e none = e
+
+no_front_token : (text : List ℕ) → length (front_digits text) ≡ 0 → is_digits (first_token text) ≡ false
+no_front_token [] none = refl
+no_front_token (b ∷ bs) none = none_if (is_ascii_digit b) (is_mark b) b bs refl none
+
+some_are : (n : ℕ) (t : Bool) → t ≡ (n == 0) → t ≡ false → 0 < n
+some_are n t e f = let g : (n == 0) ≡ false = sym e ∙ f in grind (arith, nat_tests)
+
+none_are : (n : ℕ) (t : Bool) → t ≡ (n == 0) → t ≡ true → n ≡ 0
+none_are n t e f = let g : (n == 0) ≡ true = sym e ∙ f in grind (arith, nat_tests)
+
+pub token_found : (text found : List ℕ) (empty : Bool) → found ≡ front_digits text → empty ≡ (length found == 0) → empty ≡ false → IsFrontToken text
+token_found text found empty front e f = front_token text (rw front at (some_are (length found) empty e f))
+
+pub no_token_found : (text found : List ℕ) (empty : Bool) → found ≡ front_digits text → empty ≡ (length found == 0) → empty ≡ true → is_digits (first_token text) ≡ false
+no_token_found text found empty front e f = no_front_token text (rw front at (none_are (length found) empty e f))

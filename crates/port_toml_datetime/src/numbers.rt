@@ -1,5 +1,5 @@
 //! Numbers that runs of digits write.
-ghost use Rattle.std.specs.Prelude.{◌≡◌, ◌+◌, ◌<◌, length, get_or};
+ghost use Rattle.std.specs.Prelude.{◌≡◌, ◌≤◌, ◌^◌, length};
 ghost use Rattle.scan_core.specs.Digits.{AreDigits, number_of};
 ghost use Rattle.port_toml_datetime.specs.Times.{nanoseconds};
 
@@ -32,16 +32,35 @@ pub(crate) fn four_digits(digits: &[u8]) -> u16
     }
 }
 
-/// The digit at this place of a fraction: 0 behind its end.
-fn digit_at(digits: &[u8], place: usize) -> u32
-    requires { AreDigits digits.now }
-    ensures value { result + 48 ≡ get_or digits.now place 48 }
-    ensures digit { result < 10 }
+/// The number that at most nine digits write.
+fn number(digits: &[u8]) -> u32
+    requires digits { AreDigits digits.now }
+    requires nine { length digits.now ≤ 9 }
+    ensures { result ≡ number_of digits.now }
 {
-    if place < digits.len() {
-        u32::from(digits[place] - b'0')
-    } else {
-        0
+    let mut value = 0;
+    for digit in digits {
+        value = 10 * value + u32::from(*digit - b'0');
+    }
+    value
+}
+
+/// A power of ten: `10 ^ places`.
+fn scale(places: usize) -> u32
+    requires { places ≤ 9 }
+    ensures { result ≡ 10 ^ places }
+{
+    match places {
+        0 => 1,
+        1 => 10,
+        2 => 100,
+        3 => 1_000,
+        4 => 10_000,
+        5 => 100_000,
+        6 => 1_000_000,
+        7 => 10_000_000,
+        8 => 100_000_000,
+        _ => 1_000_000_000,
     }
 }
 
@@ -51,10 +70,6 @@ pub(crate) fn nanoseconds(digits: &[u8]) -> u32
     requires { AreDigits digits.now }
     ensures { result ≡ nanoseconds digits.now }
 {
-    let mut value = 0;
-    for place in 0..9 {
-        let digit = digit_at(digits, place);
-        value = 10 * value + digit;
-    }
-    value
+    let len = digits.len().min(9);
+    number(&digits[..len]) * scale(9 - len)
 }

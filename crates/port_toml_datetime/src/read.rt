@@ -1,8 +1,9 @@
 //! The whole text. The checks stand in the order of the table.
-ghost use Rattle.std.specs.Prelude.{◌≡◌, Some, None, IfOk, IfErr};
+ghost use Rattle.std.specs.Prelude.{◌≡◌, Some, None, IfOk, IfErr, codes};
 ghost use Rattle.scan_core.specs.Digits.{AreDigits};
 ghost use Rattle.port_toml_datetime.specs.Datetimes.{datetime_of};
 ghost use Rattle.port_toml_datetime.specs.Faults.{fault_of};
+ghost use Rattle.port_toml_datetime.specs.Tokens.{is_one_of};
 ghost use Rattle.port_toml_datetime.specs.Checks.{after_date, checks, dated_rows, first_failing, full_time_rows, local_time_rows, tail_rows};
 ghost use Rattle.port_toml_datetime.specs.inside.Values.{date_of, date_time_of, tail_of, time_of, value_of};
 
@@ -31,8 +32,14 @@ fn read_full_time(date: Date, bytes: &[u8]) -> Result<Datetime, DatetimeParseErr
     })
 }
 
+fn is_delimiter(byte: u8) -> bool
+    ensures { result ≡ is_one_of (codes "Tt ") byte }
+{
+    byte == b'T' || byte == b't' || byte == b' '
+}
+
 /// Behind a date: the end, or a delimiter and a time.
-#[tactic(auto, unfolding(crate::specs::Checks::tail_rows, crate::specs::inside::Values::tail_of))]
+#[tactic(auto, using(crate::proofs::Marks::delimiter_first, crate::proofs::Marks::no_delimiter_first), unfolding(crate::specs::Checks::tail_rows, crate::specs::inside::Values::tail_of))]
 fn read_tail(date: Date, bytes: &[u8]) -> Result<Datetime, DatetimeParseError>
     ensures pass { IfOk result (λ r. first_failing (tail_rows bytes.now) ≡ None) }
     ensures value { IfOk result (λ r. r ≡ tail_of date bytes.now) }
@@ -44,9 +51,7 @@ fn read_tail(date: Date, bytes: &[u8]) -> Result<Datetime, DatetimeParseError>
             time: None,
             offset: None,
         }),
-        [b'T', rest @ ..] => read_full_time(date, rest),
-        [b't', rest @ ..] => read_full_time(date, rest),
-        [b' ', rest @ ..] => read_full_time(date, rest),
+        [byte, rest @ ..] if is_delimiter(*byte) => read_full_time(date, rest),
         _ => Err(DatetimeParseError::new(Check::Delimiter)),
     }
 }

@@ -17,10 +17,11 @@ pub(crate) fn digits(bytes: &[u8], asked: Check) -> Result<(&[u8], &[u8]), Datet
     ensures isnt { IfErr result (λ e. is_digits (first_token bytes.now) ≡ false) }
     ensures err { IfErr result (λ e. fault_of e ≡ words_of asked) }
 {
-    match bytes {
-        [b'0'..=b'9', ..] => Ok(split_digits(bytes)),
-        _ => Err(DatetimeParseError::new(asked)),
+    let (front, rest) = split_digits(bytes);
+    if front.is_empty() {
+        return Err(DatetimeParseError::new(asked));
     }
+    Ok((front, rest))
 }
 
 /// What follows the mark in front, or the error where it isn't there.
