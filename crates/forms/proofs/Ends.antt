@@ -2,11 +2,11 @@
 use Rattle.std.proofs.Common.{◌≡◌, ◌⊎◌, ℕ, ◌+◌, ◌-◌, ◌^◌, ◌<◌, ◌≤◌, List, [], ◌++◌, length, take, drop, Option, Some, None, IfSome, refl, sym, ◌∙◌, ap, subst, inl, inr, ⊎_elim, append_assoc, append-nil, arith}
 use Rattle.std.proofs.KnownBytes.{Appends-nil, Consumes-whole, Consumes-nil}
 use Rattle.std.proofs.lemmas.List.{take-append-drop, length-append}
-use Rattle.std.specs.Io.KnownBytes.{Appends, Consumes, IsAtEnd}
+use Rattle.std.specs.Io.KnownBytes.{Consumes}
 use Rattle.forms.specs.Lines.{lines, whole_lines}
 use Rattle.forms.specs.Outside.{Rose}
 use Rattle.forms.specs.Replies.{AreReplies}
-use Rattle.forms.specs.Ends.{GainsReplies, GainsFront, Streams, Ended, EndedWith, EndsByLength, status_of}
+use Rattle.forms.specs.Ends.{GainsReplies, GainsFront, Streams, Ended, EndsByLength, status_of}
 use Rattle.forms.specs.declared.run_end.RunEnd.{RunEnd}
 use Rattle.forms.specs.declared.run_end.RunEnd.TheVariants.{Done, ReadFault, WriteFault, TooLong, NoMemory}
 use Rattle.forms.proofs.LinePieces.{lines_begin}
@@ -17,7 +17,7 @@ still_count count below rose = omega arith
 -- a run that found no memory
 pub ends-nowhere : (limit : ℕ) (s : Streams) → Ended limit s s NoMemory
 ends-nowhere limit s = record {
-  took = record { given = []; bytes = Consumes-nil s.left; count = λ below. omega arith; bound = omega arith };
+  gave = record { given = []; bytes = Consumes-nil s.left; count = λ below. omega arith; bound = omega arith };
   stands = (refl, refl);
   reads_later = omega arith;
   writes_later = omega arith;
@@ -36,16 +36,17 @@ all_front xs a b h = (h.0, record { answered = xs; others = []; back = []; split
 
 longer_front : (xs ys all : List (List ℕ)) (a b : Option (List ℕ)) → all ≡ xs ++ ys → GainsFront xs a b → GainsFront all a b
 longer_front xs ys all a b same h =
-    let f = h.1 in
-    (h.0,
-    record {
-      answered = f.answered;
-      others = f.others ++ ys;
-      back = f.back;
-      split = same ∙ (ap (λ (l : List (List ℕ)). l ++ ys) f.split ∙ append_assoc f.answered f.others ys);
-      replies = f.replies;
-    },
-    h.2)
+    let f = h.1 in (
+      h.0,
+      record {
+        answered = f.answered;
+        others = f.others ++ ys;
+        back = f.back;
+        split = same ∙ (ap (λ (l : List (List ℕ)). l ++ ys) f.split ∙ append_assoc f.answered f.others ys);
+        replies = f.replies;
+      },
+      h.2,
+    )
 
 no_front : (xs : List (List ℕ)) (a : Option (List ℕ)) → GainsFront xs a a
 no_front xs a = ([], record { answered = []; others = xs; back = []; split = refl; replies = refl }, Appends-nil a)
@@ -63,45 +64,45 @@ whole_front given rest a b h =
     let begin = lines_begin given rest in
     longer_front (whole_lines given) begin.0 (lines (given ++ rest)) a b begin.1 h
 
-pub front_at_every_end : (limit : ℕ) (old new : Streams) (end : RunEnd) → Ended limit old new end → IfSome old.left (λ bytes. GainsFront (lines bytes) old.held new.held)
-front_at_every_end limit old new Done h =
-    Consumes-whole old.left new.left h.took.given (λ bytes. GainsFront (lines bytes) old.held new.held) h.took.bytes h.stands.0 (all_front (lines h.took.given) old.held new.held h.stands.2)
-front_at_every_end limit old new ReadFault h =
-    if_taken old.left new.left h.took.given (λ bytes. GainsFront (lines bytes) old.held new.held) h.took.bytes
-    (λ rest. whole_front h.took.given rest old.held new.held (all_front (whole_lines h.took.given) old.held new.held h.stands.2))
-front_at_every_end limit old new WriteFault h =
+pub each_end_leaves_a_front : (limit : ℕ) (old new : Streams) (end : RunEnd) → Ended limit old new end → IfSome old.left (λ bytes. GainsFront (lines bytes) old.held new.held)
+each_end_leaves_a_front limit old new Done h =
+    Consumes-whole old.left new.left h.gave.given (λ bytes. GainsFront (lines bytes) old.held new.held) h.gave.bytes h.stands.0 (all_front (lines h.gave.given) old.held new.held h.stands.2)
+each_end_leaves_a_front limit old new ReadFault h =
+    if_taken old.left new.left h.gave.given (λ bytes. GainsFront (lines bytes) old.held new.held) h.gave.bytes
+    (λ rest. whole_front h.gave.given rest old.held new.held (all_front (whole_lines h.gave.given) old.held new.held h.stands.2))
+each_end_leaves_a_front limit old new WriteFault h =
     ⊎_elim
-    (λ front. if_taken old.left new.left h.took.given (λ bytes. GainsFront (lines bytes) old.held new.held) h.took.bytes
-    (λ rest. cut_front limit h.took.given rest old.held new.held front))
-    (λ last. Consumes-whole old.left new.left h.took.given (λ bytes. GainsFront (lines bytes) old.held new.held) h.took.bytes last.0 last.2)
+    (λ front. if_taken old.left new.left h.gave.given (λ bytes. GainsFront (lines bytes) old.held new.held) h.gave.bytes
+    (λ rest. cut_front limit h.gave.given rest old.held new.held front))
+    (λ last. Consumes-whole old.left new.left h.gave.given (λ bytes. GainsFront (lines bytes) old.held new.held) h.gave.bytes last.0 last.2)
     h.stands.1
-front_at_every_end limit old new TooLong h =
-    if_taken old.left new.left h.took.given (λ bytes. GainsFront (lines bytes) old.held new.held) h.took.bytes
-    (λ rest. cut_front limit h.took.given rest old.held new.held (all_front (whole_lines (take limit h.took.given)) old.held new.held h.stands.1))
-front_at_every_end limit old new NoMemory h =
-    if_taken old.left new.left h.took.given (λ bytes. GainsFront (lines bytes) old.held new.held) h.took.bytes
-    (λ rest. subst (λ (s : Streams). GainsFront (lines (h.took.given ++ rest)) old.held s.held) (sym h.stands.1) (no_front (lines (h.took.given ++ rest)) old.held))
+each_end_leaves_a_front limit old new TooLong h =
+    if_taken old.left new.left h.gave.given (λ bytes. GainsFront (lines bytes) old.held new.held) h.gave.bytes
+    (λ rest. cut_front limit h.gave.given rest old.held new.held (all_front (whole_lines (take limit h.gave.given)) old.held new.held h.stands.1))
+each_end_leaves_a_front limit old new NoMemory h =
+    if_taken old.left new.left h.gave.given (λ bytes. GainsFront (lines bytes) old.held new.held) h.gave.bytes
+    (λ rest. subst (λ (s : Streams). GainsFront (lines (h.gave.given ++ rest)) old.held s.held) (sym h.stands.1) (no_front (lines (h.gave.given ++ rest)) old.held))
 
 -- ---- what decides the end
 
-pub length_decides_end : (limit : ℕ) (old new : Streams) (end : RunEnd) → Ended limit old new end → (Rose old.read_faults new.read_faults → ⊥) → (Rose old.write_faults new.write_faults → ⊥) → EndsByLength limit old.left end
-length_decides_end limit old new Done h read write =
-    Consumes-whole old.left new.left h.took.given _ h.took.bytes h.stands.0 (λ short. inl refl, λ long. absurd (omega (arith, h.stands.1)))
-length_decides_end limit old new ReadFault h read write = absurd (read h.stands.0)
-length_decides_end limit old new WriteFault h read write = absurd (write h.stands.0)
-length_decides_end limit old new TooLong h read write =
-    if_taken old.left new.left h.took.given _ h.took.bytes
-    (λ rest. (λ short. absurd (let all = length-append h.took.given rest in omega (arith, h.stands.0)), λ long. inl refl))
-length_decides_end limit old new NoMemory h read write =
-    if_taken old.left new.left h.took.given _ h.took.bytes (λ rest. (λ short. inr refl, λ long. inr refl))
+pub length_decides_the_end : (limit : ℕ) (old new : Streams) (end : RunEnd) → Ended limit old new end → (Rose old.read_faults new.read_faults → ⊥) → (Rose old.write_faults new.write_faults → ⊥) → EndsByLength limit old.left end
+length_decides_the_end limit old new Done h read write =
+    Consumes-whole old.left new.left h.gave.given _ h.gave.bytes h.stands.0 (λ short. inl refl, λ long. absurd (omega (arith, h.stands.1)))
+length_decides_the_end limit old new ReadFault h read write = absurd (read h.stands.0)
+length_decides_the_end limit old new WriteFault h read write = absurd (write h.stands.0)
+length_decides_the_end limit old new TooLong h read write =
+    if_taken old.left new.left h.gave.given _ h.gave.bytes
+    (λ rest. (λ short. absurd (let all = length-append h.gave.given rest in omega (arith, h.stands.0)), λ long. inl refl))
+length_decides_the_end limit old new NoMemory h read write =
+    if_taken old.left new.left h.gave.given _ h.gave.bytes (λ rest. (λ short. inr refl, λ long. inr refl))
 
-pub count_decides_too_long : (limit : ℕ) (old new : Streams) (end : RunEnd) → Ended limit old new end → old.taken < 2 ^ 63
+pub too_long_is_past_the_limit : (limit : ℕ) (old new : Streams) (end : RunEnd) → Ended limit old new end → old.taken < 2 ^ 63
     → (end ≡ TooLong → old.taken + limit < new.taken) × (old.taken + limit < new.taken → (end ≡ TooLong) ⊎ ((end ≡ WriteFault) × Rose old.write_faults new.write_faults))
-count_decides_too_long limit old new Done h below = (λ is. absurd cc, λ more. absurd (let count = h.took.count below in omega (arith, h.stands.1)))
-count_decides_too_long limit old new ReadFault h below = (λ is. absurd cc, λ more. absurd (let count = h.took.count below in omega (arith, h.stands.1)))
-count_decides_too_long limit old new WriteFault h below = (λ is. absurd cc, λ more. inr (refl, h.stands.0))
-count_decides_too_long limit old new TooLong h below = (λ is. let count = h.took.count below in omega (arith, h.stands.0), λ more. inl refl)
-count_decides_too_long limit old new NoMemory h below = (λ is. absurd cc, λ more. absurd (let none = ap length h.stands.0 in let count = h.took.count below in omega arith))
+too_long_is_past_the_limit limit old new Done h below = (λ is. absurd cc, λ more. absurd (let count = h.gave.count below in omega (arith, h.stands.1)))
+too_long_is_past_the_limit limit old new ReadFault h below = (λ is. absurd cc, λ more. absurd (let count = h.gave.count below in omega (arith, h.stands.1)))
+too_long_is_past_the_limit limit old new WriteFault h below = (λ is. absurd cc, λ more. inr (refl, h.stands.0))
+too_long_is_past_the_limit limit old new TooLong h below = (λ is. let count = h.gave.count below in omega (arith, h.stands.0), λ more. inl refl)
+too_long_is_past_the_limit limit old new NoMemory h below = (λ is. absurd cc, λ more. absurd (let none = ap length h.stands.0 in let count = h.gave.count below in omega arith))
 
 -- ---- the same by the status
 

@@ -1,5 +1,5 @@
 -- What a search for a line feed finds.
-use Rattle.std.proofs.Common.{◌≡◌, ℕ, zero, suc, ◌+◌, ◌<◌, ◌≤◌, ◌==◌, Bool, true, false, List, [], ◌∷◌, ◌++◌, length, take, drop, codes, slice_index, refl, ap, arith, add-one, eqb-true}
+use Rattle.std.proofs.Common.{◌≡◌, ℕ, zero, suc, ◌<◌, ◌≤◌, ◌==◌, Bool, true, false, List, [], ◌∷◌, ◌++◌, length, take, drop, codes, refl, ap, arith, eqb-true}
 use Rattle.memchr.specs.Find.{Nowhere, Passes, is_byte}
 use Rattle.forms.specs.inside.Pieces.{NoFeed}
 
@@ -12,8 +12,8 @@ pub no_feed_before : (bytes : List ℕ) (n : ℕ) → n ≤ length bytes → Now
 no_feed_before bytes zero fits nowhere = tt
 no_feed_before [] (suc n) fits nowhere = tt
 no_feed_before (byte ∷ bytes) (suc n) fits nowhere = (
-    not_true (byte == 10) (nowhere 0 (omega arith) (omega arith)),
-    no_feed_before bytes n (omega arith) (λ k low high. nowhere (suc k) (omega arith) (omega arith)),
+  not_true (byte == 10) (nowhere 0 (omega arith) (omega arith)),
+  no_feed_before bytes n (omega arith) (λ k low high. nowhere (suc k) (omega arith) (omega arith)),
 )
 
 -- at a line feed the bytes are what stands before it, the line feed and what follows

@@ -1,16 +1,16 @@
 -- A run over pieces: what it took, what it answered, and how it ends.
-use Rattle.std.proofs.Common.{◌≡◌, ℕ, ◌+◌, ◌-◌, ◌^◌, ◌<◌, ◌≤◌, List, [], ◌∷◌, ◌++◌, min, length, take, drop, Option, refl, sym, ◌∙◌, ap, subst, inl, inr, append_assoc, append-nil, arith}
+use Rattle.std.proofs.Common.{◌≡◌, ℕ, ◌+◌, ◌-◌, ◌^◌, ◌<◌, ◌≤◌, List, [], ◌++◌, min, length, take, Option, refl, sym, ◌∙◌, ap, subst, inl, inr, append_assoc, append-nil, arith}
 use Rattle.std.proofs.KnownBytes.{Appends-nil, Appends-trans, Consumes-trans, Consumes-nil}
 use Rattle.std.proofs.Math.Seq.{take-append-add}
 use Rattle.std.proofs.lemmas.List.{take_all, take_min, take-take, take-append-le, length-append, length-take-le}
 use Rattle.std.specs.Io.KnownBytes.{Consumes, IsAtEnd}
 use Rattle.scan_core.proofs.Joins.{IsJoin-append}
 use Rattle.forms.specs.Lines.{lines, whole_lines}
-use Rattle.forms.specs.Outside.{Rose, Takes}
+use Rattle.forms.specs.Outside.{Rose, Gives}
 use Rattle.forms.specs.Replies.{IsReplyLine, AreReplies}
 use Rattle.forms.specs.Ends.{GainsReplies, GainsFront, Streams, Ended}
 use Rattle.forms.specs.declared.run_end.RunEnd.TheVariants.{Done, ReadFault, WriteFault, TooLong}
-use Rattle.forms.specs.inside.Pieces.{NoFeed, IsEnded, Answers}
+use Rattle.forms.specs.inside.Pieces.{IsEnded, Answers}
 use Rattle.forms.proofs.LinePieces.{lines_behind, whole_lines_behind, part_not_whole}
 
 -- ---- replies behind replies
@@ -20,16 +20,17 @@ gains-more xs ys a b c h k = (h.0 ++ k.0, IsJoin-append IsReplyLine h.0 k.0 xs y
 
 pub gains-front : (xs ys : List (List ℕ)) (a b c : Option (List ℕ)) → GainsReplies xs a b → GainsFront ys b c → GainsFront (xs ++ ys) a c
 gains-front xs ys a b c h k =
-    let f = k.1 in
-    (h.0 ++ k.0,
-    record {
-      answered = xs ++ f.answered;
-      others = f.others;
-      back = f.back;
-      split = ap (λ (l : List (List ℕ)). xs ++ l) f.split ∙ sym (append_assoc xs f.answered f.others);
-      replies = subst (AreReplies (xs ++ f.answered)) (sym (append_assoc h.0 k.0 f.back)) (IsJoin-append IsReplyLine h.0 (k.0 ++ f.back) xs f.answered h.1 f.replies);
-    },
-    Appends-trans a b c h.0 k.0 h.2 k.2)
+    let f = k.1 in (
+      h.0 ++ k.0,
+      record {
+        answered = xs ++ f.answered;
+        others = f.others;
+        back = f.back;
+        split = ap (λ (l : List (List ℕ)). xs ++ l) f.split ∙ sym (append_assoc xs f.answered f.others);
+        replies = subst (AreReplies (xs ++ f.answered)) (sym (append_assoc h.0 k.0 f.back)) (IsJoin-append IsReplyLine h.0 (k.0 ++ f.back) xs f.answered h.1 f.replies);
+      },
+      Appends-trans a b c h.0 k.0 h.2 k.2,
+    )
 
 -- ---- what was answered of the bytes so far
 
@@ -170,7 +171,7 @@ running-answered limit room old new held write_faults kept piece after h answers
 -- ---- the ends of a run
 
 -- what a run took
-abbrev taken_so : (limit room : ℕ) (old new : Streams) (kept piece : List ℕ) → IsRunning limit room old new kept piece → Takes old.left new.left old.taken new.taken (limit + 1)
+abbrev taken_so : (limit room : ℕ) (old new : Streams) (kept piece : List ℕ) → IsRunning limit room old new kept piece → Gives old.left new.left old.taken new.taken (limit + 1)
 taken_so limit room old new kept piece h = record { given = h.given; bytes = h.bytes; count = h.count; bound = omega (arith, h.len) }
 
 -- a read failed
@@ -179,7 +180,7 @@ ends-unread limit room old new kept h some rose =
     let whole = answers-whole h.seen kept old.held new.held h.answers in
     let all = all_seen limit room old new kept h some in
     record {
-      took = taken_so limit room old new kept [] h;
+      gave = taken_so limit room old new kept [] h;
       stands = (rose, omega (arith, h.len), subst (λ (l : List ℕ). GainsReplies (whole_lines l) old.held new.held) (sym all) whole);
       reads_later = h.reads_later;
       writes_later = h.writes_later;
@@ -192,7 +193,7 @@ ends-done limit room old new held write_faults kept h some end last later =
     let whole = answers-last h.seen kept old.held new.held held h.answers last in
     let all = all_seen limit room old new kept h some in
     record {
-      took = taken_so limit room old new kept [] h;
+      gave = taken_so limit room old new kept [] h;
       stands = (end, omega (arith, h.len), subst (λ (l : List ℕ). GainsReplies (lines l) old.held held) (sym all) whole);
       reads_later = h.reads_later;
       writes_later = omega (arith, h.writes_later);
@@ -205,7 +206,7 @@ ends-last_unwritten limit room old new held write_faults kept h some end last ro
     let front = answers-last_front h.seen kept old.held new.held held h.answers last in
     let all = all_seen limit room old new kept h some in
     record {
-      took = taken_so limit room old new kept [] h;
+      gave = taken_so limit room old new kept [] h;
       stands = (omega (arith, h.writes_later), inr (end, omega (arith, h.len), subst (λ (l : List ℕ). GainsFront (lines l) old.held held) (sym all) front));
       reads_later = h.reads_later;
       writes_later = omega (arith, h.writes_later);
@@ -217,7 +218,7 @@ pub ends-unwritten : (limit room : ℕ) (old new : Streams) (held : Option (List
 ends-unwritten limit room old new held write_faults kept piece h more rose later =
     let front = answers-front h.seen kept piece old.held new.held held h.answers more in
     record {
-      took = taken_so limit room old new kept piece h;
+      gave = taken_so limit room old new kept piece h;
       stands = (omega (arith, h.writes_later), inl (subst (λ (l : List ℕ). GainsFront (whole_lines l) old.held held) (sym h.within) front));
       reads_later = h.reads_later;
       writes_later = omega (arith, h.writes_later);
@@ -229,7 +230,7 @@ ends-long limit room old new kept h none =
     let whole = answers-whole h.seen kept old.held new.held h.answers in
     let all : take limit h.given ≡ h.seen = h.within ∙ append-nil h.seen in
     record {
-      took = taken_so limit room old new kept [] h;
+      gave = taken_so limit room old new kept [] h;
       stands = (omega (arith, h.len), subst (λ (l : List ℕ). GainsReplies (whole_lines l) old.held new.held) (sym all) whole);
       reads_later = h.reads_later;
       writes_later = h.writes_later;

@@ -2,7 +2,7 @@
 use Rattle.std.specs.Prelude.{◌≡◌, ◌⊎◌, ℕ, ◌+◌, ◌<◌, ◌≤◌, List, [], length, take, Option, IfSome}
 use Rattle.std.specs.Io.KnownBytes.{Appends, IsAtEnd}
 use Rattle.forms.specs.Lines.{lines, whole_lines}
-use Rattle.forms.specs.Outside.{Rose, Takes}
+use Rattle.forms.specs.Outside.{Rose, Gives}
 use Rattle.forms.specs.Replies.{AreReplies, IsFrontOfReplies}
 use Rattle.forms.specs.declared.run_end.RunEnd.{RunEnd}
 use Rattle.forms.specs.declared.run_end.RunEnd.TheVariants.{Done, ReadFault, WriteFault, TooLong, NoMemory}
@@ -24,10 +24,15 @@ pub record Streams : Type 0 where
   pub held : Option (List ℕ)
   pub write_faults : ℕ
 
--- the same from its parts
-abbrev pub streams : Option (List ℕ) → ℕ → ℕ → Option (List ℕ) → ℕ → Streams
-streams left taken read_faults held write_faults =
-    record { left = left; taken = taken; read_faults = read_faults; held = held; write_faults = write_faults }
+-- the same of a source and a sink, by what their traits tell
+abbrev pub streams : {S K : Type 0} → (S → Option (List ℕ)) → (S → ℕ) → (S → ℕ) → (K → Option (List ℕ)) → (K → ℕ) → S → K → Streams
+streams left taken read_faults held write_faults source sink = record {
+  left = left source;
+  taken = taken source;
+  read_faults = read_faults source;
+  held = held sink;
+  write_faults = write_faults sink;
+}
 
 -- What stands at each end, by the bytes that the run took.
 --   Done        the end came within the limit, and each line has its reply
@@ -39,7 +44,9 @@ abbrev pub Stands : ℕ → List ℕ → Streams → Streams → RunEnd → Type
 Stands limit given old new Done =
     IsAtEnd new.left × (length given ≤ limit) × GainsReplies (lines given) old.held new.held
 Stands limit given old new ReadFault =
-    Rose old.read_faults new.read_faults × (length given ≤ limit) × GainsReplies (whole_lines given) old.held new.held
+    Rose old.read_faults new.read_faults
+    × (length given ≤ limit)
+    × GainsReplies (whole_lines given) old.held new.held
 Stands limit given old new WriteFault =
     Rose old.write_faults new.write_faults
     × (GainsFront (whole_lines (take limit given)) old.held new.held
@@ -51,8 +58,8 @@ Stands limit given old new NoMemory = (given ≡ []) × (new ≡ old)
 -- a run within a limit ended so: it took some bytes, one more than the limit at most, no count of faults fell, and
 -- this stands
 pub record Ended (limit : ℕ) (old new : Streams) (end : RunEnd) : Type 0 where
-  pub took : Takes old.left new.left old.taken new.taken (limit + 1)
-  pub stands : Stands limit took.given old new end
+  pub gave : Gives old.left new.left old.taken new.taken (limit + 1)
+  pub stands : Stands limit gave.given old new end
   pub reads_later : old.read_faults ≤ new.read_faults
   pub writes_later : old.write_faults ≤ new.write_faults
 
@@ -68,8 +75,10 @@ status_of NoMemory = 6
 abbrev pub EndedWith : ℕ → Streams → Streams → ℕ → Type 0
 EndedWith limit old new status = (end : RunEnd) × Ended limit old new end × (status ≡ status_of end)
 
--- what the length of the input decides: within the limit the run is done, beyond it the input is too long, if there is memory
+-- what the length of the input decides: within the limit the run is done, beyond it the input is too long, if there
+-- is memory
 abbrev pub EndsByLength : ℕ → Option (List ℕ) → RunEnd → Type 0
 EndsByLength limit left end =
     IfSome left (λ bytes.
-    (length bytes ≤ limit → (end ≡ Done) ⊎ (end ≡ NoMemory)) × (limit < length bytes → (end ≡ TooLong) ⊎ (end ≡ NoMemory)))
+    (length bytes ≤ limit → (end ≡ Done) ⊎ (end ≡ NoMemory))
+    × (limit < length bytes → (end ≡ TooLong) ⊎ (end ≡ NoMemory)))

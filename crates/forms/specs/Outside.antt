@@ -20,8 +20,8 @@ pub record CountsTaken {E : Type 0} (before now room : ℕ) (result : Result ℕ
 abbrev pub TakesSome : {E : Type 0} → List ℕ → Result ℕ E → Type 0
 TakesSome piece result = IfOk result (λ n. n ≡ 0 → length piece ≡ 0)
 
--- what was taken of a source: some bytes of those left, at most so many, and the count of bytes taken goes up by as many
-pub record Takes (left left_after : Option (List ℕ)) (taken taken_after most : ℕ) : Type 0 where
+-- what a source gave: some bytes of those left, at most so many, and the count of bytes taken goes up by as many
+pub record Gives (left left_after : Option (List ℕ)) (taken taken_after most : ℕ) : Type 0 where
   pub given : List ℕ
   pub bytes : Consumes left left_after given
   pub count : taken < 2 ^ 63 → taken_after ≡ taken + length given

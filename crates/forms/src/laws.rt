@@ -29,7 +29,7 @@ pub fn still_count_is_no_fault()
 
 /// Where no count of faults rose, the length of the input decides how a run ends: within the limit it is done, beyond
 /// it too long, if there is memory.
-pub fn length_decides_end()
+pub fn length_decides_the_end()
     ensures { (limit : ℕ) (old new : Streams) (end : AnyEnd) → Ended limit old new end
         → ¬ (Rose old.read_faults new.read_faults) → ¬ (Rose old.write_faults new.write_faults)
         → EndsByLength limit old.left end }
@@ -37,14 +37,15 @@ pub fn length_decides_end()
 
 /// A run that is too long took more bytes than the limit. A run that took more is too long, if no write failed.
 /// This holds also where the source tells no bytes.
-pub fn count_decides_too_long()
+pub fn too_long_is_past_the_limit()
     ensures { (limit : ℕ) (old new : Streams) (end : AnyEnd) → Ended limit old new end → old.taken < 2 ^ 63
         → (end ≡ TooLong → old.taken + limit < new.taken)
-        × (old.taken + limit < new.taken → (end ≡ TooLong) ⊎ ((end ≡ WriteFault) × Rose old.write_faults new.write_faults)) }
+        × (old.taken + limit < new.taken
+        → (end ≡ TooLong) ⊎ ((end ≡ WriteFault) × Rose old.write_faults new.write_faults)) }
 {}
 
 /// At every end a front of the replies to all lines of the input was written.
-pub fn front_at_every_end()
+pub fn each_end_leaves_a_front()
     ensures { (limit : ℕ) (old new : Streams) (end : AnyEnd) → Ended limit old new end
         → IfSome old.left (λ bytes. GainsFront (lines bytes) old.held new.held) }
 {}

@@ -1,5 +1,5 @@
 //! Lines and the requests in them.
-ghost use Rattle.std.specs.Prelude.{◌≡◌, ◌<◌, List, ℕ, ◌++◌, codes, length, Option, IfSome, IfNone};
+ghost use Rattle.std.specs.Prelude.{◌≡◌, List, ℕ, ◌++◌, codes, Option, IfSome, IfNone};
 ghost use Rattle.std.specs.Option.{option_copied};
 ghost use Rattle.forms.specs.Replies.{IsRequest, IsNoRequest};
 ghost use Rattle.forms.specs.Reading.{NoSpace, behind, IsNamed};
@@ -12,7 +12,8 @@ use std::str;
 
 /// The first line that a line feed ends, and what follows the line feed, or None exactly where there is no line feed.
 pub fn split_line(bytes: &[u8]) -> Option<(&[u8], &[u8])>
-    ensures found { IfSome result (λ r. NoFeed r.0.now × (bytes.now ≡ r.0.now ++ (codes "\n" ++ r.1.now))) }
+    ensures found { IfSome result (λ r.
+        NoFeed r.0.now × (bytes.now ≡ r.0.now ++ (codes "\n" ++ r.1.now))) }
     ensures none { IfNone result (NoFeed bytes.now) }
 {
     let end = memchr(b'\n', bytes)?;

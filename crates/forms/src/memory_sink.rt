@@ -21,7 +21,14 @@ impl Model for MemSink {
 
     ghost Value = { SinkState };
 
-    ghost view = { λ s. record { held = s.held.items; room = s.room; faults = s.faults.count; calls = s.faults.calls; cut = s.cut; fails = s.faults.fails.items } };
+    ghost view = { λ s. record {
+      held = s.held.items;
+      room = s.room;
+      faults = s.faults.count;
+      calls = s.faults.calls;
+      cut = s.cut;
+      fails = s.faults.fails.items;
+    } };
 
     ghost invariant = { λ s. (vec_len s.held + s.room ≤ vec_capacity s.held) × (1 ≤ s.cut) };
 }
@@ -33,7 +40,14 @@ impl MemSink {
     /// calls of `write` with the numbers in `fails`, from 0, fail. The one refusal is want of memory.
     pub fn new(alloc: Global, room: usize, cut: usize, fails: &[u64]) -> Result<MemSink, AllocError>
         requires { 1 ≤ cut }
-        ensures { IfOk result (λ s. s ≡ record { held = []; room = room; faults = 0; calls = 0; cut = cut; fails = fails.now }) }
+        ensures { IfOk result (λ s. s ≡ record {
+          held = [];
+          room = room;
+          faults = 0;
+          calls = 0;
+          cut = cut;
+          fails = fails.now;
+        }) }
     {
         Ok(MemSink {
             held: Vec::with_capacity(alloc, room)?,
@@ -78,9 +92,12 @@ impl Sink for MemSink {
         ensures bytes { WriteAppends (Some self.old.held) (Some self.new.held) result piece.now }
         ensures some { TakesSome piece.now result }
         ensures cause { HasCause self.old.faults self.new.faults result }
-        ensures fails { IsErr result ↔ (Contains self.old.fails self.old.calls ⊎ ((self.old.room ≡ 0) × (0 < length piece.now))) }
+        ensures fails { IsErr result ↔
+            (Contains self.old.fails self.old.calls ⊎ ((self.old.room ≡ 0) × (0 < length piece.now))) }
         ensures failed { OnErr result (self.new ≡ after_failed_write self.old) }
-        ensures given { IfOk result (λ n. (n ≡ write_len self.old (length piece.now)) × (self.new ≡ after_write self.old (take n piece.now))) }
+        ensures given { IfOk result (λ n.
+            (n ≡ write_len self.old (length piece.now))
+            × (self.new ≡ after_write self.old (take n piece.now))) }
     {
         let count = self.cut.min(self.room).min(piece.len());
         if self.faults.next_call_fails() || (count == 0 && !piece.is_empty()) {

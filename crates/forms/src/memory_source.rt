@@ -22,7 +22,14 @@ impl Model for MemSource {
 
     ghost Value = { SourceState };
 
-    ghost view = { λ s. record { left = drop s.at s.bytes.items; taken = s.taken; faults = s.faults.count; calls = s.faults.calls; cut = s.cut; fails = s.faults.fails.items } };
+    ghost view = { λ s. record {
+      left = drop s.at s.bytes.items;
+      taken = s.taken;
+      faults = s.faults.count;
+      calls = s.faults.calls;
+      cut = s.cut;
+      fails = s.faults.fails.items;
+    } };
 
     ghost invariant = { λ s. (s.at ≤ vec_len s.bytes) × (1 ≤ s.cut) };
 }
@@ -39,7 +46,14 @@ impl MemSource {
         fails: &[u64],
     ) -> Result<MemSource, AllocError>
         requires { 1 ≤ cut }
-        ensures { IfOk result (λ s. s ≡ record { left = bytes.now; taken = 0; faults = 0; calls = 0; cut = cut; fails = fails.now }) }
+        ensures { IfOk result (λ s. s ≡ record {
+          left = bytes.now;
+          taken = 0;
+          faults = 0;
+          calls = 0;
+          cut = cut;
+          fails = fails.now;
+        }) }
     {
         Ok(MemSource {
             bytes: Vec::from_slice(alloc, bytes)?,
@@ -89,7 +103,10 @@ impl Source for MemSource {
         ensures cause { HasCause self.old.faults self.new.faults result }
         ensures fails { IsErr result ↔ Contains self.old.fails self.old.calls }
         ensures failed { OnErr result ((self.new ≡ after_failed_read self.old) × (buf.new ≡ buf.old)) }
-        ensures given { IfOk result (λ n. (n ≡ read_len self.old (length buf.old)) × (self.new ≡ after_read self.old n) × (buf.new ≡ take n self.old.left ++ drop n buf.old)) }
+        ensures given { IfOk result (λ n.
+            (n ≡ read_len self.old (length buf.old))
+            × (self.new ≡ after_read self.old n)
+            × (buf.new ≡ take n self.old.left ++ drop n buf.old)) }
     {
         if self.faults.next_call_fails() {
             self.faults.count_fault();

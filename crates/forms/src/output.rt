@@ -34,8 +34,10 @@ pub fn answer_piece<K: Sink>(
     requires empty { batch.old.bytes ≡ [] }
     requires part { NoFeed kept.old.items }
     requires room { vec_len kept.old + length piece.now ≤ vec_capacity kept.old }
-    ensures ok { OnOk result (Answers (kept.old.items ++ piece.now) kept.new.items (K.held sink.old) (K.held sink.new)) }
-    ensures err { OnErr result (GainsFront (whole_lines (kept.old.items ++ piece.now)) (K.held sink.old) (K.held sink.new)) }
+    ensures ok { OnOk result
+        (Answers (kept.old.items ++ piece.now) kept.new.items (K.held sink.old) (K.held sink.new)) }
+    ensures err { OnErr result
+        (GainsFront (whole_lines (kept.old.items ++ piece.now)) (K.held sink.old) (K.held sink.new)) }
     ensures empty { OnOk result (batch.new.bytes ≡ []) }
     ensures room { vec_capacity kept.old ≤ vec_capacity kept.new }
     ensures cause { HasCause (K.faults sink.old) (K.faults sink.new) result }
@@ -69,7 +71,8 @@ pub fn answer_last<K: Sink>(sink: &mut K, batch: &mut Batch, line: &[u8]) -> Res
 /// Writes what waits where there may be no room for one more reply.
 fn make_room<K: Sink>(sink: &mut K, batch: &mut Batch) -> Result<(), Failed>
     ensures room { OnOk result (array_string_len batch.new + LONGEST ≤ BATCH) }
-    ensures ok { OnOk result (MovesFront (K.held sink.old) (K.held sink.new) batch.old.bytes batch.new.bytes) }
+    ensures ok { OnOk result
+        (MovesFront (K.held sink.old) (K.held sink.new) batch.old.bytes batch.new.bytes) }
     ensures err { OnErr result (AppendsFront (K.held sink.old) (K.held sink.new) batch.old.bytes) }
     ensures cause { HasCause (K.faults sink.old) (K.faults sink.new) result }
 {

@@ -1,4 +1,5 @@
-//! What a run reads from and writes to. A proof knows the bytes where the source or the sink tells them, and the causes of failures always.
+//! What a run reads from and writes to. A proof knows the bytes where the source or the sink tells them, and the
+//! causes of failures always.
 ghost use Rattle.std.specs.Prelude.{List, ℕ, length, Option};
 ghost use Rattle.std.specs.Io.{ReadsAtMost, WritesAtMost};
 ghost use Rattle.std.specs.Io.KnownBytes.{ReadConsumes, WriteAppends};

@@ -23,8 +23,8 @@ pub fn answer_pieces<S: Source, K: Sink>(
     requires empty { vec_len kept.old ≡ 0 }
     ensures memory { result ≢ RunEnd.NoMemory }
     ensures ended { Ended limit
-        (streams (S.left source.old) (S.taken source.old) (S.faults source.old) (K.held sink.old) (K.faults sink.old))
-        (streams (S.left source.new) (S.taken source.new) (S.faults source.new) (K.held sink.new) (K.faults sink.new))
+        (streams S.left S.taken S.faults K.held K.faults source.old sink.old)
+        (streams S.left S.taken S.faults K.held K.faults source.new sink.new)
         result }
 {
     let mut piece = [0u8; PIECE];

@@ -24,8 +24,8 @@ pub fn run<S: Source, K: Sink>(alloc: Global, source: &mut S, sink: &mut K, limi
 
     // What was taken and written at each end, however the bytes were cut.
     ensures ended { Ended limit
-        (streams (S.left source.old) (S.taken source.old) (S.faults source.old) (K.held sink.old) (K.faults sink.old))
-        (streams (S.left source.new) (S.taken source.new) (S.faults source.new) (K.held sink.new) (K.faults sink.new))
+        (streams S.left S.taken S.faults K.held K.faults source.old sink.old)
+        (streams S.left S.taken S.faults K.held K.faults source.new sink.new)
         result }
 
     // Want of memory comes before the first byte.
@@ -54,21 +54,29 @@ pub fn top<S: Source, K: Sink>(alloc: Global, words: &str, source: &mut S, sink:
 
     // Without words the status is that of a run.
     ensures ended { words.now ≡ [] → EndedWith 67_108_864
-        (streams (S.left source.old) (S.taken source.old) (S.faults source.old) (K.held sink.old) (K.faults sink.old))
-        (streams (S.left source.new) (S.taken source.new) (S.faults source.new) (K.held sink.new) (K.faults sink.new))
+        (streams S.left S.taken S.faults K.held K.faults source.old sink.old)
+        (streams S.left S.taken S.faults K.held K.faults source.new sink.new)
         result }
     ensures no_memory { words.now ≡ [] → result ≡ 6 → (source.new ≡ source.old) × (sink.new ≡ sink.old) }
 
     // At status 0 the end came, and each line of all that was left has its reply, however the bytes were cut.
     ensures done { words.now ≡ [] → result ≡ 0 → IsAtEnd (S.left source.new) }
-    ensures replies { words.now ≡ [] → result ≡ 0 → IfSome (S.left source.old) (λ bytes. GainsReplies (lines bytes) (K.held sink.old) (K.held sink.new)) }
+    ensures replies { words.now ≡ [] → result ≡ 0 → IfSome (S.left source.old) (λ bytes.
+        GainsReplies (lines bytes) (K.held sink.old) (K.held sink.new)) }
 
     // Whatever the status, a front of the replies to all lines was written.
-    ensures front { words.now ≡ [] → IfSome (S.left source.old) (λ bytes. GainsFront (lines bytes) (K.held sink.old) (K.held sink.new)) }
+    ensures front { words.now ≡ [] → IfSome (S.left source.old) (λ bytes.
+        GainsFront (lines bytes) (K.held sink.old) (K.held sink.new)) }
 
     // Without a fault an input is answered exactly where it is within the limit, or finds no memory.
-    ensures within { words.now ≡ [] → IfSome (S.left source.old) (λ bytes. length bytes ≤ 67_108_864 → ¬ (Rose (S.faults source.old) (S.faults source.new)) → ¬ (Rose (K.faults sink.old) (K.faults sink.new)) → (result ≡ 0) ⊎ (result ≡ 6)) }
-    ensures beyond { words.now ≡ [] → IfSome (S.left source.old) (λ bytes. 67_108_864 < length bytes → ¬ (Rose (S.faults source.old) (S.faults source.new)) → ¬ (Rose (K.faults sink.old) (K.faults sink.new)) → (result ≡ 5) ⊎ (result ≡ 6)) }
+    ensures within { words.now ≡ [] → IfSome (S.left source.old) (λ bytes. length bytes ≤ 67_108_864
+        → ¬ (Rose (S.faults source.old) (S.faults source.new))
+        → ¬ (Rose (K.faults sink.old) (K.faults sink.new))
+        → (result ≡ 0) ⊎ (result ≡ 6)) }
+    ensures beyond { words.now ≡ [] → IfSome (S.left source.old) (λ bytes. 67_108_864 < length bytes
+        → ¬ (Rose (S.faults source.old) (S.faults source.new))
+        → ¬ (Rose (K.faults sink.old) (K.faults sink.new))
+        → (result ≡ 5) ⊎ (result ≡ 6)) }
 {
     if !words.is_empty() {
         return UNKNOWN_WORDS;

@@ -3,7 +3,7 @@
 
 mod streams;
 
-use forms::top;
+use forms::{RunEnd, top};
 use std::alloc::Global;
 use std::env::{Env, args};
 use std::io;
@@ -13,16 +13,13 @@ use streams::{Input, Output};
 /// Words that name nothing, in place of words that can't be read.
 const UNREADABLE: &str = "?";
 
-/// The status where joining the words finds no memory.
-const NO_MEMORY: u8 = 6;
-
 fn main(rt: HostRuntime) -> ExitCode {
     let alloc = rt.alloc();
     let mut input = Input::new(rt.stdin());
     let mut output = Output::new(rt.stdout());
     let status = match joined_words(&rt, alloc) {
         Ok(words) => top(alloc, words.as_str(), &mut input, &mut output),
-        Err(error) if error.kind() == io::ErrorKind::OutOfMemory => NO_MEMORY,
+        Err(error) if error.kind() == io::ErrorKind::OutOfMemory => RunEnd::NoMemory.status(),
         Err(_) => top(alloc, UNREADABLE, &mut input, &mut output),
     };
     ExitCode::from(status)

@@ -1,8 +1,8 @@
-use Rattle.std.proofs.Common.{◌≡◌, ◌≤◌, ◌++◌, List, ℕ, length, sym, ◌∙◌, ap, subst, append_assoc, length-append, rules, arith}
+use Rattle.std.proofs.Common.{◌≡◌, ◌++◌, List, ℕ, length, sym, ◌∙◌, ap, append_assoc, length-append, rules, arith}
 use Rattle.forms.specs.inside.Pieces.{NoFeed}
 use Rattle.forms.proofs.Writes.{on_err}
 use Rattle.forms.proofs.LinePieces.{no_feed-append}
-use Rattle.forms.proofs.Batches.{IsAnswered, none_answered, answered_moved, answered_pushed, answered_all, answered_front}
+use Rattle.forms.proofs.Batches.{none_answered, answered_moved, answered_pushed, answered_all, answered_front}
 use Rattle.forms.proofs.output.answer_piece.Goals as goal
 
 pub loop-line-init : goal.loop-line-init

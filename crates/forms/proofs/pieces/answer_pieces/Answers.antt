@@ -10,7 +10,7 @@ pub loop-room-init : goal.loop-room-init
 loop-room-init g c =
     let kept : List ℕ = c.args.kept.now.items in
     record {
-      running = running-start c.args.limit (streams (g.S.Source.left c.args.source.now) (g.S.Source.taken c.args.source.now) (g.S.Source.faults c.args.source.now) (g.K.Sink.held c.args.sink.now) (g.K.Sink.faults c.args.sink.now)) kept (nil_from_length kept (sym c.args.kept.now.ok.0 ∙ c.requires.empty));
+      running = running-start c.args.limit (streams g.S.Source.left g.S.Source.taken g.S.Source.faults g.K.Sink.held g.K.Sink.faults c.args.source.now c.args.sink.now) kept (nil_from_length kept (sym c.args.kept.now.ok.0 ∙ c.requires.empty));
       empty = c.new-batch.ensures;
       kept = omega (arith, c.requires.empty);
       held = c.requires.room;
@@ -18,9 +18,9 @@ loop-room-init g c =
 
 pub returns-in-Ok-answer_last-clause-ended : goal.returns-in-Ok-answer_last-clause-ended
 returns-in-Ok-answer_last-clause-ended g c =
-    let old : Streams = streams (g.S.Source.left c.args.source.now) (g.S.Source.taken c.args.source.now) (g.S.Source.faults c.args.source.now) (g.K.Sink.held c.args.sink.now) (g.K.Sink.faults c.args.sink.now) in
-    let new : Streams = streams (g.S.Source.left c.loop-room.source) (g.S.Source.taken c.loop-room.source) (g.S.Source.faults c.loop-room.source) (g.K.Sink.held c.loop-room.sink) (g.K.Sink.faults c.loop-room.sink) in
-    let read : Streams = streams (g.S.Source.left c.read.new.self) (g.S.Source.taken c.read.new.self) (g.S.Source.faults c.read.new.self) (g.K.Sink.held c.loop-room.sink) (g.K.Sink.faults c.loop-room.sink) in
+    let old : Streams = streams g.S.Source.left g.S.Source.taken g.S.Source.faults g.K.Sink.held g.K.Sink.faults c.args.source.now c.args.sink.now in
+    let new : Streams = streams g.S.Source.left g.S.Source.taken g.S.Source.faults g.K.Sink.held g.K.Sink.faults c.loop-room.source c.loop-room.sink in
+    let read : Streams = streams g.S.Source.left g.S.Source.taken g.S.Source.faults g.K.Sink.held g.K.Sink.faults c.read.new.self c.loop-room.sink in
     let some : 1 ≤ c.loop-room.room = grind (arith, nat_tests) in
     let want : c.min-want.result ≤ c.loop-room.room = omega (arith, c.min-want.ensures) in
     let size : length c.read.new.buf ≡ c.min-want.result = search rules in
@@ -31,9 +31,9 @@ returns-in-Ok-answer_last-clause-ended g c =
 
 pub returns-in-Err-answer_last-clause-ended : goal.returns-in-Err-answer_last-clause-ended
 returns-in-Err-answer_last-clause-ended g c =
-    let old : Streams = streams (g.S.Source.left c.args.source.now) (g.S.Source.taken c.args.source.now) (g.S.Source.faults c.args.source.now) (g.K.Sink.held c.args.sink.now) (g.K.Sink.faults c.args.sink.now) in
-    let new : Streams = streams (g.S.Source.left c.loop-room.source) (g.S.Source.taken c.loop-room.source) (g.S.Source.faults c.loop-room.source) (g.K.Sink.held c.loop-room.sink) (g.K.Sink.faults c.loop-room.sink) in
-    let read : Streams = streams (g.S.Source.left c.read.new.self) (g.S.Source.taken c.read.new.self) (g.S.Source.faults c.read.new.self) (g.K.Sink.held c.loop-room.sink) (g.K.Sink.faults c.loop-room.sink) in
+    let old : Streams = streams g.S.Source.left g.S.Source.taken g.S.Source.faults g.K.Sink.held g.K.Sink.faults c.args.source.now c.args.sink.now in
+    let new : Streams = streams g.S.Source.left g.S.Source.taken g.S.Source.faults g.K.Sink.held g.K.Sink.faults c.loop-room.source c.loop-room.sink in
+    let read : Streams = streams g.S.Source.left g.S.Source.taken g.S.Source.faults g.K.Sink.held g.K.Sink.faults c.read.new.self c.loop-room.sink in
     let some : 1 ≤ c.loop-room.room = grind (arith, nat_tests) in
     let want : c.min-want.result ≤ c.loop-room.room = omega (arith, c.min-want.ensures) in
     let size : length c.read.new.buf ≡ c.min-want.result = search rules in
@@ -44,15 +44,15 @@ returns-in-Err-answer_last-clause-ended g c =
 
 pub returns-clause-ended : goal.returns-clause-ended
 returns-clause-ended g c =
-    let old : Streams = streams (g.S.Source.left c.args.source.now) (g.S.Source.taken c.args.source.now) (g.S.Source.faults c.args.source.now) (g.K.Sink.held c.args.sink.now) (g.K.Sink.faults c.args.sink.now) in
-    let new : Streams = streams (g.S.Source.left c.loop-room.source) (g.S.Source.taken c.loop-room.source) (g.S.Source.faults c.loop-room.source) (g.K.Sink.held c.loop-room.sink) (g.K.Sink.faults c.loop-room.sink) in
+    let old : Streams = streams g.S.Source.left g.S.Source.taken g.S.Source.faults g.K.Sink.held g.K.Sink.faults c.args.source.now c.args.sink.now in
+    let new : Streams = streams g.S.Source.left g.S.Source.taken g.S.Source.faults g.K.Sink.held g.K.Sink.faults c.loop-room.source c.loop-room.sink in
     ends-long c.args.limit c.loop-room.room old new c.loop-room.kept.items c.loop-room.invariant.running (grind (arith, nat_tests))
 
 pub loop-room-preserved : goal.loop-room-preserved
 loop-room-preserved g c =
-    let old : Streams = streams (g.S.Source.left c.args.source.now) (g.S.Source.taken c.args.source.now) (g.S.Source.faults c.args.source.now) (g.K.Sink.held c.args.sink.now) (g.K.Sink.faults c.args.sink.now) in
-    let new : Streams = streams (g.S.Source.left c.loop-room.source) (g.S.Source.taken c.loop-room.source) (g.S.Source.faults c.loop-room.source) (g.K.Sink.held c.loop-room.sink) (g.K.Sink.faults c.loop-room.sink) in
-    let read : Streams = streams (g.S.Source.left c.read.new.self) (g.S.Source.taken c.read.new.self) (g.S.Source.faults c.read.new.self) (g.K.Sink.held c.loop-room.sink) (g.K.Sink.faults c.loop-room.sink) in
+    let old : Streams = streams g.S.Source.left g.S.Source.taken g.S.Source.faults g.K.Sink.held g.K.Sink.faults c.args.source.now c.args.sink.now in
+    let new : Streams = streams g.S.Source.left g.S.Source.taken g.S.Source.faults g.K.Sink.held g.K.Sink.faults c.loop-room.source c.loop-room.sink in
+    let read : Streams = streams g.S.Source.left g.S.Source.taken g.S.Source.faults g.K.Sink.held g.K.Sink.faults c.read.new.self c.loop-room.sink in
     let behind : List ℕ = drop c.min-want.result c.loop-room.piece in
     let piece : List ℕ = take c.min-within.result (c.read.new.buf ++ behind) in
     let some : 1 ≤ c.loop-room.room = grind (arith, nat_tests) in
@@ -74,9 +74,9 @@ loop-room-preserved g c =
 
 pub returns-in-Err-answer_piece-clause-ended : goal.returns-in-Err-answer_piece-clause-ended
 returns-in-Err-answer_piece-clause-ended g c =
-    let old : Streams = streams (g.S.Source.left c.args.source.now) (g.S.Source.taken c.args.source.now) (g.S.Source.faults c.args.source.now) (g.K.Sink.held c.args.sink.now) (g.K.Sink.faults c.args.sink.now) in
-    let new : Streams = streams (g.S.Source.left c.loop-room.source) (g.S.Source.taken c.loop-room.source) (g.S.Source.faults c.loop-room.source) (g.K.Sink.held c.loop-room.sink) (g.K.Sink.faults c.loop-room.sink) in
-    let read : Streams = streams (g.S.Source.left c.read.new.self) (g.S.Source.taken c.read.new.self) (g.S.Source.faults c.read.new.self) (g.K.Sink.held c.loop-room.sink) (g.K.Sink.faults c.loop-room.sink) in
+    let old : Streams = streams g.S.Source.left g.S.Source.taken g.S.Source.faults g.K.Sink.held g.K.Sink.faults c.args.source.now c.args.sink.now in
+    let new : Streams = streams g.S.Source.left g.S.Source.taken g.S.Source.faults g.K.Sink.held g.K.Sink.faults c.loop-room.source c.loop-room.sink in
+    let read : Streams = streams g.S.Source.left g.S.Source.taken g.S.Source.faults g.K.Sink.held g.K.Sink.faults c.read.new.self c.loop-room.sink in
     let behind : List ℕ = drop c.min-want.result c.loop-room.piece in
     let piece : List ℕ = take c.min-within.result (c.read.new.buf ++ behind) in
     let some : 1 ≤ c.loop-room.room = grind (arith, nat_tests) in
@@ -89,9 +89,9 @@ returns-in-Err-answer_piece-clause-ended g c =
 
 pub returns-in-Err-clause-ended : goal.returns-in-Err-clause-ended
 returns-in-Err-clause-ended g c =
-    let old : Streams = streams (g.S.Source.left c.args.source.now) (g.S.Source.taken c.args.source.now) (g.S.Source.faults c.args.source.now) (g.K.Sink.held c.args.sink.now) (g.K.Sink.faults c.args.sink.now) in
-    let new : Streams = streams (g.S.Source.left c.loop-room.source) (g.S.Source.taken c.loop-room.source) (g.S.Source.faults c.loop-room.source) (g.K.Sink.held c.loop-room.sink) (g.K.Sink.faults c.loop-room.sink) in
-    let read : Streams = streams (g.S.Source.left c.read.new.self) (g.S.Source.taken c.read.new.self) (g.S.Source.faults c.read.new.self) (g.K.Sink.held c.loop-room.sink) (g.K.Sink.faults c.loop-room.sink) in
+    let old : Streams = streams g.S.Source.left g.S.Source.taken g.S.Source.faults g.K.Sink.held g.K.Sink.faults c.args.source.now c.args.sink.now in
+    let new : Streams = streams g.S.Source.left g.S.Source.taken g.S.Source.faults g.K.Sink.held g.K.Sink.faults c.loop-room.source c.loop-room.sink in
+    let read : Streams = streams g.S.Source.left g.S.Source.taken g.S.Source.faults g.K.Sink.held g.K.Sink.faults c.read.new.self c.loop-room.sink in
     let some : 1 ≤ c.loop-room.room = grind (arith, nat_tests) in
     let small : c.args.limit ≤ 2 ^ 30 = c.requires.limit in
     let none = Consumes-kept _ _ _ [] (Consumes-nil (g.S.Source.left c.loop-room.source)) c.in-Err.ensures.bytes in

@@ -1,5 +1,0 @@
-use Rattle.forms.proofs.Ends.{length_decides_end}
-use Rattle.forms.proofs.laws.length_decides_end.Goals as goal
-
-pub returns : goal.returns
-returns c = length_decides_end
