@@ -72,32 +72,32 @@ late_week : (y day : ℤ) → week_one y ≤ℤ day → day ≤ℤ pos 2_932_896
 late_week y day least most far =
     by_lt_z (pos 10000) y
     (λ more.
-      let k : ℕ = unsigned_abs (y -ℤ pos 10000) in
-      let e : y ≡ pos 10000 +ℤ pos k = omega (arith, ints) in
-      let later = new_year-later (pos 10000) k in
-      let year : new_year y ≡ new_year (pos 10000 +ℤ pos k) = ap new_year e in
-      let near = week_one_near y in
-      absurd (omega (arith, ints, last_year)))
+    let k : ℕ = unsigned_abs (y -ℤ pos 10000) in
+    let e : y ≡ pos 10000 +ℤ pos k = omega (arith, ints) in
+    let later = new_year-later (pos 10000) k in
+    let year : new_year y ≡ new_year (pos 10000 +ℤ pos k) = ap new_year e in
+    let near = week_one_near y in
+    absurd (omega (arith, ints, last_year)))
     (λ same.
-      let e : y ≡ pos 10000 = omega (arith, ints) in
-      let start : week_one y ≡ pos 2_932_899 = ap week_one e ∙ last_week_one in
-      absurd (omega (arith, ints)))
+    let e : y ≡ pos 10000 = omega (arith, ints) in
+    let start : week_one y ≡ pos 2_932_899 = ap week_one e ∙ last_week_one in
+    absurd (omega (arith, ints)))
 
 early_week : (y : ℤ) (ww d : ℕ) → Exists (Week y ww d) → neg_ℤ (pos 4_371_587) ≤ℤ day_of (Week y ww d) → (y +ℤ pos 1) ≤ℤ neg_ℤ (pos 9999) → ⊥
 early_week y ww d e least far =
     by_lt_z y (neg_ℤ (pos 10000))
     (λ more.
-      let k : ℕ = unsigned_abs (neg_ℤ (pos 9999) -ℤ y) in
-      let same : neg_ℤ (pos 9999) ≡ y +ℤ pos k = omega (arith, ints) in
-      let later = new_year-later y k in
-      let year : new_year (neg_ℤ (pos 9999)) ≡ new_year (y +ℤ pos k) = ap new_year same in
-      let near = week_one_near y in
-      absurd (omega (arith, ints, first_year, e.1, e.3)))
+    let k : ℕ = unsigned_abs (neg_ℤ (pos 9999) -ℤ y) in
+    let same : neg_ℤ (pos 9999) ≡ y +ℤ pos k = omega (arith, ints) in
+    let later = new_year-later y k in
+    let year : new_year (neg_ℤ (pos 9999)) ≡ new_year (y +ℤ pos k) = ap new_year same in
+    let near = week_one_near y in
+    absurd (omega (arith, ints, first_year, e.1, e.3)))
     (λ last.
-      let same : y ≡ neg_ℤ (pos 10000) = omega (arith, ints) in
-      let start : week_one y ≡ neg_ℤ (pos 4_371_951) = ap week_one same ∙ first_week_one in
-      let year : new_year (y +ℤ pos 1) ≡ neg_ℤ (pos 4_371_587) = ap (λ (z : ℤ). new_year (z +ℤ pos 1)) same ∙ first_year in
-      absurd (omega (arith, ints, e.1, e.3, e.4)))
+    let same : y ≡ neg_ℤ (pos 10000) = omega (arith, ints) in
+    let start : week_one y ≡ neg_ℤ (pos 4_371_951) = ap week_one same ∙ first_week_one in
+    let year : new_year (y +ℤ pos 1) ≡ neg_ℤ (pos 4_371_587) = ap (λ (z : ℤ). new_year (z +ℤ pos 1)) same ∙ first_year in
+    absurd (omega (arith, ints, e.1, e.3, e.4)))
 
 last_week : (ww weeks : ℕ) → ww ≤ 53 → 52 ≤ weeks → (ww ≡ 53 → 53 ≤ weeks) → ww ≤ weeks
 last_week ww weeks most least last = grind arith

@@ -6,6 +6,7 @@ pub mod Times
 pub mod DateTimes
 pub mod Durations
 pub mod Calendar
+pub mod Moments
 pub mod Written
 pub mod WrittenDurations
 pub mod Lengths

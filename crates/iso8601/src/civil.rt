@@ -1,10 +1,12 @@
 //! Whether a date's day exists, and the turns to civil dates and times.
-ghost use Rattle.std.specs.Prelude.{◌≡◌, ◌↔◌, ◌+◌, ◌^◌, ◌<◌, IsSome, IfSome, pos, FitsSigned};
+ghost use Rattle.std.specs.Prelude.{◌≡◌, ◌↔◌, ◌+◌, ◌^◌, ◌<◌, IsSome, IfSome, pos, unsigned_abs, ◌+ℤ◌, ◌*ℤ◌, FitsSigned};
 ghost use Rattle.std.specs.Int.{w16, IsInRange};
 ghost use Rattle.jiff.specs.Words.{days_in_year, epoch_day, IsBetween, IsDate, IsIsoWeekDate, IsYear, IsYmd, monday_zero, ordinal};
 ghost use Rattle.jiff_core.specs.IsoWeek.{days_from_iso};
+ghost use Rattle.iso8601.specs.Calendar.{day_of, Exists, IsCivilDay};
+ghost use Rattle.iso8601.specs.inside.Cycles.{IsCycled};
 
-use crate::types::{Date, Time};
+use crate::types::{Date, DateTime, FixedMoment, Time};
 use jiff::civil;
 use jiff::civil::{ISOWeekDate, Weekday};
 
@@ -72,10 +74,49 @@ fn week_day(year: i32, ww: u32, weekday: Weekday) -> Option<civil::Date>
     Some(date.date())
 }
 
+/// A year of the same calendar from 2000 to 2399: 400 years are a whole number of weeks, and leap years repeat.
+fn cycle_year(year: i32) -> i32
+    ensures cycled { IsCycled year result }
+    ensures range { IsBetween (pos 2000) (pos 2399) result }
+{
+    2000 + year.rem_euclid(400)
+}
+
+/// The same date in a year of the same calendar, where each day is a civil one.
+fn in_cycle(date: Date) -> Date
+    ensures same { Exists result ↔ Exists date }
+    ensures civil { Exists result → IsCivilDay (day_of result) }
+{
+    match date {
+        Date::YMD { year, month, day } => Date::YMD {
+            year: cycle_year(year),
+            month,
+            day,
+        },
+        Date::Week { year, ww, d } => Date::Week {
+            year: cycle_year(year),
+            ww,
+            d,
+        },
+        Date::Ordinal { year, ddd } => Date::Ordinal {
+            year: cycle_year(year),
+            ddd,
+        },
+    }
+}
+
 impl Date {
-    ghost use Rattle.std.specs.Prelude.{◌≡◌, ◌↔◌, IsSome, IfSome};
+    ghost use Rattle.std.specs.Prelude.{◌≡◌, ◌↔◌, IsTrue, IsSome, IfSome};
     ghost use Rattle.jiff.specs.Words.{epoch_day};
     ghost use Rattle.iso8601.specs.Calendar.{day_of, Exists, IsCivilDay};
+
+    /// Whether there is such a day: true exactly where the month or the year has the day, or the year the week, also
+    /// outside the years of civil dates. `2015-02-29` and `2023-W53-1` don't exist; `9999-W52-6` does.
+    pub fn exists(&self) -> bool
+        ensures { IsTrue result ↔ Exists self.now }
+    {
+        in_cycle(*self).into_naive().is_some()
+    }
 
     /// The civil day. `None` exactly where there is no such day or week, or the day isn't from -9999-01-01 to
     /// 9999-12-31: `2015-02-29` has none, and `2023-W06-2` is 7 February 2023.
@@ -88,5 +129,244 @@ impl Date {
             Date::Week { year, ww, d } => week_day(year, ww, civil_weekday(d)?),
             Date::Ordinal { year, ddd } => ordinal_day(year, ddd),
         }
+    }
+}
+
+/// The seconds of an offset.
+fn total_seconds(hours: i32, minutes: i32) -> i64
+    ensures { result ≡ (pos 3600 *ℤ hours) +ℤ (pos 60 *ℤ minutes) }
+{
+    3600 * i64::from(hours) + 60 * i64::from(minutes)
+}
+
+/// The seconds of an offset, or `None` exactly where they are those of a day or more.
+fn offset_seconds(hours: i32, minutes: i32) -> Option<i32>
+    ensures some { IsSome result ↔ (unsigned_abs ((pos 3600 *ℤ hours) +ℤ (pos 60 *ℤ minutes)) < 86_400) }
+    ensures value { IfSome result (λ seconds. seconds ≡ (pos 3600 *ℤ hours) +ℤ (pos 60 *ℤ minutes)) }
+{
+    let seconds = total_seconds(hours, minutes);
+    if seconds.unsigned_abs() < 86_400 {
+        Some(seconds as i32)
+    } else {
+        None
+    }
+}
+
+impl Time {
+    ghost use Rattle.std.specs.Prelude.{◌↔◌, IsSome, IfSome};
+    ghost use Rattle.iso8601.specs.Moments.{IsCivilTime, IsOnClock};
+
+    /// The civil time of the fields, without the offset. `None` exactly where the hour is above 23, the minute or the
+    /// second above 59, or the millisecond above 999: `24:00` and `23:59:60` have none.
+    pub fn into_naive(self) -> Option<civil::Time>
+        ensures some { IsSome result ↔ IsOnClock self }
+        ensures value { IfSome result (IsCivilTime self) }
+    {
+        if self.millisecond > 999 {
+            return None;
+        }
+        let hour = civil_field(self.hour)?;
+        let minute = civil_field(self.minute)?;
+        let second = civil_field(self.second)?;
+        let nanosecond = 1_000_000 * self.millisecond as i32;
+        civil::Time::new(hour, minute, second, nanosecond).ok()
+    }
+}
+
+impl DateTime {
+    ghost use Rattle.std.specs.Prelude.{◌≡◌, ◌↔◌, IsSome, IfSome};
+    ghost use Rattle.jiff.specs.Words.{epoch_day};
+    ghost use Rattle.iso8601.specs.Calendar.{day_of};
+    ghost use Rattle.iso8601.specs.Moments.{IsCivilTime, IsMoment, IsMomentOf};
+
+    /// The civil date and time on the spot, and the seconds ahead of UTC. `None` exactly where the date or the time has
+    /// no civil one, or the offset is 24 hours or more.
+    ///
+    /// `2023-02-08T23:40:00+01:23` is 8 February 2023, 23:40:00, 4980 seconds ahead.
+    pub fn into_fixed_offset(self) -> Option<FixedMoment>
+        ensures some { IsSome result ↔ IsMoment self }
+        ensures value { IfSome result (IsMomentOf self) }
+    {
+        let date = self.date.into_naive()?;
+        let time = self.time.into_naive()?;
+        let offset_seconds = offset_seconds(
+            self.time.tz_offset_hours,
+            self.time.tz_offset_minutes,
+        )?;
+        Some(FixedMoment {
+            local: civil::DateTime::from_parts(date, time),
+            offset_seconds,
+        })
+    }
+
+    /// The civil date and time of [`into_fixed_offset`](DateTime::into_fixed_offset), and `None` exactly where that is.
+    pub fn into_naive(self) -> Option<civil::DateTime>
+        ensures some { IsSome result ↔ IsMoment self }
+        ensures day { IfSome result (λ local. epoch_day local.date ≡ day_of self.date) }
+        ensures time { IfSome result (λ local. IsCivilTime self.time local.time) }
+    {
+        Some(self.into_fixed_offset()?.local)
+    }
+}
+
+#[cfg(test)]
+mod tests {
+    use super::*;
+    use std::test::Fail;
+
+    #[test]
+    fn days_of_dates(rt: HostRuntime) -> Result<(), Fail> {
+        for (text, want) in [
+            ("2023-02-08", Some((2023, 2, 8))),
+            ("2023-039", Some((2023, 2, 8))),
+            ("2023-W06-3", Some((2023, 2, 8))),
+            ("2023-W06-2", Some((2023, 2, 7))),
+            ("2023-W06-7", Some((2023, 2, 12))),
+            ("2015-W53-5", Some((2016, 1, 1))),
+            ("2009-W01-1", Some((2008, 12, 29))),
+            ("2009-W53-7", Some((2010, 1, 3))),
+            ("2024-02-29", Some((2024, 2, 29))),
+            ("2000-02-29", Some((2000, 2, 29))),
+            ("2024-366", Some((2024, 12, 31))),
+            ("2023-365", Some((2023, 12, 31))),
+            ("0000-02-29", Some((0, 2, 29))),
+            ("-2023-039", Some((-2023, 2, 8))),
+            ("-9999-01-01", Some((-9999, 1, 1))),
+            ("-9999-W01-1", Some((-9999, 1, 1))),
+            ("9999-12-31", Some((9999, 12, 31))),
+            ("9999-W52-5", Some((9999, 12, 31))),
+            ("9999-W52-6", None),
+            ("2015-02-29", None),
+            ("1900-02-29", None),
+            ("2023-02-30", None),
+            ("2023-04-31", None),
+            ("2023-366", None),
+            ("2023-W53-1", None),
+        ] {
+            let day = text.parse::<Date>().map(|date| date.into_naive());
+            let parts = day.map(|day| day.map(|day| (day.year(), day.month(), day.day())));
+            assert_eq!(rt; parts, Ok(want), "at {text}");
+        }
+        Ok(())
+    }
+
+    #[test]
+    fn calendar_days_exist(rt: HostRuntime) -> Result<(), Fail> {
+        for (year, month, day, want) in [
+            (2015, 2, 28, true),
+            (2015, 2, 29, false),
+            (2016, 2, 29, true),
+            (1900, 2, 29, false),
+            (-400, 2, 29, true),
+            (-100, 2, 29, false),
+            (10_000, 2, 29, true),
+            (i32::MIN, 2, 29, true),
+            (i32::MAX, 2, 29, false),
+            (2015, 0, 1, false),
+            (2015, 13, 1, false),
+            (2015, 1, 0, false),
+            (2015, 1, 32, false),
+            (2015, 3, 31, true),
+            (2015, 4, 30, true),
+            (2015, 4, 31, false),
+            (2015, 6, 31, false),
+            (2015, 9, 31, false),
+            (2015, 11, 31, false),
+            (2015, 12, 31, true),
+            (2015, u32::MAX, 1, false),
+            (2015, 1, u32::MAX, false),
+        ] {
+            assert_eq!(rt; Date::YMD { year, month, day }.exists(), want);
+        }
+        Ok(())
+    }
+
+    #[test]
+    fn days_of_weeks_and_years_exist(rt: HostRuntime) -> Result<(), Fail> {
+        for (year, ww, d, want) in [
+            (2015, 53, 7, true),
+            (2020, 53, 1, true),
+            (2004, 53, 1, true),
+            (2023, 53, 1, false),
+            (2024, 53, 1, false),
+            (-1, 53, 1, false),
+            (9999, 52, 6, true),
+            (10_000, 53, 1, false),
+            (i32::MAX, 53, 1, false),
+            (2015, 0, 1, false),
+            (2015, 54, 1, false),
+            (2015, 1, 0, false),
+            (2015, 1, 8, false),
+            (2015, u32::MAX, 1, false),
+        ] {
+            assert_eq!(rt; Date::Week { year, ww, d }.exists(), want);
+        }
+        for (year, ddd, want) in [
+            (2016, 366, true),
+            (2015, 366, false),
+            (2015, 365, true),
+            (-4, 366, true),
+            (2015, 0, false),
+            (2016, 367, false),
+            (i32::MIN, 366, true),
+            (i32::MAX, 366, false),
+            (2015, u32::MAX, false),
+        ] {
+            assert_eq!(rt; Date::Ordinal { year, ddd }.exists(), want);
+        }
+        Ok(())
+    }
+
+    #[test]
+    fn clocks_and_moments(rt: HostRuntime) -> Result<(), Fail> {
+        for (text, want) in [
+            ("23:40:15.123", Some((23, 40, 15, 123_000_000))),
+            ("00:00", Some((0, 0, 0, 0))),
+            ("23:59:59.999-24:59", Some((23, 59, 59, 999_000_000))),
+            ("24:00", None),
+            ("23:59:60", None),
+        ] {
+            let clock = text.parse::<Time>().map(|time| time.into_naive());
+            let parts = clock.map(|clock| clock.map(|c| (
+                c.hour(),
+                c.minute(),
+                c.second(),
+                c.subsec_nanosecond(),
+            )));
+            assert_eq!(rt; parts, Ok(want), "at {text}");
+        }
+        for (text, want) in [
+            ("2023-02-08T23:40:00+01:23", Some(4980)),
+            ("2023-02-08T23:40:00Z", Some(0)),
+            ("2023-02-08T23:40:00", Some(0)),
+            ("2023-W06-3T23:40:00+01:23", Some(4980)),
+            ("-2023-039T23:40:00+01:23", Some(4980)),
+            ("2023-02-08T23:40:00-05:30", Some(-19_800)),
+            ("2023-02-08T23:40:00+23:59", Some(86_340)),
+            ("2023-02-08T23:40:00+24:00", None),
+            ("2023-02-08T23:40:00-24:00", None),
+            ("2023-02-29T23:40:00Z", None),
+            ("2023-02-08T24:00:00Z", None),
+        ] {
+            let moment = text
+                .parse::<DateTime>()
+                .map(|t| (t.into_fixed_offset(), t.into_naive()));
+            let offset = moment.map(|m| m.0.map(|fixed| fixed.offset_seconds));
+            assert_eq!(rt; offset, Ok(want), "at {text}");
+            let local = moment.map(|m| m.0.map(|fixed| fixed.local));
+            assert_eq!(rt; local, moment.map(|m| m.1), "at {text}");
+        }
+        let clock = civil::DateTime::new(2023, 2, 8, 23, 40, 0, 0);
+        let moment = "2023-039T23:40:00+01:23"
+            .parse::<DateTime>()
+            .map(|t| t.into_naive());
+        assert_eq!(rt; moment.ok().flatten(), clock.ok());
+        let lies = Time::default().set_tz((i32::MAX, i32::MIN));
+        let date = Date::Ordinal { year: 2023, ddd: 1 };
+        assert!(rt; DateTime { date, time: lies }.into_fixed_offset().is_none());
+        let turned = Time::default().set_tz((1, -1));
+        let moment = DateTime { date, time: turned }.into_fixed_offset();
+        assert_eq!(rt; moment.map(|m| m.offset_seconds), Some(3540));
+        Ok(())
     }
 }

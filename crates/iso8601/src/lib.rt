@@ -11,4 +11,4 @@ mod values;
 mod written;
 
 pub use texts::{date, datetime, duration, time};
-pub use types::{Date, DateTime, Duration, ParseFailed, Time};
+pub use types::{Date, DateTime, Duration, FixedMoment, ParseFailed, Time};

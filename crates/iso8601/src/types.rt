@@ -2,6 +2,7 @@
 ghost use Rattle.std.specs.Prelude.{◌≡◌};
 ghost use Rattle.iso8601.specs.Defaults.{zero_date, zero_duration};
 
+use jiff::civil;
 use thiserror::Error;
 
 /// A date as it is written (ISO 8601-1:2019, 5.2), whether or not there is such a day: `exists` tells.
@@ -63,6 +64,15 @@ pub enum Duration {
     },
     /// A count of weeks: `P5W`.
     Weeks(u32),
+}
+
+/// A civil date and time, and how far it is ahead of UTC.
+#[derive(Clone, Copy, Debug, PartialEq, Eq)]
+pub struct FixedMoment {
+    /// The date and the time on the spot.
+    pub local: civil::DateTime,
+    /// The seconds that `local` is ahead of UTC, from -86399 to 86399 where it was turned from a date-time.
+    pub offset_seconds: i32,
 }
 
 /// No front of the text is in the grammar.

@@ -55,6 +55,6 @@ returns-in_ok-civil_weekday-in-Week-clause-value c =
     let same = c.in_ok-civil_weekday-in-Week.ensures.value in
     rw c.in-Week.is (some_value c.week_day.result (λ (d : CivilDate). epoch_day d ≡ days_from_iso c.in-Week.year c.in-Week.ww day) _
     (λ d some e.
-      let is = s.0 some in
-      let least : 1 ≤ c.in-Week.ww = omega (arith, ints, is.1.0) in
-      e ∙ week_day c.in-Week.year c.in-Week.ww day c.in-Week.d is.0.0 least same) v)
+    let is = s.0 some in
+    let least : 1 ≤ c.in-Week.ww = omega (arith, ints, is.1.0) in
+    e ∙ week_day c.in-Week.year c.in-Week.ww day c.in-Week.d is.0.0 least same) v)
