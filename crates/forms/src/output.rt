@@ -111,7 +111,8 @@ fn push_joined(batch: &mut Batch, kept: &mut Vec<u8>, line: &[u8])
     }
 }
 
-/// Appends the reply to a line, and its line feed.
+/// Appends the reply to a line, and its line feed. As a call of its own it would cost the shortest lines a sixth more.
+#[inline(always)]
 fn push_reply(batch: &mut Batch, line: &[u8])
     requires room { array_string_len batch.old + LONGEST ≤ BATCH }
     ensures { PushesReply line.now batch.old.bytes batch.new.bytes }
