@@ -1,5 +1,5 @@
 -- Readers on lists against grammars: what a reader finds is there, and nothing longer is.
-use Rattle.std.proofs.Common.{◌≡◌, ℕ, ◌≤◌, ◌⊎◌, List, ◌++◌, length, Option, Some, None, refl, subst, arith, inl, inr}
+use Rattle.std.proofs.Common.{◌≡◌, ℕ, ◌≤◌, ◌⊎◌, List, [], ◌∷◌, ◌++◌, length, Option, Some, None, refl, sym, ◌∙◌, ap, subst, append-nil, arith, inl, inr}
 use Rattle.std.specs.Prelude.{option_and_then}
 use Rattle.iso8601.specs.Prefixes.{Begins, NoneLonger, NoneBegins, BeginsLongest}
 use Rattle.iso8601.specs.inside.Reading.{or_else}
@@ -87,3 +87,18 @@ longest_of {V} Is {bytes} {text} {rest} {value} same found longest =
 
 pub none_of : {V : Type 0} (Is : List ℕ → V → Type 0) {bytes text : List ℕ} → bytes ≡ text → NoneBegins Is bytes → NoneBegins Is text
 none_of Is same none = let P : List ℕ → Type 0 = λ b. NoneBegins Is b in subst P same none
+
+-- ---- a whole text
+
+nothing : (rest : List ℕ) → length rest ≤ 0 → rest ≡ []
+nothing [] h = refl
+nothing (b ∷ bs) h = absurd (omega arith)
+
+-- what is read in front of a text of the grammar is the text and its one value
+pub whole_text : {V : Type 0} (Is : List ℕ → V → Type 0) → ((text : List ℕ) (a b : V) → Is text a → Is text b → a ≡ b)
+    → (text : List ℕ) (v : V) → Is text v → (value : V) (rest : List ℕ) → Begins Is text value rest → NoneLonger Is text rest → (value ≡ v) × (rest ≡ [])
+whole_text {V} Is one text v is value rest found longest =
+    let all : rest ≡ [] = nothing rest (longest v [] (text, is, sym (append-nil text))) in
+    let same : found.0 ≡ text = sym (found.2 ∙ ap (λ (r : List ℕ). found.0 ++ r) all ∙ append-nil found.0) in
+    let P : List ℕ → Type 0 = λ t. Is t value in
+    (one text value v (subst P same found.1) is, all)

@@ -197,3 +197,18 @@ unfolding week_one
 week_one-cycle y k =
     let same : after_monday ((new_year y +ℤ (pos 146_097 *ℤ k)) +ℤ pos 3) ≡ after_monday (new_year y +ℤ pos 3) = ap after_monday (later_weeks (new_year y) k) ∙ after_monday-weeks (new_year y +ℤ pos 3) (pos 20_871 *ℤ k) in
     rw (new_year-cycle y k, same) (omega (arith, ints))
+
+monday_of : (day : ℤ) → after_monday (day -ℤ after_monday day) ≡ pos 0
+unfolding after_monday
+monday_of day =
+    let a = weeks_of (day +ℤ pos 3) in
+    let b = weeks_of ((day -ℤ int_rem_euclid (day +ℤ pos 3) (pos 7)) +ℤ pos 3) in
+    omega (arith, ints)
+
+pub week_one_monday : (y : ℤ) → after_monday (week_one y) ≡ pos 0
+unfolding week_one
+week_one_monday y = monday_of (new_year y +ℤ pos 3)
+
+pub first_day : new_year (pos 1970) ≡ pos 0
+unfolding new_year
+first_day = refl

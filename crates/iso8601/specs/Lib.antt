@@ -9,5 +9,6 @@ pub mod Calendar
 pub mod Moments
 pub mod Written
 pub mod WrittenDurations
+pub mod Ranges
 pub mod Lengths
 pub mod inside

@@ -1,30 +1,59 @@
-//! Laws of the grammars, which no call needs.
-ghost use Rattle.std.specs.Prelude.{◌≡◌, ℕ, List};
+//! Laws of dates, times, date-times and durations, each for every value: functions that do nothing.
+ghost use Rattle.std.specs.Prelude.{◌≡◌, ℕ, List, [], ℤ, pos, neg_ℤ, ◌+ℤ◌, ◌≤ℤ◌, ◌↔◌};
+ghost use Rattle.iso8601.specs.Calendar.{IsCivilDay, after_monday, days_in_year, new_year, week_one};
 ghost use Rattle.iso8601.specs.Dates.{IsDate};
-ghost use Rattle.iso8601.specs.declared.types.Date.{Date};
-ghost use Rattle.iso8601.specs.declared.types.Time.{Time};
-ghost use Rattle.iso8601.specs.Times.{IsTime};
-ghost use Rattle.iso8601.specs.Durations.{IsDuration};
-ghost use Rattle.iso8601.specs.declared.types.Duration.{Duration};
 ghost use Rattle.iso8601.specs.DateTimes.{IsDateTime};
+ghost use Rattle.iso8601.specs.Durations.{IsDuration};
+ghost use Rattle.iso8601.specs.Prefixes.{Begins, NoneLonger};
+ghost use Rattle.iso8601.specs.Ranges.{IsDateInRange, IsDateTimeInRange, IsDurationInRange, IsTimeInRange};
+ghost use Rattle.iso8601.specs.Times.{IsTime};
+ghost use Rattle.iso8601.specs.Written.{date_text, date_time_text, time_text};
+ghost use Rattle.iso8601.specs.WrittenDurations.{duration_text};
+ghost use Rattle.iso8601.specs.declared.types.Date.{Date};
 ghost use Rattle.iso8601.specs.declared.types.DateTime.{DateTime};
+ghost use Rattle.iso8601.specs.declared.types.Duration.{Duration};
+ghost use Rattle.iso8601.specs.declared.types.Time.{Time};
 
-/// A text has one date at most.
-pub fn one_date()
-    ensures { (text : List ℕ) (a b : Date) → IsDate text a → IsDate text b → a ≡ b }
+/// A text has one value at most.
+pub fn a_text_has_one_value()
+    ensures date { (text : List ℕ) (a b : Date) → IsDate text a → IsDate text b → a ≡ b }
+    ensures time { (text : List ℕ) (a b : Time) → IsTime text a → IsTime text b → a ≡ b }
+    ensures date_time { (text : List ℕ) (a b : DateTime) → IsDateTime text a → IsDateTime text b → a ≡ b }
+    ensures duration { (text : List ℕ) (a b : Duration) → IsDuration text a → IsDuration text b → a ≡ b }
 {}
 
-/// A text has one time at most.
-pub fn one_time()
-    ensures { (text : List ℕ) (a b : Time) → IsTime text a → IsTime text b → a ≡ b }
+/// The written text of a value in range is in the grammar, with this value.
+pub fn a_written_text_spells_its_value()
+    ensures date { (date : Date) → IsDateInRange date → IsDate (date_text date) date }
+    ensures time { (time : Time) → IsTimeInRange time → IsTime (time_text time) time }
+    ensures date_time { (t : DateTime) → IsDateTimeInRange t → IsDateTime (date_time_text t) t }
+    ensures duration { (d : Duration) → IsDurationInRange d → IsDuration (duration_text d) d }
 {}
 
-/// A text has one date-time at most.
-pub fn one_date_time()
-    ensures { (text : List ℕ) (a b : DateTime) → IsDateTime text a → IsDateTime text b → a ≡ b }
+/// What the parsers answer of the written text of a value in range is this value, and nothing is left.
+pub fn a_written_text_is_read_back()
+    ensures date { (date value : Date) (rest : List ℕ) → IsDateInRange date
+        → Begins IsDate (date_text date) value rest → NoneLonger IsDate (date_text date) rest
+        → (value ≡ date) × (rest ≡ []) }
+    ensures time { (time value : Time) (rest : List ℕ) → IsTimeInRange time
+        → Begins IsTime (time_text time) value rest → NoneLonger IsTime (time_text time) rest
+        → (value ≡ time) × (rest ≡ []) }
+    ensures date_time { (t value : DateTime) (rest : List ℕ) → IsDateTimeInRange t
+        → Begins IsDateTime (date_time_text t) value rest → NoneLonger IsDateTime (date_time_text t) rest
+        → (value ≡ t) × (rest ≡ []) }
+    ensures duration { (d value : Duration) (rest : List ℕ) → IsDurationInRange d
+        → Begins IsDuration (duration_text d) value rest → NoneLonger IsDuration (duration_text d) rest
+        → (value ≡ d) × (rest ≡ []) }
 {}
 
-/// A text has one duration at most.
-pub fn one_duration()
-    ensures { (text : List ℕ) (a b : Duration) → IsDuration text a → IsDuration text b → a ≡ b }
+/// Day 0 is 1 January 1970, each year begins behind the days of the one before, and week 1 begins on the Monday that is
+/// nearest to 1 January. The civil days are those from -4371587 to 2932896.
+pub fn years_and_weeks_follow_each_other()
+    ensures epoch { new_year (pos 1970) ≡ pos 0 }
+    ensures next { (year : ℤ) → new_year (year +ℤ pos 1) ≡ new_year year +ℤ pos (days_in_year year) }
+    ensures monday { (year : ℤ) → after_monday (week_one year) ≡ pos 0 }
+    ensures near { (year : ℤ) → (new_year year ≤ℤ (week_one year +ℤ pos 3))
+        × (week_one year ≤ℤ (new_year year +ℤ pos 3)) }
+    ensures civil { (day : ℤ) → IsCivilDay day
+        ↔ ((neg_ℤ (pos 4_371_587) ≤ℤ day) × (day ≤ℤ pos 2_932_896)) }
 {}
