@@ -1,9 +1,9 @@
 -- Words and the names in front of texts: what stands before the first space is fixed by the text.
-use Rattle.std.proofs.Common.{◌≡◌, ◌≢◌, ℕ, suc, ◌<◌, ◌==◌, false, List, [], ◌∷◌, ◌++◌, length, get_or, Option, Some, None, refl, sym, ◌∙◌, arith, inl, inr}
+use Rattle.std.proofs.Common.{◌≡◌, ◌≢◌, ℕ, suc, ◌<◌, ◌==◌, ◌&&◌, not, Bool, true, false, List, [], ◌∷◌, ◌++◌, length, get_or, Option, Some, None, refl, sym, ◌∙◌, arith, inl, inr}
 use Rattle.std.specs.Prelude.{unwrap_or}
 use Rattle.std.proofs.lemmas.Bool.Decides.{nat_tests}
 use Rattle.forms.specs.declared.form.Form.{Form}
-use Rattle.forms.specs.declared.form.Form.TheVariants.{PgIso, Postgres}
+use Rattle.forms.specs.declared.form.Form.TheVariants.{FileTime, PgIso, Postgres}
 use Rattle.forms.specs.Names.{name_of}
 use Rattle.forms.specs.Replies.{IsTail}
 use Rattle.forms.specs.Reading.{NoSpace, behind, IsNamed}
@@ -19,10 +19,26 @@ pub no_space_at : (word : List ℕ) → ((i : ℕ) → i < length word → get_o
 no_space_at [] h = tt
 no_space_at (byte ∷ bytes) h = (not_space byte (h 0 (omega arith)), no_space_at bytes (λ i below. h (suc i) (omega arith)))
 
+abbrev has_no_space : List ℕ → Bool
+has_no_space [] = true
+has_no_space (byte ∷ bytes) = not (byte == 32) && has_no_space bytes
+
+no_space_if : (t : Bool) (bytes : List ℕ) → (not t && has_no_space bytes) ≡ true → (t ≡ false) × (has_no_space bytes ≡ true)
+no_space_if true bytes h = absurd (let e : false ≡ true = h in cc)
+no_space_if false bytes h = (refl, h)
+
+no_space_tested : (word : List ℕ) → has_no_space word ≡ true → NoSpace word
+no_space_tested [] h = tt
+no_space_tested (byte ∷ bytes) h = let both = no_space_if (byte == 32) bytes h in (both.0, no_space_tested bytes both.1)
+
 -- no form's name has a space
+spaceless : (form : Form) → has_no_space (name_of form) ≡ true
+spaceless FileTime = refl
+spaceless PgIso = refl
+spaceless Postgres = refl
+
 name_no_space : (form : Form) → NoSpace (name_of form)
-name_no_space PgIso = (refl, (refl, (refl, (refl, (refl, tt)))))
-name_no_space Postgres = (refl, (refl, (refl, (refl, (refl, (refl, (refl, (refl, tt))))))))
+name_no_space form = no_space_tested (name_of form) (spaceless form)
 
 same_behind : (r s : Option (List ℕ)) → behind r ≡ behind s → r ≡ s
 same_behind None None h = refl

@@ -1,7 +1,12 @@
 pub mod Outside
 pub mod Memory
 pub mod Lines
+pub mod Values
+pub mod Answers
+pub mod form
 pub mod Names
+pub mod Forms
+pub mod ReadBack
 pub mod Replies
 pub mod Ends
 pub mod Reading

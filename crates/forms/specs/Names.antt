@@ -1,23 +1,29 @@
--- The forms: the name of each, and the style of PostgreSQL that it is.
-use Rattle.std.specs.Prelude.{ℕ, List, codes}
+-- The forms and the causes by name, and the interval forms, which are the styles of PostgreSQL.
+use Rattle.std.specs.Prelude.{ℕ, List, codes, Option, Some, None}
 use Rattle.pg_interval_2.specs.declared.style.Style.{Style}
 use Rattle.pg_interval_2.specs.declared.style.Style.TheVariants as style
 use Rattle.forms.specs.declared.form.Form.{Form}
-use Rattle.forms.specs.declared.form.Form.TheVariants.{PgIso, Postgres}
+use Rattle.forms.specs.declared.form.Form.TheVariants.{FileTime, PgIso, Postgres}
 use Rattle.forms.specs.declared.cause.Cause.{Cause}
-use Rattle.forms.specs.declared.cause.Cause.TheVariants.{Syntax, Range}
+use Rattle.forms.specs.declared.cause.Cause.TheVariants.{Syntax, NoSuchMoment, Range, Kind, Precision, Ambiguous}
 
 -- a form's name
 abbrev pub name_of : Form → List ℕ
+name_of FileTime = codes "FileTime"
 name_of PgIso = codes "PgIso"
 name_of Postgres = codes "Postgres"
 
--- a form's style
-abbrev pub style_of : Form → Style
-style_of PgIso = style.Iso
-style_of Postgres = style.Postgres
+-- the style of an interval form
+abbrev pub style_of : Form → Option Style
+style_of PgIso = Some style.Iso
+style_of Postgres = Some style.Postgres
+style_of _ = None
 
 -- a cause's name
 abbrev pub cause_name : Cause → List ℕ
 cause_name Syntax = codes "Syntax"
+cause_name NoSuchMoment = codes "NoSuchMoment"
 cause_name Range = codes "Range"
+cause_name Kind = codes "Kind"
+cause_name Precision = codes "Precision"
+cause_name Ambiguous = codes "Ambiguous"

@@ -1,12 +1,9 @@
 -- What private functions answer: cited by private contracts alone.
 use Rattle.std.specs.Prelude.{◌≡◌, ◌==◌, ℕ, false, List, [], ◌∷◌, ◌++◌, codes, Option, Some, None}
 use Rattle.std.specs.Io.KnownBytes.{Appends}
-use Rattle.pg_interval_2.specs.Denotes.{IsRange}
-use Rattle.pg_interval_2.specs.declared.error.ParseError.{ParseError}
-use Rattle.forms.specs.declared.cause.Cause.TheVariants.{Syntax, Range}
 use Rattle.forms.specs.declared.form.Form.{Form}
 use Rattle.forms.specs.Names.{name_of}
-use Rattle.forms.specs.Replies.{IsRefused, IsReplyLine}
+use Rattle.forms.specs.Replies.{IsReplyLine}
 
 -- no byte is a space
 abbrev pub NoSpace : List ℕ → Type 0
@@ -21,11 +18,6 @@ behind (Some rest) = codes " " ++ rest
 -- the text begins with the form's name, and then ends or goes on behind a space
 abbrev pub IsNamed : List ℕ → Form → Option (List ℕ) → Type 0
 IsNamed text form rest = text ≡ name_of form ++ behind rest
-
--- what a reader's error says of a text of the form
-pub record IsRefusedBy (form : Form) (text : List ℕ) (error : ParseError) : Type 0 where
-  pub range : IsRange error → IsRefused form text Range
-  pub no_range : (IsRange error → ⊥) → IsRefused form text Syntax
 
 -- known bytes grow by a front of a text
 pub record AppendsFront (old new : Option (List ℕ)) (text : List ℕ) : Type 0 where

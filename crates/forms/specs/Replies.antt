@@ -1,29 +1,34 @@
 -- Requests and replies. A line is a request: a form's name, a space, a form's name, then the end or a space and a text.
--- Its reply is the second form's written text of what the text denotes by the first form, or `refused` and the cause.
-use Rattle.std.specs.Prelude.{◌≡◌, ◌⊎◌, ℕ, List, [], ◌++◌, codes, Result, Ok, Err, IsUtf8}
+-- Its reply is what the text is in the second form, or `refused` and the cause.
+use Rattle.std.specs.Prelude.{◌≡◌, ◌⊎◌, ℕ, List, [], ◌++◌, codes, Option, Some, Result, Ok, Err, IsUtf8}
 use Rattle.scan_core.specs.Join.{IsJoin}
 use Rattle.scan_core.specs.declared.share.Part.{Part}
 use Rattle.pg_interval_2.specs.declared.interval.Interval.{Interval}
+use Rattle.pg_interval_2.specs.declared.style.Style.{Style}
 use Rattle.pg_interval_2.specs.Denotes.{Denotes, HasNoShape, Misfits}
 use Rattle.pg_interval_2.specs.Styles.{Shape, written}
 use Rattle.forms.specs.declared.form.Form.{Form}
 use Rattle.forms.specs.declared.cause.Cause.{Cause}
 use Rattle.forms.specs.declared.cause.Cause.TheVariants.{Syntax, Range}
 use Rattle.forms.specs.Names.{name_of, style_of, cause_name}
+use Rattle.forms.specs.ReadBack.{Turns}
 
--- the text is of the form and stands for the interval
-abbrev pub IsValueOf : Form → List ℕ → Interval → Type 0
-IsValueOf form text t = Denotes (Shape (style_of form)) text t
+-- Between two interval forms: the second form's written text of the one interval that the text denotes by the first form's grammar,
+-- `Syntax` exactly without its shape, and `Range` exactly where a share or a sum doesn't fit.
+abbrev pub IsIntervalAnswer : Style → Style → List ℕ → Result (List ℕ) Cause → Type 0
+IsIntervalAnswer from to text (Ok out) = (t : Interval) × Denotes (Shape from) text t × (out ≡ written to t)
+IsIntervalAnswer from to text (Err Syntax) = HasNoShape (Shape from) text
+IsIntervalAnswer from to text (Err Range) = (part : Part) × Misfits (Shape from) text part
+IsIntervalAnswer from to text (Err _) = ⊥
 
--- why a text of a form stands for no interval: it hasn't the form's shape, or its counts don't fit
-abbrev pub IsRefused : Form → List ℕ → Cause → Type 0
-IsRefused form text Syntax = HasNoShape (Shape (style_of form)) text
-IsRefused form text Range = (part : Part) × Misfits (Shape (style_of form)) text part
+-- the answer between two styles, and another where one of the forms is none
+abbrev pub IsAnswerBy : Option Style → Option Style → (List ℕ → Result (List ℕ) Cause → Type 0) → List ℕ → Result (List ℕ) Cause → Type 0
+IsAnswerBy (Some from) (Some to) Other = IsIntervalAnswer from to
+IsAnswerBy _ _ Other = Other
 
--- what a text of one form is in another: the written text of its interval, or the cause why there is none
+-- what a text of one form is in another, or the cause why it is nothing
 abbrev pub IsAnswer : Form → Form → List ℕ → Result (List ℕ) Cause → Type 0
-IsAnswer from to text (Ok out) = (t : Interval) × IsValueOf from text t × (out ≡ written (style_of to) t)
-IsAnswer from to text (Err cause) = IsRefused from text cause
+IsAnswer from to = IsAnswerBy (style_of from) (style_of to) (Turns from to)
 
 -- an answer as it stands in a reply
 abbrev pub answer_text : Result (List ℕ) Cause → List ℕ

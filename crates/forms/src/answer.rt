@@ -1,19 +1,18 @@
 //! One text of a form in another form, and the reply to a line.
-ghost use Rattle.std.specs.Prelude.{◌≡◌, ◌≤◌, ◌↔◌, ◌++◌, codes, length, IfOk, IfErr, IsOkAnd, IsErrOf};
+ghost use Rattle.std.specs.Prelude.{◌≡◌, ◌≤◌, ◌↔◌, ◌++◌, List, ℕ, codes, length, Result as AnyResult, Ok, Err, IfOk, IsErrOf};
 ghost use Rattle.std.specs.String.{string_bytes};
 ghost use Rattle.arrayvec.specs.ArrayString.{array_string_len};
-ghost use Rattle.scan_core.specs.declared.share.Part.{Part as AnyPart};
-ghost use Rattle.pg_interval_2.specs.declared.interval.Interval.{Interval as AnyInterval};
-ghost use Rattle.pg_interval_2.specs.Denotes.{HasNoShape, Misfits};
-ghost use Rattle.pg_interval_2.specs.Styles.{Shape, written};
-ghost use Rattle.forms.specs.Names.{style_of};
-ghost use Rattle.forms.specs.Replies.{IsValueOf, IsRefused, IsReply};
-ghost use Rattle.forms.specs.Reading.{IsRefusedBy};
+ghost use Rattle.forms.specs.declared.cause.Cause.{Cause as AnyCause};
+ghost use Rattle.forms.specs.Answers.{bytes_of};
+ghost use Rattle.forms.specs.ReadBack.{Turns};
+ghost use Rattle.forms.specs.Replies.{IsAnswer, IsReply};
 
 use crate::cause::Cause;
 use crate::form::Form;
+use crate::laws::{all_lawful, answers_are_readings_written};
 use crate::line::request;
-use pg_interval_2::{Interval, ParseError, Short};
+use crate::value::{read_value, write_value};
+use scan_core::Short;
 use std::alloc::Global;
 
 /// Why `convert` has no text.
@@ -27,49 +26,32 @@ pub enum ConvertError {
 
 /// The text of one form in another form: `reply(Form::PgIso, Form::PgIso, "P1Y1Y")` is `P2Y`. It takes no memory.
 ///
-/// It is `Syntax` exactly where the text hasn't the shape of `from`, and `Range` exactly where it has and a count
-/// or a sum of counts leaves its type.
+/// It is what `write_value` makes in the second form of what `read_value` makes in the first, and the cause of the one that refuses.
 pub fn reply(from: Form, to: Form, text: &str) -> Result<Short, Cause>
-    ensures ok { IfOk result (λ out. (t : AnyInterval) × IsValueOf from text.now t × (out.bytes ≡ written (style_of to) t)) }
-    ensures all { (t : AnyInterval) → IsValueOf from text.now t → IsOkAnd result (λ out. out.bytes ≡ written (style_of to) t) }
-    ensures no_shape { IsErrOf result Cause.Syntax ↔ HasNoShape (Shape (style_of from)) text.now }
-    ensures misfit { IsErrOf result Cause.Range ↔ ((part : AnyPart) × Misfits (Shape (style_of from)) text.now part) }
+    ensures answer { (answer : AnyResult (List ℕ) AnyCause) → (bytes_of result ≡ answer) ↔ IsAnswer from to text.now answer }
+    ensures turned { (answer : AnyResult (List ℕ) AnyCause) → (bytes_of result ≡ answer) ↔ Turns from to text.now answer }
     ensures len { IfOk result (λ out. array_string_len out ≤ 96) }
 {
-    let interval = interval_of(from, text)?;
-    Ok(interval.text(to.style()))
+    all_lawful();
+    answers_are_readings_written();
+    turned(from, to, text)
 }
 
-/// The interval that a text of the form stands for, or the cause why it stands for none.
-fn interval_of(form: Form, text: &str) -> Result<Interval, Cause>
-    ensures ok { IfOk result (IsValueOf form text.now) }
-    ensures err { IfErr result (IsRefused form text.now) }
+/// The text of one form in another form.
+fn turned(from: Form, to: Form, text: &str) -> Result<Short, Cause>
+    ensures turned { Turns from to text.now (bytes_of result) }
+    ensures len { IfOk result (λ out. array_string_len out ≤ 96) }
 {
-    match read(form, text) {
-        Ok(interval) => Ok(interval),
-        Err(error) if error.is_range() => Err(Cause::Range),
-        Err(_) => Err(Cause::Syntax),
-    }
-}
-
-/// What the form's reader answers.
-fn read(form: Form, text: &str) -> Result<Interval, ParseError>
-    ensures ok { IfOk result (IsValueOf form text.now) }
-    ensures err { IfErr result (IsRefusedBy form text.now) }
-{
-    match form {
-        Form::PgIso => Interval::from_iso(text),
-        Form::Postgres => Interval::from_postgres(text),
-    }
+    let value = read_value(from, text)?;
+    write_value(to, value)
 }
 
 /// The answer of `reply` as a `String`. `Refused` has its cause, exactly where `reply` refuses; `NoMemory` may stand
 /// in place of a text alone.
 pub fn convert(alloc: Global, from: Form, to: Form, text: &str) -> Result<String, ConvertError>
-    ensures ok { IfOk result (λ out. (t : AnyInterval) × IsValueOf from text.now t × (string_bytes out ≡ written (style_of to) t)) }
-    ensures no_shape { IsErrOf result (ConvertError.Refused Cause.Syntax) ↔ HasNoShape (Shape (style_of from)) text.now }
-    ensures misfit { IsErrOf result (ConvertError.Refused Cause.Range) ↔ ((part : AnyPart) × Misfits (Shape (style_of from)) text.now part) }
-    ensures no_memory { IsErrOf result ConvertError.NoMemory → (t : AnyInterval) × IsValueOf from text.now t }
+    ensures ok { IfOk result (λ out. IsAnswer from to text.now (Ok (string_bytes out))) }
+    ensures refused { (cause : AnyCause) → IsErrOf result (ConvertError.Refused cause) ↔ IsAnswer from to text.now (Err cause) }
+    ensures no_memory { IsErrOf result ConvertError.NoMemory → (out : List ℕ) × IsAnswer from to text.now (Ok out) }
 {
     match reply(from, to, text) {
         Ok(out) => match String::from_str(alloc, out.as_str()) {

@@ -2,13 +2,22 @@
 ghost use Rattle.std.specs.Prelude.{◌≡◌};
 ghost use Rattle.forms.specs.Names.{cause_name};
 
-/// Why a text isn't answered, in the order in which the causes are judged.
+/// Why a text isn't answered, in the order in which the causes are judged: those of reading first. `Range` is judged at reading and
+/// again, behind `Kind`, at writing.
 #[derive(Clone, Copy, Debug, PartialEq, Eq)]
 pub enum Cause {
     /// The text hasn't the form's shape.
     Syntax,
-    /// The text has the shape, and a count or a sum leaves its type.
+    /// The text has the shape, and its fields name no day or no time of day.
+    NoSuchMoment,
+    /// A number of the text, or the value, leaves the bounds of its form.
     Range,
+    /// The target form has no values of this kind.
+    Kind,
+    /// The value is no whole number of the target form's least unit.
+    Precision,
+    /// The target form's text would be read as another value.
+    Ambiguous,
 }
 
 impl Cause {
@@ -18,7 +27,11 @@ impl Cause {
     {
         match self {
             Cause::Syntax => "Syntax",
+            Cause::NoSuchMoment => "NoSuchMoment",
             Cause::Range => "Range",
+            Cause::Kind => "Kind",
+            Cause::Precision => "Precision",
+            Cause::Ambiguous => "Ambiguous",
         }
     }
 }

@@ -1,16 +1,19 @@
-//! The written forms and their names.
+//! The written forms and their names. Each has a module of its own, which reads and writes it.
 ghost use Rattle.std.specs.Prelude.{◌≡◌, ◌↔◌, Some};
-ghost use Rattle.forms.specs.Names.{name_of, style_of};
+ghost use Rattle.forms.specs.Names.{name_of};
 ghost use Rattle.forms.specs.declared.form.Form.{Form as AnyForm};
 
-use pg_interval_2::Style;
+pub mod file_time;
+pub mod intervals;
 
-/// A written form of intervals.
+/// A written form of moments, days, times of day, intervals or lengths.
 #[derive(Clone, Copy, Debug, PartialEq, Eq)]
 pub enum Form {
-    /// PostgreSQL's `iso_8601`: `P1Y2M3DT4H5M6S`.
+    /// Windows file times, the ticks of 100 nanoseconds since 1601: `116444736000000000`.
+    FileTime,
+    /// PostgreSQL's intervals in style `iso_8601`: `P1Y2M3DT4H5M6S`.
     PgIso,
-    /// PostgreSQL's `postgres`: `1 year 2 mons 3 days 04:05:06`.
+    /// PostgreSQL's intervals in style `postgres`: `1 year 2 mons 3 days 04:05:06`.
     Postgres,
 }
 
@@ -20,6 +23,7 @@ impl Form {
         ensures { (form : AnyForm) → (result ≡ Some form) ↔ (name.now ≡ name_of form) }
     {
         match name {
+            "FileTime" => Some(Form::FileTime),
             "PgIso" => Some(Form::PgIso),
             "Postgres" => Some(Form::Postgres),
             _ => None,
@@ -31,18 +35,9 @@ impl Form {
         ensures { result.now ≡ name_of self }
     {
         match self {
+            Form::FileTime => "FileTime",
             Form::PgIso => "PgIso",
             Form::Postgres => "Postgres",
-        }
-    }
-
-    /// The style of PostgreSQL that the form is.
-    pub(crate) fn style(self) -> Style
-        ensures { result ≡ style_of self }
-    {
-        match self {
-            Form::PgIso => Style::Iso,
-            Form::Postgres => Style::Postgres,
         }
     }
 }

@@ -1,26 +1,82 @@
-//! Laws of lines, replies and the ends of runs.
-ghost use Rattle.std.specs.Prelude.{◌≡◌, ◌⊎◌, ◌+◌, ◌-◌, ◌^◌, ◌<◌, List, ℕ, IfSome};
-ghost use Rattle.forms.specs.Lines.{lines};
-ghost use Rattle.forms.specs.Outside.{Rose};
-ghost use Rattle.forms.specs.Replies.{IsReply, AreReplies};
-ghost use Rattle.forms.specs.Ends.{Ended, EndsByLength, GainsFront, Streams};
+//! Laws of forms, lines, replies and the ends of runs.
+ghost use Rattle.std.specs.Prelude.{◌≡◌, ◌⊎◌, ◌↔◌, ◌+◌, ◌-◌, ◌^◌, ◌<◌, List, ℕ, Result as AnyResult, Ok, IfSome};
+ghost use Rattle.forms.specs.declared.cause.Cause.{Cause as AnyCause};
+ghost use Rattle.forms.specs.declared.form.Form.{Form as AnyForm};
 ghost use Rattle.forms.specs.declared.run_end.RunEnd.{RunEnd as AnyEnd};
 ghost use Rattle.forms.specs.declared.run_end.RunEnd.TheVariants.{TooLong, WriteFault};
+ghost use Rattle.forms.specs.declared.value.Value.{Value as AnyValue};
+ghost use Rattle.forms.specs.Ends.{Ended, EndsByLength, GainsFront, Streams};
+ghost use Rattle.forms.specs.Forms.{Reads, writes};
+ghost use Rattle.forms.specs.Lines.{lines};
+ghost use Rattle.forms.specs.Outside.{Rose};
+ghost use Rattle.forms.specs.ReadBack.{Turns, IsReadBack};
+ghost use Rattle.forms.specs.Replies.{IsAnswer, IsReply, AreReplies};
+ghost use Rattle.forms.specs.Values.{IsWithinBounds};
+ghost use Rattle.forms.specs.inside.Lawful.{Lawful};
 
 use crate::answer::line_reply;
+use crate::form::{file_time, intervals};
+
+/// Each form is lawful.
+pub(crate) fn all_lawful()
+    ensures { (form : AnyForm) → Lawful form }
+{
+    file_time::lawful();
+    intervals::lawful();
+}
+
+/// A text stands for one value at most in each form, and where it stands for none there is one cause.
+pub fn texts_have_one_reading()
+    ensures { (form : AnyForm) (text : List ℕ) (a b : AnyResult AnyValue AnyCause) → Reads form text a → Reads form text b → a ≡ b }
+{
+    all_lawful();
+}
+
+/// What a text stands for is within the bounds of values.
+pub fn read_values_are_within_bounds()
+    ensures { (form : AnyForm) (text : List ℕ) (value : AnyValue) → Reads form text (Ok value) → IsWithinBounds value }
+{
+    all_lawful();
+}
+
+/// The written text of a value stands for this value, or for one that is the same, whose text it is.
+pub fn written_texts_are_read_back()
+    ensures { (form : AnyForm) (value : AnyValue) (text : List ℕ) → IsWithinBounds value → writes form value ≡ Ok text → IsReadBack form value text }
+{
+    all_lawful();
+}
+
+/// Where a text of one form has an answer in another form, the answer stands there for the value of the text, or for one that is the same,
+/// whose text it is: so a second conversion into that form changes nothing.
+pub fn answers_are_read_back()
+    ensures { (from to : AnyForm) (text out : List ℕ) → IsAnswer from to text (Ok out) → (value : AnyValue) × Reads from text (Ok value) × IsReadBack to value out }
+{
+    all_lawful();
+    answers_are_readings_written();
+}
+
+/// What a reply is: that of the interval grammars and styles between interval forms, and reading and writing in turn elsewhere, say the same.
+pub fn answers_are_readings_written()
+    ensures { (from to : AnyForm) (text : List ℕ) (answer : AnyResult (List ℕ) AnyCause) → IsAnswer from to text answer ↔ Turns from to text answer }
+{}
 
 /// A line has exactly one reply. That there is one is shown by answering the line.
 pub fn one_reply(line: &[u8])
     ensures some { (out : List ℕ) × IsReply line.now out }
     ensures alone { (a b : List ℕ) → IsReply line.now a → IsReply line.now b → a ≡ b }
 {
+    all_lawful();
+    answers_are_readings_written();
     let _ = line_reply(line);
 }
 
 /// Lines have one list of replies at most.
 pub fn one_output()
     ensures { (lines : List (List ℕ)) (a b : List ℕ) → AreReplies lines a → AreReplies lines b → a ≡ b }
-{}
+{
+    all_lawful();
+    answers_are_readings_written();
+}
 
 /// A count of faults that stands still didn't rise, but at its greatest value.
 pub fn still_count_is_no_fault()

@@ -17,6 +17,7 @@ mod outside;
 mod pieces;
 mod program;
 mod run_end;
+mod value;
 
 pub use answer::{ConvertError, convert, reply};
 pub use cause::Cause;
@@ -26,3 +27,5 @@ pub use memory_source::MemSource;
 pub use outside::{Failed, Sink, Source};
 pub use program::{run, top};
 pub use run_end::RunEnd;
+pub use program::{RunEnd, run, top};
+pub use value::{Value, read_value, write_value};

@@ -1,0 +1,5 @@
+use Rattle.forms.proofs.FileTimes.{file_times}
+use Rattle.forms.proofs.form.file_time.lawful.Goals as goal
+
+pub returns : goal.returns
+returns c = file_times c.texts_write_one_number.ensures.alone c.texts_write_one_number.ensures.digits

@@ -1,0 +1,12 @@
+use Rattle.pg_interval_2.specs.Denotes.{NoPlace}
+use Rattle.pg_interval_2.specs.Postgres.{IsPostgresBadName}
+use Rattle.pg_interval_2.specs.Messages.{not_iso, not_postgres}
+use Rattle.pg_interval_2.specs.declared.style.Style.TheVariants.{Iso, Postgres}
+use Rattle.forms.proofs.Intervals.{refused_by}
+use Rattle.forms.proofs.form.intervals.interval_in.Goals as goal
+
+pub returns-in-Iso-clause-err : goal.returns-in-Iso-clause-err
+returns-in-Iso-clause-err c = refused_by c.args.style Iso NoPlace not_iso c.args.text.now c.from_iso.result c.in-Iso.is c.from_iso.ensures.err
+
+pub returns-in-Postgres-clause-err : goal.returns-in-Postgres-clause-err
+returns-in-Postgres-clause-err c = refused_by c.args.style Postgres IsPostgresBadName not_postgres c.args.text.now c.from_postgres.result c.in-Postgres.is c.from_postgres.ensures.err

@@ -1,0 +1,12 @@
+use Rattle.pg_interval_2.specs.declared.style.Style.TheVariants.{Iso, Postgres}
+use Rattle.forms.specs.declared.form.Form.TheVariants as form
+use Rattle.forms.proofs.Intervals.{intervals}
+use Rattle.forms.proofs.Replies.{of_style}
+use Rattle.forms.proofs.form.intervals.lawful.Goals as goal
+use Rattle.std.proofs.Common.{refl}
+
+pub returns-clause-pg_iso : goal.returns-clause-pg_iso
+returns-clause-pg_iso c = intervals form.PgIso Iso (of_style form.PgIso Iso refl) (c.text_has_one_list_of_counts.ensures Iso) (c.written_text_is_read_back.ensures.denotes Iso)
+
+pub returns-clause-postgres : goal.returns-clause-postgres
+returns-clause-postgres c = intervals form.Postgres Postgres (of_style form.Postgres Postgres refl) (c.text_has_one_list_of_counts.ensures Postgres) (c.written_text_is_read_back.ensures.denotes Postgres)

@@ -1,0 +1,5 @@
+use Rattle.forms.proofs.Replies.{answers_turned}
+use Rattle.forms.proofs.laws.answers_are_readings_written.Goals as goal
+
+pub returns : goal.returns
+returns c = answers_turned

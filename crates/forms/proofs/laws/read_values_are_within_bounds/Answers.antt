@@ -1,0 +1,4 @@
+use Rattle.forms.proofs.laws.read_values_are_within_bounds.Goals as goal
+
+pub returns : goal.returns
+returns c = λ form. (c.all_lawful.ensures form).within

@@ -1,0 +1,2 @@
+pub mod FileTime
+pub mod Intervals

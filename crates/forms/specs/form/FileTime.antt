@@ -1,0 +1,26 @@
+-- File times: the raw count of ticks of 100 nanoseconds since 1601-01-01 00:00:00 UTC, as Microsoft's `FILETIME` has it, in decimal.
+use Rattle.std.specs.Prelude.{ℕ, ◌-◌, ◌*◌, ◌/◌, ◌%◌, ◌^◌, ◌==◌, List, ℤ, pos, negsuc, ◌-ℤ◌, Result, Ok, Err, nat_lt, if◌then◌else◌}
+use Rattle.nt_time.specs.Text.{IsTextOf}
+use Rattle.nt_time.specs.FileTime.{unix_nanos}
+use Rattle.forms.specs.declared.cause.Cause.{Cause}
+use Rattle.forms.specs.declared.cause.Cause.TheVariants.{Range, Kind, Precision}
+use Rattle.forms.specs.declared.value.Value.{Value}
+use Rattle.forms.specs.declared.value.Value.TheVariants.{Instant}
+
+-- decimal digits, with a plus before them or without, and the count that they write
+abbrev pub Spells : List ℕ → ℕ → Type 0
+Spells = IsTextOf
+
+-- the instant of a count that 64 bits hold
+unfoldable pub worth : ℕ → Result Value Cause
+worth ticks = if nat_lt ticks (2 ^ 64) then Ok (Instant (unix_nanos ticks)) else Err Range
+
+-- the count of ticks so many nanoseconds after the first one
+unfoldable pub ticks_after : ℤ → Result ℕ Cause
+ticks_after (negsuc n) = Err Range
+ticks_after (pos nanos) = if nat_lt (100 * (2 ^ 64 - 1)) nanos then Err Range else if (nanos % 100 == 0) then Ok (nanos / 100) else Err Precision
+
+-- the count at an instant
+abbrev pub held : Value → Result ℕ Cause
+held (Instant nanos) = ticks_after (nanos -ℤ unix_nanos 0)
+held _ = Err Kind

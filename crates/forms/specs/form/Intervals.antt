@@ -1,0 +1,33 @@
+-- The interval forms, each an output style of PostgreSQL: counts of units, whose sums are an interval.
+use Rattle.std.specs.Prelude.{ℕ, ◌/◌, ◌%◌, ◌==◌, ◌&&◌, List, ℤ, pos, Result, Ok, Err, if◌then◌else◌}
+use Rattle.scan_core.specs.Count.{Count}
+use Rattle.scan_core.specs.Shares.{fits_type}
+use Rattle.scan_core.specs.Sums.{total, fits}
+use Rattle.scan_core.specs.declared.share.Part.TheVariants.{Months, Days, Micros}
+use Rattle.pg_interval_2.specs.declared.interval.Interval.{Interval}
+use Rattle.forms.specs.declared.cause.Cause.{Cause}
+use Rattle.forms.specs.declared.cause.Cause.TheVariants.{Range, Kind, Precision}
+use Rattle.forms.specs.declared.value.Value.{Value}
+use Rattle.forms.specs.declared.value.Value.TheVariants.{Triple, Length}
+
+-- the sums of counts that fit
+unfoldable pub worth : List Count → Result Value Cause
+worth counts = if fits counts then Ok (Triple (total Months counts) (total Days counts) (total Micros counts)) else Err Range
+
+-- the interval of three parts that fit its types
+unfoldable pub interval_of : ℤ → ℤ → ℤ → Result Interval Cause
+interval_of months days micros = if fits_type Months months && (fits_type Days days && fits_type Micros micros) then Ok (record { months = months; days = days; microseconds = micros }) else Err Range
+
+-- a length in whole days of 86_400 seconds and the microseconds beyond them
+abbrev pub length_in_days : ℕ → Interval
+length_in_days nanos = record { months = pos 0; days = pos (nanos / 86_400_000_000_000); microseconds = pos (nanos % 86_400_000_000_000 / 1000) }
+
+-- the interval of a length: as many days as fit, and whole microseconds
+unfoldable pub interval_of_length : ℕ → Result Interval Cause
+interval_of_length nanos = if fits_type Days (pos (nanos / 86_400_000_000_000)) then (if (nanos % 1000 == 0) then Ok (length_in_days nanos) else Err Precision) else Err Range
+
+-- the interval of a value
+abbrev pub held : Value → Result Interval Cause
+held (Triple months days micros) = interval_of months days micros
+held (Length nanos) = interval_of_length nanos
+held _ = Err Kind

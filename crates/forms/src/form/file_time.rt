@@ -1,0 +1,74 @@
+//! File times as a form.
+ghost use Rattle.std.specs.Prelude.{◌≡◌, ◌≤◌, ◌-ℤ◌, decimal, IfOk};
+ghost use Rattle.arrayvec.specs.ArrayString.{array_string_len};
+ghost use Rattle.nt_time.specs.FileTime.{unix_nanos};
+ghost use Rattle.forms.specs.declared.form.Form.{Form as AnyForm};
+ghost use Rattle.forms.specs.Answers.{bytes_of};
+ghost use Rattle.forms.specs.Forms.{Reads, writes};
+ghost use Rattle.forms.specs.Values.{IsWithinBounds};
+ghost use Rattle.forms.specs.form.FileTime.{ticks_after};
+ghost use Rattle.forms.specs.inside.Lawful.{Lawful};
+
+use crate::cause::Cause;
+use crate::value::Value;
+use nt_time::FileTime;
+use nt_time::error::ParseFileTimeCause;
+use scan_core::{Short, push_num};
+use std::str::FromStr;
+
+/// The value of a raw count in decimal.
+pub fn read(text: &str) -> Result<Value, Cause>
+    ensures { Reads AnyForm.FileTime text.now result }
+{
+    match FileTime::from_str(text) {
+        Ok(time) => Ok(Value::Instant(time.to_unix_time_nanos())),
+        Err(error) => match error.cause() {
+            ParseFileTimeCause::Empty | ParseFileTimeCause::InvalidDigit => Err(Cause::Syntax),
+            ParseFileTimeCause::Overflow => Err(Cause::Range),
+        },
+    }
+}
+
+/// The raw count at an instant, in decimal.
+pub fn write(value: Value) -> Result<Short, Cause>
+    requires { IsWithinBounds value }
+    ensures bytes { bytes_of result ≡ writes AnyForm.FileTime value }
+    ensures len { IfOk result (λ out. array_string_len out ≤ 96) }
+{
+    let Value::Instant(nanos) = value else {
+        return Err(Cause::Kind);
+    };
+    let ticks = ticks_at(nanos)?;
+    Ok(digits_of(ticks))
+}
+
+/// The decimal digits of a number.
+fn digits_of(number: u64) -> Short
+    ensures bytes { result.bytes ≡ decimal number }
+    ensures len { array_string_len result ≤ 20 }
+{
+    let mut out = Short::new();
+    push_num(&mut out, number);
+    out
+}
+
+/// The count of ticks at an instant.
+fn ticks_at(nanos: i128) -> Result<u64, Cause>
+    ensures { result ≡ ticks_after (nanos -ℤ unix_nanos 0) }
+{
+    let Ok(time) = FileTime::from_unix_time_nanos(nanos) else {
+        return Err(Cause::Range);
+    };
+    if time.to_unix_time_nanos() == nanos {
+        Ok(time.to_raw())
+    } else {
+        Err(Cause::Precision)
+    }
+}
+
+/// File times are a lawful form.
+pub fn lawful()
+    ensures { Lawful AnyForm.FileTime }
+{
+    nt_time::laws::texts_write_one_number();
+}

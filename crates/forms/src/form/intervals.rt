@@ -1,0 +1,104 @@
+//! The interval forms, each a style of PostgreSQL.
+ghost use Rattle.std.specs.Prelude.{◌≡◌, ◌*◌, ◌^◌, ◌<◌, ◌≤◌, IfOk, IfErr};
+ghost use Rattle.arrayvec.specs.ArrayString.{array_string_len};
+ghost use Rattle.pg_interval_2.specs.Denotes.{Denotes};
+ghost use Rattle.pg_interval_2.specs.Styles.{Shape, written};
+ghost use Rattle.forms.specs.Answers.{ReadsBy, bytes_of, writes_by};
+ghost use Rattle.forms.specs.Values.{IsWithinBounds};
+ghost use Rattle.forms.specs.form.Intervals.{worth, held, interval_of, interval_of_length};
+ghost use Rattle.forms.specs.inside.Readers.{IsRefusedBy};
+ghost use Rattle.forms.specs.inside.Lawful.{Lawful};
+ghost use Rattle.forms.specs.declared.form.Form.{Form as AnyForm};
+
+use crate::cause::Cause;
+use crate::value::Value;
+use pg_interval_2::{Interval, ParseError, Short, Style};
+
+const NANOSECONDS_A_DAY: u128 = 86_400_000_000_000;
+
+/// The triple that a text denotes in the style.
+pub fn read(style: Style, text: &str) -> Result<Value, Cause>
+    ensures { ReadsBy (Shape style) worth text.now result }
+{
+    match interval_in(style, text) {
+        Ok(interval) => Ok(Value::Triple {
+            months: interval.months as i64,
+            days: interval.days as i64,
+            micros: interval.microseconds,
+        }),
+        Err(error) if error.is_range() => Err(Cause::Range),
+        Err(_) => Err(Cause::Syntax),
+    }
+}
+
+/// What the style's reader answers.
+fn interval_in(style: Style, text: &str) -> Result<Interval, ParseError>
+    ensures ok { IfOk result (Denotes (Shape style) text.now) }
+    ensures err { IfErr result (IsRefusedBy style text.now) }
+{
+    match style {
+        Style::Iso => Interval::from_iso(text),
+        Style::Postgres => Interval::from_postgres(text),
+    }
+}
+
+/// The written text of a triple, or of a length in days and microseconds.
+pub fn write(style: Style, value: Value) -> Result<Short, Cause>
+    requires { IsWithinBounds value }
+    ensures bytes { bytes_of result ≡ writes_by held (written style) value }
+    ensures len { IfOk result (λ out. array_string_len out ≤ 96) }
+{
+    let interval = interval_for(value)?;
+    Ok(interval.text(style))
+}
+
+/// The interval of a value.
+fn interval_for(value: Value) -> Result<Interval, Cause>
+    requires { IsWithinBounds value }
+    ensures { result ≡ held value }
+{
+    match value {
+        Value::Triple {
+            months,
+            days,
+            micros,
+        } => interval_of(months, days, micros),
+        Value::Length(nanos) => interval_of_length(nanos),
+        _ => Err(Cause::Kind),
+    }
+}
+
+/// The interval of three parts.
+fn interval_of(months: i64, days: i64, micros: i64) -> Result<Interval, Cause>
+    ensures { result ≡ interval_of months days micros }
+{
+    let Ok(months) = i32::try_from(months) else {
+        return Err(Cause::Range);
+    };
+    let Ok(days) = i32::try_from(days) else {
+        return Err(Cause::Range);
+    };
+    Ok(Interval::new(months, days, micros))
+}
+
+/// The interval of a length.
+fn interval_of_length(nanos: u128) -> Result<Interval, Cause>
+    ensures { result ≡ interval_of_length nanos }
+{
+    let Ok(days) = i32::try_from(nanos / NANOSECONDS_A_DAY) else {
+        return Err(Cause::Range);
+    };
+    if nanos % 1000 != 0 {
+        return Err(Cause::Precision);
+    }
+    Ok(Interval::new(0, days, (nanos % NANOSECONDS_A_DAY / 1000) as i64))
+}
+
+/// The interval forms are lawful.
+pub fn lawful()
+    ensures pg_iso { Lawful AnyForm.PgIso }
+    ensures postgres { Lawful AnyForm.Postgres }
+{
+    pg_interval_2::laws::text_has_one_list_of_counts();
+    pg_interval_2::laws::written_text_is_read_back();
+}

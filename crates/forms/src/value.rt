@@ -1,0 +1,71 @@
+//! Values, which texts of all forms stand for, and the two tables of forms: how each reads a value, and how it writes one.
+ghost use Rattle.std.specs.Prelude.{◌≡◌, ◌≤◌, ◌↔◌, Result as AnyResult, IfOk};
+ghost use Rattle.arrayvec.specs.ArrayString.{array_string_len};
+ghost use Rattle.forms.specs.declared.cause.Cause.{Cause as AnyCause};
+ghost use Rattle.forms.specs.declared.value.Value.{Value as AnyValue};
+ghost use Rattle.forms.specs.Answers.{bytes_of};
+ghost use Rattle.forms.specs.Forms.{Reads, writes};
+ghost use Rattle.forms.specs.Values.{IsWithinBounds};
+
+use crate::cause::Cause;
+use crate::form::{Form, file_time, intervals};
+use crate::laws::all_lawful;
+use pg_interval_2::{Short, Style};
+
+/// What a text stands for. Moments and days count from 1970-01-01 in the Gregorian calendar, which is taken to go on before 1582.
+#[derive(Clone, Copy, Debug, PartialEq, Eq)]
+pub enum Value {
+    /// A moment, in nanoseconds of UTC: 10^22 of them at most, before 1970 or after.
+    Instant(i128),
+    /// A day of the years -9999 to 9999, where 0 is 1970-01-01.
+    Day(i32),
+    /// A date and a time that no offset ties to UTC: a day as [`Value::Day`] has it, and the nanoseconds of that day.
+    Local { day: i32, nanos: i64 },
+    /// A time of day, in nanoseconds.
+    Clock(i64),
+    /// Months, days and microseconds, which are no multiples of each other.
+    Triple { months: i64, days: i64, micros: i64 },
+    /// A length in nanoseconds, of fewer than 2^64 seconds.
+    Length(u128),
+}
+
+/// The value that a whole text stands for in the form: `read_value(Form::PgIso, "P1Y1Y")` is the triple of 24 months.
+///
+/// Where there is none it is the first of these that holds: `Syntax` where the text hasn't the form's shape, `NoSuchMoment` where its
+/// fields name no day or no time of day, `Range` where its numbers leave the value's bounds. It takes no memory.
+pub fn read_value(form: Form, text: &str) -> Result<Value, Cause>
+    ensures answer { (answer : AnyResult AnyValue AnyCause) → (result ≡ answer) ↔ Reads form text.now answer }
+    ensures within { IfOk result IsWithinBounds }
+{
+    all_lawful();
+    read(form, text)
+}
+
+/// The written text of a value in the form, of at most 96 bytes: `write_value(Form::FileTime, Value::Instant(0))` is
+/// `116444736000000000`.
+///
+/// Where there is none it is the first of these that holds: `Kind` where the form has no such values, `Range` where it has none so small
+/// or so great, `Precision` where the value is no whole number of the form's least unit, `Ambiguous` where the text would be read
+/// otherwise. It takes no memory.
+pub fn write_value(form: Form, value: Value) -> Result<Short, Cause>
+    requires { IsWithinBounds value }
+    ensures bytes { bytes_of result ≡ writes form value }
+    ensures len { IfOk result (λ out. array_string_len out ≤ 96) }
+{
+    match form {
+        Form::FileTime => file_time::write(value),
+        Form::PgIso => intervals::write(Style::Iso, value),
+        Form::Postgres => intervals::write(Style::Postgres, value),
+    }
+}
+
+/// The form's reader.
+fn read(form: Form, text: &str) -> Result<Value, Cause>
+    ensures { Reads form text.now result }
+{
+    match form {
+        Form::FileTime => file_time::read(text),
+        Form::PgIso => intervals::read(Style::Iso, text),
+        Form::Postgres => intervals::read(Style::Postgres, text),
+    }
+}
