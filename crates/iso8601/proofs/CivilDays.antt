@@ -1,16 +1,15 @@
 -- The days of the calendar are those of jiff's civil dates.
-use Rattle.std.proofs.Common.{◌≡◌, ℕ, zero, suc, ◌+◌, ◌-◌, ◌<◌, ◌≤◌, ℤ, pos, negsuc, refl, sym, ◌∙◌, ap, subst, arith}
-use Rattle.std.specs.Prelude.{neg_ℤ, unsigned_abs, ◌+ℤ◌, ◌-ℤ◌, ◌*ℤ◌, ◌<ℤ◌, ◌≤ℤ◌}
-use Rattle.std.specs.Int.{int_rem_euclid}
+use Rattle.std.proofs.Common.{◌≡◌, ℕ, zero, suc, ◌+◌, ◌-◌, ◌≤◌, ℤ, pos, refl, sym, ◌∙◌, ap, arith}
+use Rattle.std.specs.Prelude.{neg_ℤ, unsigned_abs, ◌+ℤ◌, ◌-ℤ◌, ◌<ℤ◌, ◌≤ℤ◌}
 use Rattle.std.proofs.lemmas.Int.{ints, by_lt_z}
-use Rattle.jiff_core.specs.Calendar.{days_from_civil, day_count, days_of_months as civil_months, day_of_year, weekday_number, iso_year_start, IsDate, IsYear, IsBetween, IsEpochDay}
+use Rattle.jiff_core.specs.Calendar.{days_from_civil, days_of_months as civil_months, IsDate, IsYear, IsBetween, IsEpochDay}
 use Rattle.jiff_core.specs.Date.{epoch_day, ordinal, IsYmd}
 use Rattle.jiff_core.specs.declared.civil.date.Date.{Date as CivilDate}
-use Rattle.jiff_core.proofs.CalendarLemmas.{days_from_civil-day_count, day_count-next_year, weekday_number_bound, days_of_months_more, days_of_months_mono, days_of_months_all}
-use Rattle.jiff_core.proofs.DateLemmas.{civil, epoch_day_range, epoch_day-ordinal, days_from_civil-day, days_from_civil-min}
-use Rattle.iso8601.specs.Calendar.{days_of_months, days_in_month, days_in_year, new_year, after_monday, week_one, day_of, Exists, IsCivilDay}
-use Rattle.iso8601.specs.declared.types.Date.TheVariants.{YMD, Week, Ordinal}
-use Rattle.iso8601.proofs.Years.{new_year-next, new_year-later, week_one_near, after_monday_bounds}
+use Rattle.jiff_core.proofs.CalendarLemmas.{days_from_civil-day_count, day_count-next_year, days_of_months_more, days_of_months_mono, days_of_months_all}
+use Rattle.jiff_core.proofs.DateLemmas.{civil, epoch_day-ordinal, days_from_civil-min}
+use Rattle.iso8601.specs.Calendar.{days_of_months, days_in_month, days_in_year, new_year, day_of, Exists, IsCivilDay}
+use Rattle.iso8601.specs.declared.types.Date.TheVariants.{YMD, Ordinal}
+use Rattle.iso8601.proofs.Years.{new_year-next, new_year-later}
 
 -- ---- months and years
 

@@ -1,9 +1,9 @@
 -- The weeks of the calendar are those of jiff's week dates.
-use Rattle.std.proofs.Common.{◌≡◌, ℕ, suc, ◌+◌, ◌-◌, ◌*◌, ◌<◌, ◌≤◌, ℤ, pos, negsuc, refl, sym, ◌∙◌, ap, arith}
-use Rattle.std.specs.Prelude.{neg_ℤ, unsigned_abs, ◌+ℤ◌, ◌-ℤ◌, ◌*ℤ◌, ◌<ℤ◌, ◌≤ℤ◌}
+use Rattle.std.proofs.Common.{◌≡◌, ℕ, ◌+◌, ◌*◌, ◌<◌, ◌≤◌, ℤ, pos, refl, sym, ◌∙◌, ap, arith}
+use Rattle.std.specs.Prelude.{neg_ℤ, unsigned_abs, ◌+ℤ◌, ◌-ℤ◌, ◌≤ℤ◌}
 use Rattle.std.specs.Int.{int_rem_euclid}
 use Rattle.std.proofs.lemmas.Int.{ints, by_lt_z}
-use Rattle.jiff_core.specs.Calendar.{days_from_civil, weekday_number, iso_year_start, IsYear, IsEpochDay}
+use Rattle.jiff_core.specs.Calendar.{days_from_civil, weekday_number, iso_year_start, IsYear}
 use Rattle.jiff_core.specs.IsoWeek.{weeks_in_year, days_from_iso, IsIsoWeekDate}
 use Rattle.jiff_core.specs.Weekday.{monday_zero}
 use Rattle.jiff_core.specs.declared.civil.weekday.Weekday.{Weekday}
@@ -13,7 +13,7 @@ use Rattle.jiff_core.proofs.IsoWeekLemmas.{weeks_in_year-next}
 use Rattle.iso8601.specs.Calendar.{new_year, after_monday, week_one, day_of, Exists, IsCivilDay}
 use Rattle.iso8601.specs.declared.types.Date.TheVariants.{Week}
 use Rattle.iso8601.proofs.Years.{new_year-later, week_one_near, after_monday_bounds}
-use Rattle.iso8601.proofs.CivilDays.{same_january, first_year, last_year, rises, civil_is, is_civil}
+use Rattle.iso8601.proofs.CivilDays.{same_january, first_year, last_year, civil_is, is_civil}
 
 positive : (z : ℤ) → pos 0 ≤ℤ z → pos (unsigned_abs z) ≡ z
 positive z h = omega (arith, ints)

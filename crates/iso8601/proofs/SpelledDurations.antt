@@ -1,11 +1,11 @@
 -- The written text of a duration in range is in the grammar, with this value.
-use Rattle.std.proofs.Common.{◌≡◌, ◌≢◌, ℕ, ◌+◌, ◌<◌, ◌≤◌, ◌^◌, ◌==◌, ◌&&◌, Bool, true, false, cond, List, [], ◌∷◌, ◌++◌, length, codes, decimal, refl, sym, ◌∙◌, ap, subst, append_assoc, length-append, arith, inl, inr}
+use Rattle.std.proofs.Common.{◌≡◌, ◌≢◌, ℕ, ◌<◌, ◌≤◌, ◌^◌, ◌==◌, ◌&&◌, Bool, true, false, cond, List, [], ◌∷◌, ◌++◌, length, codes, decimal, refl, sym, ◌∙◌, ap, subst, append_assoc, length-append, arith, inl, inr}
 use Rattle.std.proofs.lemmas.Bool.Decides.{nat_tests}
 use Rattle.std.proofs.lemmas.Fmt.{decimal_nonempty}
 use Rattle.scan_core.specs.Padded.{padded}
 use Rattle.scan_core.proofs.DigitFacts.{digits_decimal, number_of-decimal}
 use Rattle.iso8601.specs.Fields.{IsOrZero}
-use Rattle.iso8601.specs.Durations.{IsNumber, IsCount, IsDecimal, IsSeconds, IsClock, IsPerhapsClock, IsCounted, IsDuration}
+use Rattle.iso8601.specs.Durations.{IsNumber, IsCount, IsSeconds, IsPerhapsClock, IsCounted, IsDuration}
 use Rattle.iso8601.specs.Ranges.{IsDurationInRange}
 use Rattle.iso8601.specs.WrittenDurations.{are_zero, count_text, second_text, clock_counts_text, date_counts_text, duration_text}
 use Rattle.iso8601.specs.declared.types.Duration.{Duration}

@@ -1,15 +1,13 @@
 -- Written pieces of dates and times are pieces of their grammars.
-use Rattle.std.proofs.Common.{◌≡◌, ℕ, zero, suc, ◌+◌, ◌^◌, ◌<◌, ◌≤◌, ℤ, pos, negsuc, Bool, true, false, List, [], ◌∷◌, ◌++◌, length, take, decimal, codes, refl, sym, ◌∙◌, ap, arith, inl, inr}
-use Rattle.std.specs.Prelude.{unsigned_abs, neg_ℤ}
-use Rattle.std.specs.Int.{is_negative}
+use Rattle.std.proofs.Common.{◌≡◌, ℕ, suc, ◌^◌, ◌<◌, ◌≤◌, ℤ, pos, negsuc, true, false, List, [], ◌++◌, length, take, codes, refl, sym, ◌∙◌, ap, arith, inl, inr}
+use Rattle.std.specs.Prelude.{unsigned_abs}
 use Rattle.std.proofs.lemmas.Fmt.{length-decimal-le}
 use Rattle.std.proofs.lemmas.List.{take_at}
-use Rattle.scan_core.specs.Digits.{AreDigits, number_of}
+use Rattle.scan_core.specs.Digits.{number_of}
 use Rattle.scan_core.specs.Fields.{IsField}
 use Rattle.scan_core.specs.Padded.{padded}
-use Rattle.scan_core.specs.Shares.{signed}
 use Rattle.scan_core.proofs.PaddedFacts.{length-padded, digits-padded, number_of-padded}
-use Rattle.iso8601.specs.Fields.{IsYear, IsMarked, IsOrZero}
+use Rattle.iso8601.specs.Fields.{IsYear, IsMarked}
 use Rattle.iso8601.specs.Times.{IsFraction}
 use Rattle.iso8601.specs.Written.{minus, year_text}
 use Rattle.iso8601.proofs.Widths.{not_negative}

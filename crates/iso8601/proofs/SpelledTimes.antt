@@ -1,6 +1,6 @@
 -- The written text of a date or a time in range is in its grammar, with this value.
-use Rattle.std.proofs.Common.{◌≡◌, ℕ, zero, suc, ◌<◌, ◌≤◌, ◌||◌, ◌⊎◌, ℤ, pos, negsuc, Bool, true, false, List, [], ◌∷◌, ◌++◌, codes, refl, sym, ◌∙◌, ap, subst, append_assoc, arith, inl, inr}
-use Rattle.std.specs.Prelude.{unsigned_abs, neg_ℤ, ◌≤ℤ◌}
+use Rattle.std.proofs.Common.{◌≡◌, ℕ, zero, suc, ◌≤◌, ◌||◌, ℤ, pos, negsuc, Bool, true, false, List, ◌++◌, codes, refl, subst, append_assoc, arith, inl, inr}
+use Rattle.std.specs.Prelude.{unsigned_abs, neg_ℤ}
 use Rattle.std.specs.Int.{is_negative}
 use Rattle.std.proofs.lemmas.Int.{ints}
 use Rattle.scan_core.specs.Padded.{padded}
@@ -9,7 +9,7 @@ use Rattle.iso8601.specs.Dates.{IsDate}
 use Rattle.iso8601.specs.DateTimes.{IsDateTime}
 use Rattle.iso8601.specs.Times.{IsOffset, IsTime, sign_text}
 use Rattle.iso8601.specs.Ranges.{IsDateInRange, HaveOneSign, IsTimeInRange, IsDateTimeInRange}
-use Rattle.iso8601.specs.Written.{year_text, date_text, clock_text, two_wide, offset_text, time_text, date_time_text}
+use Rattle.iso8601.specs.Written.{year_text, date_text, clock_text, offset_text, time_text, date_time_text}
 use Rattle.iso8601.specs.declared.types.Date.{Date}
 use Rattle.iso8601.specs.declared.types.Date.TheVariants.{YMD, Week, Ordinal}
 use Rattle.iso8601.specs.declared.types.Time.{Time}

@@ -1,5 +1,5 @@
 -- The civil times and the moments that times and date-times name (ISO 8601-1:2019, 5.3 and 5.4).
-use Rattle.std.specs.Prelude.{◌≡◌, ℕ, ◌*◌, ◌<◌, ℤ, pos, unsigned_abs, ◌+ℤ◌, ◌*ℤ◌}
+use Rattle.std.specs.Prelude.{◌≡◌, ◌*◌, ◌<◌, ℤ, pos, unsigned_abs, ◌+ℤ◌, ◌*ℤ◌}
 use Rattle.jiff_core.specs.Date.{epoch_day}
 use Rattle.jiff_core.specs.declared.civil.time.Time.{Time as CivilTime}
 use Rattle.iso8601.specs.Calendar.{day_of, Exists, IsCivilDay}

@@ -1,5 +1,5 @@
 -- The values that the parsers give, field by field: those that are read back from their written texts.
-use Rattle.std.specs.Prelude.{ℕ, ◌≤◌, ◌<◌, ◌^◌, ◌⊎◌, ℤ, pos, unsigned_abs, ◌≤ℤ◌}
+use Rattle.std.specs.Prelude.{◌≤◌, ◌<◌, ◌^◌, ◌⊎◌, ℤ, pos, unsigned_abs, ◌≤ℤ◌}
 use Rattle.iso8601.specs.declared.types.Date.{Date}
 use Rattle.iso8601.specs.declared.types.Date.TheVariants.{YMD, Week, Ordinal}
 use Rattle.iso8601.specs.declared.types.Time.{Time}

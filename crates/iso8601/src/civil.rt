@@ -318,7 +318,7 @@ mod tests {
     }
 
     #[test]
-    fn clocks_and_moments(rt: HostRuntime) -> Result<(), Fail> {
+    fn clocks(rt: HostRuntime) -> Result<(), Fail> {
         for (text, want) in [
             ("23:40:15.123", Some((23, 40, 15, 123_000_000))),
             ("00:00", Some((0, 0, 0, 0))),
@@ -335,6 +335,11 @@ mod tests {
             )));
             assert_eq!(rt; parts, Ok(want), "at {text}");
         }
+        Ok(())
+    }
+
+    #[test]
+    fn moments(rt: HostRuntime) -> Result<(), Fail> {
         for (text, want) in [
             ("2023-02-08T23:40:00+01:23", Some(4980)),
             ("2023-02-08T23:40:00Z", Some(0)),
@@ -348,25 +353,29 @@ mod tests {
             ("2023-02-29T23:40:00Z", None),
             ("2023-02-08T24:00:00Z", None),
         ] {
-            let moment = text
-                .parse::<DateTime>()
-                .map(|t| (t.into_fixed_offset(), t.into_naive()));
-            let offset = moment.map(|m| m.0.map(|fixed| fixed.offset_seconds));
+            let moment = text.parse::<DateTime>();
+            let offset = moment.map(|t| t.into_fixed_offset().map(|fixed| fixed.offset_seconds));
             assert_eq!(rt; offset, Ok(want), "at {text}");
-            let local = moment.map(|m| m.0.map(|fixed| fixed.local));
-            assert_eq!(rt; local, moment.map(|m| m.1), "at {text}");
+            let local = moment.map(|t| t.into_fixed_offset().map(|fixed| fixed.local)
+                == t.into_naive());
+            assert_eq!(rt; local, Ok(true), "at {text}");
         }
-        let clock = civil::DateTime::new(2023, 2, 8, 23, 40, 0, 0);
-        let moment = "2023-039T23:40:00+01:23"
-            .parse::<DateTime>()
-            .map(|t| t.into_naive());
-        assert_eq!(rt; moment.ok().flatten(), clock.ok());
-        let lies = Time::default().set_tz((i32::MAX, i32::MIN));
+        let moment = "2023-039T23:40:00+01:23".parse::<DateTime>();
+        let local = moment.map(|t| t.into_naive()
+            == civil::DateTime::new(2023, 2, 8, 23, 40, 0, 0).ok());
+        assert_eq!(rt; local, Ok(true));
         let date = Date::Ordinal { year: 2023, ddd: 1 };
-        assert!(rt; DateTime { date, time: lies }.into_fixed_offset().is_none());
-        let turned = Time::default().set_tz((1, -1));
-        let moment = DateTime { date, time: turned }.into_fixed_offset();
-        assert_eq!(rt; moment.map(|m| m.offset_seconds), Some(3540));
+        for (hours, minutes, want) in [
+            (i32::MAX, i32::MIN, None),
+            (1, -1, Some(3540)),
+            (0, 1439, Some(86_340)),
+            (0, -1440, None),
+            (-119_304_648, i32::MAX, None),
+        ] {
+            let time = Time::default().set_tz((hours, minutes));
+            let moment = DateTime { date, time }.into_fixed_offset();
+            assert_eq!(rt; moment.map(|fixed| fixed.offset_seconds), want);
+        }
         Ok(())
     }
 }

@@ -1,6 +1,5 @@
-use Rattle.std.proofs.Common.{◌≡◌, ℤ, pos, FitsSigned, arith}
-use Rattle.std.specs.Prelude.{◌+ℤ◌, ◌*ℤ◌}
-use Rattle.std.specs.Int.{w32, int_rem_euclid}
+use Rattle.std.proofs.Common.{FitsSigned, arith}
+use Rattle.std.specs.Int.{w32}
 use Rattle.std.proofs.lemmas.Int.{ints, to_z-of_z}
 use Rattle.iso8601.proofs.Cycle.{cycle_of}
 use Rattle.iso8601.proofs.civil.cycle_year.Goals as goal

@@ -1,4 +1,4 @@
-use Rattle.std.proofs.Common.{rules, ◌≡◌, ℤ, pos, FitsSigned}
+use Rattle.std.proofs.Common.{rules, FitsSigned}
 use Rattle.std.specs.Int.{w32}
 use Rattle.std.proofs.lemmas.Int.{to_z-of_z}
 use Rattle.iso8601.proofs.Cycle.{ymd_cycled, ymd_civil, week_cycled, week_civil, ordinal_cycled, ordinal_civil}

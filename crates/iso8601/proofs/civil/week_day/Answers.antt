@@ -1,4 +1,4 @@
-use Rattle.std.proofs.Common.{rules, ◌≡◌, ◌<◌, Bool, true, false, IsSome, pos, FitsSigned, ℕ, ℤ, subst, sym, refl, arith}
+use Rattle.std.proofs.Common.{rules, ◌≡◌, ◌<◌, true, false, pos, FitsSigned, ℕ, ℤ, subst, sym, refl, arith}
 use Rattle.std.specs.Prelude.{◌+ℤ◌, ◌≤ℤ◌}
 use Rattle.std.specs.Int.{w8, w16, w32}
 use Rattle.std.proofs.lemmas.Int.{ints, to_z-of_z}

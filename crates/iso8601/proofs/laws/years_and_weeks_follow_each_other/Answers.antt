@@ -1,5 +1,3 @@
-use Rattle.std.proofs.Common.{◌≡◌, pos}
-use Rattle.iso8601.specs.Calendar.{new_year}
 use Rattle.iso8601.proofs.CivilDays.{civil_is, is_civil}
 use Rattle.iso8601.proofs.Years.{new_year-next, week_one_near, week_one_monday, first_day}
 use Rattle.iso8601.proofs.laws.years_and_weeks_follow_each_other.Goals as goal

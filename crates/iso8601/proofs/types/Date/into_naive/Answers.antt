@@ -1,11 +1,9 @@
-use Rattle.std.proofs.Common.{rules, ◌≡◌, ◌≤◌, IsSome, IfSome, ℕ, ℤ, pos, Option, Some, None, FitsSigned, refl, ◌∙◌, arith}
+use Rattle.std.proofs.Common.{rules, ◌≡◌, ◌≤◌, IsSome, IfSome, pos, Option, Some, None, FitsSigned, refl, ◌∙◌, arith}
 use Rattle.std.specs.Int.{w32}
 use Rattle.std.proofs.lemmas.Int.{ints, to_z-of_z}
 use Rattle.jiff_core.specs.Date.{epoch_day, IsYmd, ordinal}
 use Rattle.jiff_core.specs.IsoWeek.{days_from_iso}
 use Rattle.jiff_core.specs.declared.civil.date.Date.{Date as CivilDate}
-use Rattle.iso8601.specs.Calendar.{day_of}
-use Rattle.iso8601.specs.declared.types.Date.TheVariants.{YMD, Week, Ordinal}
 use Rattle.iso8601.proofs.CivilDays.{ymd_exists, ymd_is, ymd_day, ordinal_exists, ordinal_is, ordinal_day}
 use Rattle.iso8601.proofs.CivilWeeks.{week_exists, week_is, week_day}
 use Rattle.iso8601.proofs.types.Date.into_naive.Goals as goal

@@ -1,8 +1,6 @@
-use Rattle.std.proofs.Common.{rules, ◌≡◌, ◌<◌, FitsSigned, refl}
+use Rattle.std.proofs.Common.{rules, FitsSigned, refl}
 use Rattle.std.specs.Int.{w32}
-use Rattle.std.specs.Prelude.{unsigned_abs}
 use Rattle.std.proofs.lemmas.Int.{to_z-of_z}
-use Rattle.iso8601.specs.Moments.{offset_of}
 use Rattle.iso8601.proofs.types.DateTime.into_fixed_offset.Goals as goal
 
 pub returns-clause-some : goal.returns-clause-some
