@@ -18,7 +18,7 @@ use Rattle.forms.specs.Answers.{ReadsBy}
 use Rattle.forms.specs.Values.{IsWithinBounds}
 use Rattle.forms.specs.form.FileTime.{Spells, worth, ticks_after, held}
 use Rattle.forms.specs.inside.Lawful.{Lawful}
-use Rattle.forms.proofs.Fitting.{below, tested, not_tested}
+use Rattle.forms.proofs.Fitting.{below, tested, not_tested, less, no_more}
 use Rattle.forms.proofs.Lawful.{then_ok, else_ok, same_ok, IsHeldBack, lawful_by}
 
 -- ---- reading
@@ -88,12 +88,6 @@ exact_tick nanos ticks e fits =
 not_whole : (z : ℤ) (ticks : ℕ) → pos (100 * ticks) ≤ℤ z → z <ℤ pos (100 * (ticks + 1)) → z ≢ pos (100 * ticks) → z ≤ℤ pos (100 * (2 ^ 64 - 1)) → ticks_after z ≡ Err Precision
 not_whole (pos n) ticks least most not last = between_ticks n (omega (arith, ints)) (λ whole. not (omega (arith, ints)))
 not_whole (negsuc n) ticks least most not last = absurd (omega (arith, ints))
-
-less : (a b : ℤ) → (a ≤ℤ b → ⊥) → b <ℤ a
-less a b isnt = grind (arith, ints)
-
-no_more : (a b : ℤ) → (a <ℤ b → ⊥) → b ≤ℤ a
-no_more a b isnt = grind (arith, ints)
 
 -- an instant between two counts
 pub between : (nanos : ℤ) (ticks : ℕ) → IsFromUnixNanos nanos (Ok ticks) → unix_nanos ticks ≢ nanos → ticks_after (nanos -ℤ unix_nanos 0) ≡ Err Precision

@@ -1,7 +1,8 @@
 -- Numbers that fit their types.
 use Rattle.std.proofs.Common.{◌≡◌, ℕ, ◌<◌, ◌≤◌, true, Bool, false, ◌&&◌, FitsSigned, w32, w64, refl, arith}
-use Rattle.std.specs.Prelude.{ℤ, pos, negsuc, nat_lt}
+use Rattle.std.specs.Prelude.{ℤ, pos, negsuc, ◌≤ℤ◌, ◌<ℤ◌, nat_lt}
 use Rattle.std.proofs.lemmas.Bool.Decides.{nat_tests}
+use Rattle.std.proofs.lemmas.Int.{ints}
 use Rattle.scan_core.specs.Shares.{is_within}
 
 pub below : (a b : ℕ) → nat_lt a b ≡ true → a < b
@@ -42,3 +43,11 @@ not_tested a b h = grind (arith, nat_tests)
 pub not_true : (test : Bool) → (test ≡ true → ⊥) → test ≡ false
 not_true true isnt = absurd (isnt refl)
 not_true false isnt = refl
+
+-- ---- orders
+
+pub less : (a b : ℤ) → (a ≤ℤ b → ⊥) → b <ℤ a
+less a b isnt = grind (arith, ints)
+
+pub no_more : (a b : ℤ) → (a <ℤ b → ⊥) → b ≤ℤ a
+no_more a b isnt = grind (arith, ints)

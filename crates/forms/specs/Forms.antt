@@ -1,23 +1,27 @@
 -- The forms, a row each: what reading a text answers, and what writing a value does.
 use Rattle.std.specs.Prelude.{ℕ, List, decimal, Result}
+use Rattle.fancy_duration.specs.Written.{written as short_text}
 use Rattle.pg_interval_2.specs.Styles.{Shape, written}
 use Rattle.pg_interval_2.specs.declared.style.Style.TheVariants as style
 use Rattle.forms.specs.declared.cause.Cause.{Cause}
 use Rattle.forms.specs.declared.form.Form.{Form}
-use Rattle.forms.specs.declared.form.Form.TheVariants.{FileTime, PgIso, Postgres}
+use Rattle.forms.specs.declared.form.Form.TheVariants.{FileTime, Fancy, PgIso, Postgres}
 use Rattle.forms.specs.declared.value.Value.{Value}
 use Rattle.forms.specs.Answers.{ReadsBy, writes_by}
 use Rattle.forms.specs.form.FileTime as file_time
+use Rattle.forms.specs.form.Fancy as fancy
 use Rattle.forms.specs.form.Intervals as interval
 
 -- what a text stands for in the form: a value, or the cause why it is none
 abbrev pub Reads : Form → List ℕ → Result Value Cause → Type 0
 Reads FileTime = ReadsBy file_time.Spells file_time.worth
+Reads Fancy = ReadsBy fancy.Spells fancy.worth
 Reads PgIso = ReadsBy (Shape style.Iso) interval.worth
 Reads Postgres = ReadsBy (Shape style.Postgres) interval.worth
 
 -- the written text of a value in the form, or the cause why there is none
 abbrev pub writes : Form → Value → Result (List ℕ) Cause
 writes FileTime = writes_by file_time.held decimal
+writes Fancy = writes_by fancy.held short_text
 writes PgIso = writes_by interval.held (written style.Iso)
 writes Postgres = writes_by interval.held (written style.Postgres)

@@ -1,2 +1,3 @@
 pub mod FileTime
+pub mod Fancy
 pub mod Intervals

@@ -3,6 +3,7 @@ ghost use Rattle.std.specs.Prelude.{◌≡◌, ◌↔◌, Some};
 ghost use Rattle.forms.specs.Names.{name_of};
 ghost use Rattle.forms.specs.declared.form.Form.{Form as AnyForm};
 
+pub mod fancy;
 pub mod file_time;
 pub mod intervals;
 
@@ -11,6 +12,8 @@ pub mod intervals;
 pub enum Form {
     /// Windows file times, the ticks of 100 nanoseconds since 1601: `116444736000000000`.
     FileTime,
+    /// Short durations, as configuration files have them: `1h 20m 30s`.
+    Fancy,
     /// PostgreSQL's intervals in style `iso_8601`: `P1Y2M3DT4H5M6S`.
     PgIso,
     /// PostgreSQL's intervals in style `postgres`: `1 year 2 mons 3 days 04:05:06`.
@@ -24,6 +27,7 @@ impl Form {
     {
         match name {
             "FileTime" => Some(Form::FileTime),
+            "Fancy" => Some(Form::Fancy),
             "PgIso" => Some(Form::PgIso),
             "Postgres" => Some(Form::Postgres),
             _ => None,
@@ -36,6 +40,7 @@ impl Form {
     {
         match self {
             Form::FileTime => "FileTime",
+            Form::Fancy => "Fancy",
             Form::PgIso => "PgIso",
             Form::Postgres => "Postgres",
         }

@@ -27,5 +27,4 @@ pub use memory_source::MemSource;
 pub use outside::{Failed, Sink, Source};
 pub use program::{run, top};
 pub use run_end::RunEnd;
-pub use program::{RunEnd, run, top};
 pub use value::{Value, read_value, write_value};

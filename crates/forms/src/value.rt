@@ -8,7 +8,7 @@ ghost use Rattle.forms.specs.Forms.{Reads, writes};
 ghost use Rattle.forms.specs.Values.{IsWithinBounds};
 
 use crate::cause::Cause;
-use crate::form::{Form, file_time, intervals};
+use crate::form::{Form, fancy, file_time, intervals};
 use crate::laws::all_lawful;
 use pg_interval_2::{Short, Style};
 
@@ -54,6 +54,7 @@ pub fn write_value(form: Form, value: Value) -> Result<Short, Cause>
 {
     match form {
         Form::FileTime => file_time::write(value),
+        Form::Fancy => fancy::write(value),
         Form::PgIso => intervals::write(Style::Iso, value),
         Form::Postgres => intervals::write(Style::Postgres, value),
     }
@@ -65,6 +66,7 @@ fn read(form: Form, text: &str) -> Result<Value, Cause>
 {
     match form {
         Form::FileTime => file_time::read(text),
+        Form::Fancy => fancy::read(text),
         Form::PgIso => intervals::read(Style::Iso, text),
         Form::Postgres => intervals::read(Style::Postgres, text),
     }

@@ -1,0 +1,188 @@
+-- Short durations as a form: what a length is worth, which lengths are held, and that they are read back.
+use Rattle.std.proofs.Common.{◌≡◌, ℕ, ◌*◌, ◌^◌, ◌<◌, ◌≤◌, ◌==◌, ◌&&◌, Bool, true, false, List, Result, Ok, Err, refl, sym, ◌∙◌, ap, subst, inl, inr, arith}
+use Rattle.std.specs.Prelude.{ℤ, pos, negsuc, ◌<ℤ◌, nat_lt, IsErrOf, ◌↔◌}
+use Rattle.std.specs.Ordering.{int_eq}
+use Rattle.std.proofs.lemmas.Bool.Decides.{nat_tests}
+use Rattle.std.proofs.lemmas.Int.{ints}
+use Rattle.fancy_duration.specs.Breakdown.{count_of}
+use Rattle.fancy_duration.specs.Collisions.{MonthsStandAlone}
+use Rattle.fancy_duration.specs.Meanings.{Denotes, IsTooBig}
+use Rattle.fancy_duration.specs.Strict.{IsStrict}
+use Rattle.fancy_duration.specs.Sums.{SumsTo}
+use Rattle.fancy_duration.specs.Times.{nanos_of, times_of}
+use Rattle.fancy_duration.specs.Written.{written}
+use Rattle.fancy_duration.specs.declared.error.FancyError.{FancyError}
+use Rattle.fancy_duration.specs.declared.error.FancyError.TheVariants.{TooBig, NotHeld}
+use Rattle.fancy_duration.specs.declared.part.DurationPart.TheVariants.{Months, Weeks, Days, Hours, Minutes}
+use Rattle.forms.specs.declared.cause.Cause.TheVariants.{Syntax, Range, Kind, Ambiguous}
+use Rattle.forms.specs.declared.form.Form.TheVariants.{Fancy}
+use Rattle.forms.specs.declared.value.Value.{Value}
+use Rattle.forms.specs.declared.value.Value.TheVariants.{Triple, Length}
+use Rattle.forms.specs.Answers.{ReadsBy}
+use Rattle.forms.specs.Values.{IsWithinBounds, Same, nanos_of as triple_nanos}
+use Rattle.forms.specs.form.Fancy.{Spells, worth, has_months_alone, length_of, length_of_triple, held}
+use Rattle.forms.specs.inside.Lawful.{Lawful}
+use Rattle.forms.proofs.Fitting.{below, tested, not_tested, both, not_true}
+use Rattle.forms.proofs.Lawful.{then_ok, else_ok, same_ok, IsHeldBack, lawful_by}
+
+-- ---- reading
+
+worth_within : (nanos : ℕ) → nanos < 2 ^ 64 * 1_000_000_000 → worth nanos ≡ Ok (Length nanos)
+unfolding worth
+worth_within nanos h = rw (tested nanos (2 ^ 64 * 1_000_000_000) h) refl
+
+worth_beyond : (nanos : ℕ) → 2 ^ 64 * 1_000_000_000 ≤ nanos → worth nanos ≡ Err Range
+unfolding worth
+worth_beyond nanos h = rw (not_tested nanos (2 ^ 64 * 1_000_000_000) h) refl
+
+pub reads_length : (text : List ℕ) (times : ℕ × ℕ) → IsStrict text → Denotes text times → (given : ℕ) → given ≡ nanos_of times → ReadsBy Spells worth text (Ok (Length given))
+reads_length text times strict h given e =
+    let seconds = h.seconds in
+    let rest = h.nanoseconds in
+    let fits : nanos_of times < 2 ^ 64 * 1_000_000_000 = omega arith in
+    inl (nanos_of times, (strict, h.sums), ap (λ (n : ℕ). Ok (Length n)) e ∙ sym (worth_within (nanos_of times) fits))
+
+pub reads_too_big : (text : List ℕ) → IsStrict text → IsTooBig text → ReadsBy Spells worth text (Err Range)
+reads_too_big text strict h =
+    let beyond = h.beyond in
+    let fits : 2 ^ 64 * 1_000_000_000 ≤ h.nanos = omega arith in
+    inl (h.nanos, (strict, h.sums), sym (worth_beyond h.nanos fits))
+
+pub reads_no_strict : (text : List ℕ) → (IsStrict text → ⊥) → ReadsBy Spells worth text (Err Syntax)
+reads_no_strict text isnt = inr (λ nanos spelled. isnt spelled.0, refl)
+
+-- ---- the length of a value
+
+all_five : (a b c d e : Bool) → (a && (b && (c && (d && e)))) ≡ true → (a ≡ true) × ((b ≡ true) × ((c ≡ true) × ((d ≡ true) × (e ≡ true))))
+all_five a b c d e h =
+    let one = both a (b && (c && (d && e))) h in
+    let two = both b (c && (d && e)) one.1 in
+    let three = both c (d && e) two.1 in
+    let four = both d e three.1 in
+    (one.0, (two.0, (three.0, (four.0, four.1))))
+
+is_zero : (n : ℕ) → (n == 0) ≡ true → n ≡ 0
+is_zero n h = grind (arith, nat_tests)
+
+pub months_alone : (nanos : ℕ) → has_months_alone nanos ≡ true → MonthsStandAlone nanos
+unfolding has_months_alone
+months_alone nanos h =
+    let parts = all_five (nat_lt 0 (count_of Months nanos)) (count_of Weeks nanos == 0) (count_of Days nanos == 0) (count_of Hours nanos == 0) (count_of Minutes nanos == 0) h in
+    record { months = below _ _ parts.0; weeks = is_zero _ parts.1.0; days = is_zero _ parts.1.1.0; hours = is_zero _ parts.1.1.1.0; minutes = is_zero _ parts.1.1.1.1 }
+
+pub alone_tested : (nanos : ℕ) → MonthsStandAlone nanos → has_months_alone nanos ≡ true
+unfolding has_months_alone
+alone_tested nanos h = rw (tested 0 _ h.months, h.weeks, h.days, h.hours, h.minutes) refl
+
+pub negative : (z : ℤ) → z <ℤ pos 0 → length_of z ≡ Err Range
+unfolding length_of
+negative (pos n) h = absurd (omega (arith, ints))
+negative (negsuc n) h = refl
+
+pub too_long : (nanos : ℕ) → 2 ^ 64 * 1_000_000_000 ≤ nanos → length_of (pos nanos) ≡ Err Range
+unfolding length_of
+too_long nanos h = rw (not_tested nanos (2 ^ 64 * 1_000_000_000) h) refl
+
+pub read_back : (nanos : ℕ) → nanos < 2 ^ 64 * 1_000_000_000 → (MonthsStandAlone nanos → ⊥) → length_of (pos nanos) ≡ Ok nanos
+unfolding length_of
+read_back nanos fits isnt = rw (tested nanos (2 ^ 64 * 1_000_000_000) fits, not_true (has_months_alone nanos) (λ h. isnt (months_alone nanos h))) refl
+
+alone_from : (nanos : ℕ) (test : Bool) → has_months_alone nanos ≡ test → ((MonthsStandAlone nanos → ⊥) → ⊥) → has_months_alone nanos ≡ true
+alone_from nanos true e h = e
+alone_from nanos false e h = absurd (h (λ alone. let both : true ≡ false = sym (alone_tested nanos alone) ∙ e in cc))
+
+pub ambiguous : (nanos : ℕ) → nanos < 2 ^ 64 * 1_000_000_000 → ((MonthsStandAlone nanos → ⊥) → ⊥) → length_of (pos nanos) ≡ Err Ambiguous
+unfolding length_of
+ambiguous nanos fits h = rw (tested nanos (2 ^ 64 * 1_000_000_000) fits, alone_from nanos (has_months_alone nanos) refl h) refl
+
+-- ---- the laws
+
+within : (text : List ℕ) (nanos : ℕ) (value : Value) → Spells text nanos → worth nanos ≡ Ok value → IsWithinBounds value
+unfolding worth
+within text nanos value spelled h =
+    let parts = then_ok (nat_lt nanos (2 ^ 64 * 1_000_000_000)) (Ok (Length nanos)) value Range h in
+    subst IsWithinBounds (same_ok (Length nanos) value parts.1) (below nanos (2 ^ 64 * 1_000_000_000) parts.0)
+
+-- what is held of a length
+pub record IsHeldLength (z : ℤ) (nanos : ℕ) : Type 0 where
+  pub is : z ≡ pos nanos
+  pub fits : nanos < 2 ^ 64 * 1_000_000_000
+  pub clear : MonthsStandAlone nanos → ⊥
+
+length_held : (z : ℤ) (nanos : ℕ) → length_of z ≡ Ok nanos → IsHeldLength z nanos
+unfolding length_of
+length_held (negsuc n) nanos h = absurd (let e : Err Range ≡ Ok nanos = h in cc)
+length_held (pos n) nanos h =
+    let first = then_ok (nat_lt n (2 ^ 64 * 1_000_000_000)) _ nanos Range h in
+    let second = else_ok (has_months_alone n) (Ok n) nanos Ambiguous first.1 in
+    let same = same_ok n nanos second.1 in
+    record {
+      is = ap pos same;
+      fits = subst (λ (k : ℕ). k < 2 ^ 64 * 1_000_000_000) same (below n (2 ^ 64 * 1_000_000_000) first.0);
+      clear = λ alone. let both : true ≡ false = sym (alone_tested n (subst MonthsStandAlone (sym same) alone)) ∙ second.0 in cc;
+    }
+
+-- what the laws of the crate below say of written texts
+abbrev pub AreStrict : Type 0
+AreStrict = (nanos : ℕ) → nanos < 2 ^ 64 * 1_000_000_000 → IsStrict (written nanos)
+
+abbrev pub AreReadBack : Type 0
+AreReadBack = (times : ℕ × ℕ) → times.0 < 2 ^ 64 → times.1 < 1_000_000_000 → Denotes (written (nanos_of times)) times ↔ (MonthsStandAlone (nanos_of times) → ⊥)
+
+sums_back : AreReadBack → (nanos : ℕ) → nanos < 2 ^ 64 * 1_000_000_000 → (MonthsStandAlone nanos → ⊥) → SumsTo (written nanos) nanos
+sums_back back nanos fits clear =
+    let same : nanos_of (times_of nanos) ≡ nanos = omega arith in
+    let denoted = (back (times_of nanos) (omega arith) (omega arith)).1 (λ alone. clear (subst MonthsStandAlone same alone)) in
+    subst (λ (n : ℕ). SumsTo (written n) n) same denoted.sums
+
+held_by : AreStrict → AreReadBack → (value : Value) (z : ℤ) (nanos : ℕ) → length_of z ≡ Ok nanos → Same value (Length nanos) → IsHeldBack Spells worth held (written nanos) value nanos
+held_by strict back value z nanos h same =
+    let found = length_held z nanos h in
+    record {
+      meaning = nanos;
+      back = Length nanos;
+      spelled = (strict nanos found.fits, sums_back back nanos found.fits found.clear);
+      valued = worth_within nanos found.fits;
+      same = same;
+      again = ap length_of (sym found.is) ∙ h;
+    }
+
+is_int : (a b : ℤ) → int_eq a b ≡ true → a ≡ b
+is_int a b h = grind (arith, nat_tests)
+
+pub without_months : (months days micros : ℤ) → months ≡ pos 0 → length_of_triple months days micros ≡ length_of (triple_nanos days micros)
+unfolding length_of_triple
+without_months months days micros none = rw none refl
+
+pub with_months : (months days micros : ℤ) → (months ≡ pos 0 → ⊥) → length_of_triple months days micros ≡ Err Kind
+unfolding length_of_triple
+with_months months days micros some = rw (not_true (int_eq months (pos 0)) (λ h. some (is_int months (pos 0) h))) refl
+
+triple_held : (months days micros : ℤ) (nanos : ℕ) → length_of_triple months days micros ≡ Ok nanos → (months ≡ pos 0) × (length_of (triple_nanos days micros) ≡ Ok nanos)
+unfolding length_of_triple
+triple_held months days micros nanos h =
+    let first = then_ok (int_eq months (pos 0)) (length_of (triple_nanos days micros)) nanos Kind h in
+    (is_int months (pos 0) first.0, first.1)
+
+held_back : AreStrict → AreReadBack → (value : Value) (nanos : ℕ) → IsWithinBounds value → held value ≡ Ok nanos → IsHeldBack Spells worth held (written nanos) value nanos
+held_back strict back (Length n) nanos w h =
+    let found = length_held (pos n) nanos h in
+    let same : n ≡ nanos = let e = found.is in omega (arith, ints) in
+    held_by strict back (Length n) (pos n) nanos h (ap Length same)
+held_back strict back (Triple months days micros) nanos w h =
+    let parts = triple_held months days micros nanos h in
+    let found = length_held (triple_nanos days micros) nanos parts.1 in
+    held_by strict back (Triple months days micros) (triple_nanos days micros) nanos parts.1 (parts.0, found.is)
+held_back strict back _ nanos w h = absurd (let e : Err Kind ≡ Ok nanos = h in cc)
+
+pub short_durations : ((text : List ℕ) (a b : ℕ) → SumsTo text a → SumsTo text b → a ≡ b) → AreStrict → AreReadBack → Lawful Fancy
+short_durations one strict back =
+    lawful_by Fancy Spells worth held written (record { reads = λ text a h. h; read = λ text a h. h; written = λ value. refl }) (λ text a b h k. one text a b h.1 k.1) within (held_back strict back)
+
+abbrev failed : FancyError → Result (ℕ × ℕ) FancyError
+failed error = Err error
+
+-- what the reader of short durations refuses of a strict text
+pub refused : (text : List ℕ) (error : FancyError) → IsStrict text → (IsErrOf (failed error) TooBig → IsTooBig text) → (failed error ≡ Err NotHeld → ⊥) → ReadsBy Spells worth text (Err Range)
+refused text TooBig strict big held = reads_too_big text strict (big refl)
+refused text NotHeld strict big held = absurd (held refl)

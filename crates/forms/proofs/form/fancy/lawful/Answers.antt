@@ -1,0 +1,5 @@
+use Rattle.forms.proofs.ShortDurations.{short_durations}
+use Rattle.forms.proofs.form.fancy.lawful.Goals as goal
+
+pub returns : goal.returns
+returns c = short_durations c.texts_have_one_sum.ensures.one c.written_texts_are_strict.ensures c.written_texts_are_read_back.ensures

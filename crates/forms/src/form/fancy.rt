@@ -1,0 +1,125 @@
+//! Short durations as a form.
+ghost use Rattle.std.specs.Prelude.{◌≡◌, ◌*◌, ◌^◌, ◌<◌, ◌≤◌, IfOk};
+ghost use Rattle.std.specs.Duration.{as_nanos};
+ghost use Rattle.arrayvec.specs.ArrayString.{array_string_len};
+ghost use Rattle.fancy_duration.specs.Written.{written};
+ghost use Rattle.forms.specs.declared.form.Form.{Form as AnyForm};
+ghost use Rattle.forms.specs.Answers.{bytes_of};
+ghost use Rattle.forms.specs.Forms.{Reads, writes};
+ghost use Rattle.forms.specs.Values.{IsWithinBounds, nanos_of};
+ghost use Rattle.forms.specs.form.Fancy.{held, length_of, length_of_triple};
+ghost use Rattle.forms.specs.inside.Lawful.{Lawful};
+
+use crate::cause::Cause;
+use crate::value::Value;
+use fancy_duration::FancyDuration;
+use scan_core::Short;
+use std::time::Duration;
+
+const NANOSECONDS_A_SECOND: u128 = 1_000_000_000;
+
+/// The length of a strict text.
+pub fn read(text: &str) -> Result<Value, Cause>
+    ensures { Reads AnyForm.Fancy text.now result }
+{
+    if !FancyDuration::<Duration>::is_fancy_text(text) {
+        return Err(Cause::Syntax);
+    }
+    match FancyDuration::<Duration>::parse_to_ns(text) {
+        Ok((seconds, nanos)) => Ok(Value::Length(
+            seconds as u128 * NANOSECONDS_A_SECOND + nanos as u128,
+        )),
+        Err(_) => Err(Cause::Range),
+    }
+}
+
+/// The written text of a length, or of a triple without months.
+pub fn write(value: Value) -> Result<Short, Cause>
+    requires { IsWithinBounds value }
+    ensures bytes { bytes_of result ≡ writes AnyForm.Fancy value }
+    ensures len { IfOk result (λ out. array_string_len out ≤ 96) }
+{
+    let nanos = length_for(value)?;
+    Ok(written(nanos))
+}
+
+/// The length of a value.
+fn length_for(value: Value) -> Result<u128, Cause>
+    requires { IsWithinBounds value }
+    ensures held { result ≡ held value }
+    ensures fits { IfOk result (λ nanos. nanos < 2 ^ 64 * 1_000_000_000) }
+{
+    match value {
+        Value::Length(nanos) => length_of(nanos as i128),
+        Value::Triple {
+            months,
+            days,
+            micros,
+        } => length_of_triple(months, days, micros),
+        _ => Err(Cause::Kind),
+    }
+}
+
+/// The length of a triple.
+fn length_of_triple(months: i64, days: i64, micros: i64) -> Result<u128, Cause>
+    ensures held { result ≡ length_of_triple months days micros }
+    ensures fits { IfOk result (λ nanos. nanos < 2 ^ 64 * 1_000_000_000) }
+{
+    if months == 0 {
+        length_of(nanos_of(days, micros))
+    } else {
+        Err(Cause::Kind)
+    }
+}
+
+/// The nanoseconds of days and microseconds.
+fn nanos_of(days: i64, micros: i64) -> i128
+    ensures { result ≡ nanos_of days micros }
+{
+    (days as i128 * 86_400_000_000 + micros as i128) * 1000
+}
+
+/// A length whose text is read back.
+fn length_of(nanos: i128) -> Result<u128, Cause>
+    ensures held { result ≡ length_of nanos }
+    ensures fits { IfOk result (λ length. length < 2 ^ 64 * 1_000_000_000) }
+{
+    let Ok(length) = u128::try_from(nanos) else {
+        return Err(Cause::Range);
+    };
+    if length / NANOSECONDS_A_SECOND > u64::MAX as u128 {
+        return Err(Cause::Range);
+    }
+    if duration(length).reads_back() {
+        Ok(length)
+    } else {
+        Err(Cause::Ambiguous)
+    }
+}
+
+/// The written text of a length.
+fn written(nanos: u128) -> Short
+    requires { nanos < 2 ^ 64 * 1_000_000_000 }
+    ensures bytes { result.bytes ≡ written nanos }
+    ensures len { array_string_len result ≤ 96 }
+{
+    duration(nanos).text()
+}
+
+/// The short duration of a length.
+fn duration(nanos: u128) -> FancyDuration<Duration>
+    requires { nanos < 2 ^ 64 * 1_000_000_000 }
+    ensures { as_nanos result.0 ≡ nanos }
+{
+    let seconds = (nanos / NANOSECONDS_A_SECOND) as u64;
+    FancyDuration(Duration::new(seconds, (nanos % NANOSECONDS_A_SECOND) as u32))
+}
+
+/// Short durations are a lawful form.
+pub fn lawful()
+    ensures { Lawful AnyForm.Fancy }
+{
+    fancy_duration::laws::texts_have_one_sum();
+    fancy_duration::laws::written_texts_are_strict();
+    fancy_duration::laws::written_texts_are_read_back();
+}
