@@ -1,14 +1,9 @@
 -- Texts of numbers are short, and zeros at the end are dropped.
-use Rattle.std.proofs.Common.{◌≡◌, ◌≢◌, ℕ, ◌+◌, ◌-◌, ◌^◌, ◌<◌, ◌≤◌, ◌==◌, Bool, true, false, cond, List, [], ◌∷◌, ◌++◌, length, take, get_or, decimal, replicate, length-append, length-take, refl, ◌∙◌, ap, arith}
-use Rattle.std.proofs.lemmas.Bool.Decides.{nat_tests}
-use Rattle.std.proofs.lemmas.Fmt.{length-decimal-le, decimal_nonempty}
-use Rattle.std.proofs.lemmas.List.{take_more, length-take-le}
-use Rattle.scan_core.specs.Digits.{AreDigits}
-use Rattle.scan_core.specs.Padded.{padded}
-use Rattle.scan_core.proofs.DigitFacts.{digits-append, digits-take, digits-zeros, digits_decimal}
+use Rattle.std.proofs.Common.{◌≡◌, ℕ, ◌+◌, ◌^◌, ◌<◌, ◌≤◌, ◌==◌, false, List, [], ◌∷◌, ◌++◌, length, decimal, refl, arith}
+use Rattle.std.proofs.lemmas.Fmt.{length-decimal-le}
 use Rattle.std.specs.Prelude.{ℤ, pos, negsuc, ◌<ℤ◌, unsigned_abs, codes}
 use Rattle.std.proofs.lemmas.Int.{ints}
-use Rattle.port_toml_datetime.specs.Texts.{minutes_text, signed_text, onto_trimmed, trimmed, or_zero}
+use Rattle.port_toml_datetime.specs.Texts.{minutes_text, signed_text, onto_trimmed, trimmed}
 
 pub short_year : (n : ℕ) → n < 2 ^ 16 → length (decimal n) ≤ 5
 short_year n h = length-decimal-le 5 n (omega arith) (omega arith) (omega arith)

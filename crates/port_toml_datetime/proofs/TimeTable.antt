@@ -1,6 +1,6 @@
 -- The checks of a time hold exactly for times.
 use Rattle.std.proofs.Common.{◌≡◌, ℕ, nat_le, Bool, true, false, cond, List, [], ◌∷◌, ◌++◌, Option, Some, None, codes, refl, sym, ◌∙◌, ap, append_assoc, arith, inl, inr}
-use Rattle.std.specs.Prelude.{option_map}
+use Rattle.std.specs.Prelude.{is_some, option_map}
 use Rattle.scan_core.specs.Digits.{AreDigits, number_of}
 use Rattle.port_toml_datetime.specs.declared.time.Time.{Time}
 use Rattle.port_toml_datetime.specs.Times.{nanoseconds, IsPerhapsSecondFraction, IsPerhapsSeconds, IsTime}
@@ -25,10 +25,10 @@ point_if true text e h =
     )
 point_if false text e h = ([], inl (refl, refl), refl)
 
-fraction_sound : (second : Option (List ℕ)) (text : List ℕ) → where_there is_digits (fraction second text) ≡ true
+fraction_sound : (second : Bool) (text : List ℕ) → where_there is_digits (fraction second text) ≡ true
     → (piece : List ℕ) × IsPerhapsSecondFraction piece (option_map nanoseconds (fraction second text)) × (text ≡ piece ++ after_fraction second text)
-fraction_sound None text h = ([], inl (refl, refl), refl)
-fraction_sound (Some s) text h = point_if (is_of (46 ∷ []) (first_token text)) text refl h
+fraction_sound false text h = ([], inl (refl, refl), refl)
+fraction_sound true text h = point_if (is_of (46 ∷ []) (first_token text)) text refl h
 
 -- the second and the fraction, where the colon is there or isn't
 abbrev second_if : Bool → List ℕ → Option (List ℕ)
@@ -38,13 +38,13 @@ abbrev after_if : Bool → List ℕ → List ℕ
 after_if t text = cond {A = List ℕ} t (after 2 text) text
 
 colon_if : (t : Bool) (text : List ℕ) → is_of (58 ∷ []) (first_token text) ≡ t → where_there is_digits (second_if t text) ≡ true
-    → where_there is_digits (fraction (second_if t text) (after_if t text)) ≡ true → where_there (has_length 2) (second_if t text) ≡ true
+    → where_there is_digits (fraction (is_some (second_if t text)) (after_if t text)) ≡ true → where_there (has_length 2) (second_if t text) ≡ true
     → where_there (λ (n : ℕ). nat_le n 60) (option_map number_of (second_if t text)) ≡ true
-    → (piece : List ℕ) × IsPerhapsSeconds piece (option_map number_of (second_if t text)) (option_map nanoseconds (fraction (second_if t text) (after_if t text)))
-    × (text ≡ piece ++ after_fraction (second_if t text) (after_if t text))
+    → (piece : List ℕ) × IsPerhapsSeconds piece (option_map number_of (second_if t text)) (option_map nanoseconds (fraction (is_some (second_if t text)) (after_if t text)))
+    × (text ≡ piece ++ after_fraction (is_some (second_if t text)) (after_if t text))
 colon_if true text e h f two most =
     let run = run_sound (after_token text) h in
-    let more = fraction_sound (Some (token 1 text)) (after 2 text) f in (
+    let more = fraction_sound true (after 2 text) f in (
       58 ∷ (token 1 text ++ more.0),
       inr (record { digits = token 1 text; fraction = more.0; number = number_of (token 1 text); field = two_made 60 (token 1 text) run.digits two most; fractions = more.1; joined = refl; value = refl }),
       mark_sound 58 text refl refl e ∙ ap (λ (l : List ℕ). 58 ∷ l) (run.joined ∙ ap (λ (l : List ℕ). token 1 text ++ l) more.2 ∙ sym (append_assoc (token 1 text) more.0 _)),
@@ -81,27 +81,27 @@ pub record Stops (rest : List ℕ) : Type 0 where
   pub colon : is_of (58 ∷ []) (first_token rest) ≡ false
   pub point : is_of (46 ∷ []) (first_token rest) ≡ false
 
-record FractionRead (second : Option (List ℕ)) (text : List ℕ) (value : Option ℕ) (rest : List ℕ) : Type 0 where
+record FractionRead (second : Bool) (text : List ℕ) (value : Option ℕ) (rest : List ℕ) : Type 0 where
   pass : where_there is_digits (fraction second text) ≡ true
   number : option_map nanoseconds (fraction second text) ≡ value
   follows : after_fraction second text ≡ rest
 
-fraction_exact : (second piece rest : List ℕ) (value : Option ℕ) → IsPerhapsSecondFraction piece value → Stops rest → FractionRead (Some second) (piece ++ rest) value rest
-fraction_exact second piece rest value (inl none) s =
+fraction_exact : (piece rest : List ℕ) (value : Option ℕ) → IsPerhapsSecondFraction piece value → Stops rest → FractionRead true (piece ++ rest) value rest
+fraction_exact piece rest value (inl none) s =
     rw none.0 (record { pass = rw s.point refl; number = rw s.point (sym none.1); follows = rw s.point refl })
-fraction_exact second piece rest value (inr f) s =
+fraction_exact piece rest value (inr f) s =
     let split : piece ++ rest ≡ 46 ∷ (f.digits ++ rest) = ap (λ (l : List ℕ). l ++ rest) f.joined in
     let run = run_exact f.digits rest f.some f.all_digits s.digit in
     rw split (record { pass = run.is; number = rw run.first (sym f.value); follows = run.follows })
 
 record SecondsRead (text : List ℕ) (second value : Option ℕ) (rest : List ℕ) : Type 0 where
   digits : where_there is_digits (marked (codes ":") text) ≡ true
-  more : where_there is_digits (fraction (marked (codes ":") text) (after_marked (codes ":") text)) ≡ true
+  more : where_there is_digits (fraction (is_some (marked (codes ":") text)) (after_marked (codes ":") text)) ≡ true
   two : where_there (has_length 2) (marked (codes ":") text) ≡ true
   most : where_there (λ (n : ℕ). nat_le n 60) (option_map number_of (marked (codes ":") text)) ≡ true
   number : option_map number_of (marked (codes ":") text) ≡ second
-  nanos : option_map nanoseconds (fraction (marked (codes ":") text) (after_marked (codes ":") text)) ≡ value
-  follows : after_fraction (marked (codes ":") text) (after_marked (codes ":") text) ≡ rest
+  nanos : option_map nanoseconds (fraction (is_some (marked (codes ":") text)) (after_marked (codes ":") text)) ≡ value
+  follows : after_fraction (is_some (marked (codes ":") text)) (after_marked (codes ":") text) ≡ rest
 
 fraction_first : (piece rest : List ℕ) (value : Option ℕ) → IsPerhapsSecondFraction piece value → Stops rest → NoDigitFirst (piece ++ rest)
 fraction_first piece rest value (inl none) s = rw none.0 s.digit
@@ -121,7 +121,7 @@ seconds_exact piece rest second value (inl none) s =
 seconds_exact piece rest second value (inr f) s =
     let split : piece ++ rest ≡ 58 ∷ (f.digits ++ (f.fraction ++ rest)) = ap (λ (l : List ℕ). l ++ rest) f.joined ∙ ap (λ (l : List ℕ). 58 ∷ l) (append_assoc f.digits f.fraction rest) in
     let run = field_run 2 0 60 f.digits (f.fraction ++ rest) f.number f.field (omega arith) (fraction_first f.fraction rest value f.fractions s) in
-    let more = fraction_exact f.digits f.fraction rest value f.fractions s in
+    let more = fraction_exact f.fraction rest value f.fractions s in
     rw split (record {
       digits = run.is;
       more = rw run.follows more.pass;

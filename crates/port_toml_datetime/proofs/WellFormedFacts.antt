@@ -1,15 +1,12 @@
 -- What a text spells is well-formed.
-use Rattle.std.proofs.Common.{◌≡◌, ℕ, ◌+◌, ◌*◌, ◌^◌, ◌<◌, ◌≤◌, Bool, true, false, pos, negsuc, neg_ℤ, zero, suc, List, ◌++◌, length, take, codes, Option, Some, None, refl, sym, ◌∙◌, ap, subst, arith, inl, inr, length-append}
-use Rattle.std.proofs.lemmas.List.{length-take-le}
-use Rattle.scan_core.specs.Digits.{AreDigits, number_of}
-use Rattle.scan_core.proofs.DigitFacts.{digits-append, digits-take, digits-zeros, number_of-lt}
+use Rattle.std.proofs.Common.{ℕ, ◌+◌, ◌*◌, ◌≤◌, Bool, true, false, zero, suc, List, Option, Some, arith, inl, inr}
 use Rattle.port_toml_datetime.specs.declared.date.Date.{Date}
 use Rattle.port_toml_datetime.specs.declared.time.Time.{Time}
 use Rattle.port_toml_datetime.specs.declared.offset.Offset.{Offset}
-use Rattle.port_toml_datetime.specs.declared.offset.Offset.TheVariants.{Z, Custom}
+use Rattle.port_toml_datetime.specs.declared.offset.Offset.TheVariants.{Custom}
 use Rattle.port_toml_datetime.specs.declared.datetime.Datetime.{Datetime}
 use Rattle.port_toml_datetime.specs.Dates.{IsDate}
-use Rattle.port_toml_datetime.specs.Times.{nanoseconds, IsPerhapsSecondFraction, IsPerhapsSeconds, IsTime}
+use Rattle.port_toml_datetime.specs.Times.{IsPerhapsSecondFraction, IsPerhapsSeconds, IsTime}
 use Rattle.port_toml_datetime.specs.Offsets.{IsOffset, signed}
 use Rattle.port_toml_datetime.specs.Datetimes.{IsPerhapsOffset, IsDatetime}
 use Rattle.port_toml_datetime.specs.WellFormed.{IsRealDay, AreRealSeconds, IsRealTime, IsOffsetInRange, AreWellFormed, IsWellFormed}

@@ -1,7 +1,7 @@
 -- The table of checks, one line each: what must hold, which part is wrong where it doesn't, and what was expected. They stand in the
 -- order in which they are made, and the first that fails decides. TOML has no such table: order and words are those of the Rust crate.
 -- A check is total in the text. Behind one that fails, later checks may mean nothing; nobody looks at them.
-use Rattle.std.specs.Prelude.{ℕ, Bool, true, ◌||◌, ◌&&◌, ◌==◌, nat_le, List, [], ◌∷◌, ◌++◌, length, codes, Option, Some, None, option_map, if◌then◌else◌}
+use Rattle.std.specs.Prelude.{ℕ, Bool, true, ◌||◌, ◌&&◌, ◌==◌, nat_le, List, [], ◌∷◌, ◌++◌, length, codes, Option, Some, None, option_map, is_some, if◌then◌else◌}
 use Rattle.scan_core.specs.Digits.{number_of}
 use Rattle.port_toml_datetime.specs.Dates.{days_in_month}
 use Rattle.port_toml_datetime.specs.Faults.{Fault, fault, bare_fault}
@@ -74,19 +74,17 @@ abbrev pub after_marked : List ℕ → List ℕ → List ℕ
 after_marked mark text = if is_of mark (token 0 text) then after 2 text else text
 
 -- a fraction, which stands only behind a second
-abbrev pub fraction : Option (List ℕ) → List ℕ → Option (List ℕ)
-fraction None text = None
-fraction (Some second) text = marked (codes ".") text
+abbrev pub fraction : Bool → List ℕ → Option (List ℕ)
+fraction has_second text = if has_second then marked (codes ".") text else None
 
-abbrev pub after_fraction : Option (List ℕ) → List ℕ → List ℕ
-after_fraction None text = text
-after_fraction (Some second) text = after_marked (codes ".") text
+abbrev pub after_fraction : Bool → List ℕ → List ℕ
+after_fraction has_second text = if has_second then after_marked (codes ".") text else text
 
 unfoldable pub time_rows : List ℕ → List ℕ → List Row
 time_rows hour text =
     let minute = token 0 text in
     let second = marked (codes ":") (after 1 text) in
-    let nanosecond = fraction second (after_marked (codes ":") (after 1 text)) in
+    let nanosecond = fraction (is_some second) (after_marked (codes ":") (after 1 text)) in
     row (is_digits minute) (codes "time") (codes "minute")
     ∷ row (where_there is_digits second) (codes "time") (codes "second")
     ∷ row (where_there is_digits nanosecond) (codes "time") (codes "nanosecond")
@@ -99,7 +97,7 @@ time_rows hour text =
     ∷ []
 
 unfoldable pub after_time : List ℕ → List ℕ
-after_time text = after_fraction (marked (codes ":") (after 1 text)) (after_marked (codes ":") (after 1 text))
+after_time text = after_fraction (is_some (marked (codes ":") (after 1 text))) (after_marked (codes ":") (after 1 text))
 
 -- ---- behind a date
 

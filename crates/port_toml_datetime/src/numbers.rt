@@ -16,6 +16,7 @@ pub(crate) fn two_digits(digits: &[u8]) -> u8
 }
 
 /// The number of four digits.
+#[inline(always)]
 pub(crate) fn four_digits(digits: &[u8]) -> u16
     requires digits { AreDigits digits.now }
     requires four { length digits.now ≡ 4 }

@@ -8,8 +8,8 @@ ghost use Rattle.port_toml_datetime.specs.inside.Values.{date_of};
 
 use crate::Date;
 use crate::error::{Check, DatetimeParseError};
-use crate::numbers::{four_digits, two_digits};
-use crate::scan::{check, digits, mark};
+use crate::numbers::four_digits;
+use crate::scan::{check, mark, read_field};
 
 fn is_leap_year(year: u16) -> bool
     ensures { result ≡ is_leap_year year }
@@ -54,15 +54,15 @@ pub(crate) fn read_date<'a>(
     ensures rest { IfOk result (λ r. r.1.now ≡ after_date bytes.now) }
     ensures err { IfErr result (λ e. first_failing (date_rows year.now bytes.now) ≡ Some (fault_of e)) }
 {
-    let (month, bytes) = digits(bytes, Check::Month)?;
+    let (month, bytes) = read_field(bytes, Check::Month)?;
     let bytes = mark(b'-', bytes, Check::MonthMark)?;
-    let (day, bytes) = digits(bytes, Check::Day)?;
+    let (day, bytes) = read_field(bytes, Check::Day)?;
     check(year.len() == 4, Check::YearWidth)?;
-    check(month.len() == 2, Check::MonthWidth)?;
-    check(day.len() == 2, Check::DayWidth)?;
+    check(month.is_two, Check::MonthWidth)?;
+    check(day.is_two, Check::DayWidth)?;
     let year = four_digits(year);
-    let month = two_digits(month);
-    let day = two_digits(day);
+    let month = month.number;
+    let day = day.number;
     check(1 <= month && month <= 12, Check::MonthRange)?;
     let days = days_in_month(year, month);
     check(1 <= day && day <= days, day_check(days))?;

@@ -7,8 +7,7 @@ ghost use Rattle.port_toml_datetime.specs.inside.Values.{numeric_offset_of, offs
 
 use crate::Offset;
 use crate::error::{Check, DatetimeParseError};
-use crate::numbers::two_digits;
-use crate::scan::{check, digits, end, mark};
+use crate::scan::{check, end, mark, read_field};
 
 fn with_sign(negative: bool, minutes: u16) -> i16
     requires { minutes ≤ 1439 }
@@ -25,17 +24,15 @@ fn read_numeric_offset(negative: bool, bytes: &[u8]) -> Result<Offset, DatetimeP
     ensures offset { IfOk result (λ r. r ≡ numeric_offset_of negative bytes.now) }
     ensures err { IfErr result (λ e. first_failing (numeric_offset_rows bytes.now) ≡ Some (fault_of e)) }
 {
-    let (hours, bytes) = digits(bytes, Check::OffsetHour)?;
+    let (hours, bytes) = read_field(bytes, Check::OffsetHour)?;
     let bytes = mark(b':', bytes, Check::OffsetHourMark)?;
-    let (minutes, bytes) = digits(bytes, Check::OffsetMinute)?;
-    check(hours.len() == 2, Check::OffsetHourWidth)?;
-    check(minutes.len() == 2, Check::OffsetMinuteWidth)?;
-    let hours = two_digits(hours);
-    let minutes = two_digits(minutes);
-    check(hours <= 23, Check::OffsetHourRange)?;
-    check(minutes <= 59, Check::OffsetMinuteRange)?;
+    let (minutes, bytes) = read_field(bytes, Check::OffsetMinute)?;
+    check(hours.is_two, Check::OffsetHourWidth)?;
+    check(minutes.is_two, Check::OffsetMinuteWidth)?;
+    check(hours.number <= 23, Check::OffsetHourRange)?;
+    check(minutes.number <= 59, Check::OffsetMinuteRange)?;
     end(bytes)?;
-    let minutes = 60 * u16::from(hours) + u16::from(minutes);
+    let minutes = 60 * u16::from(hours.number) + u16::from(minutes.number);
     Ok(Offset::Custom {
         minutes: with_sign(negative, minutes),
     })

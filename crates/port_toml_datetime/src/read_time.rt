@@ -1,33 +1,70 @@
 //! Times, from behind the `:` that follows the hour. The checks stand in the order of the table.
-ghost use Rattle.std.specs.Prelude.{◌≡◌, Some, None, nat_le, IfOk, IfErr, IfSome, option_map, true};
+ghost use Rattle.std.specs.Prelude.{◌≡◌, Some, None, nat_le, IfOk, IfErr, codes, is_some, option_map, true, false};
 ghost use Rattle.scan_core.specs.Digits.{AreDigits, number_of};
 ghost use Rattle.port_toml_datetime.specs.Times.{nanoseconds};
-ghost use Rattle.port_toml_datetime.specs.Faults.{fault_of};
-ghost use Rattle.port_toml_datetime.specs.Checks.{after_time, first_failing, has_length, time_rows, where_there};
+ghost use Rattle.port_toml_datetime.specs.Tokens.{is_digits};
+ghost use Rattle.port_toml_datetime.specs.Faults.{fault_of, words_of};
+ghost use Rattle.port_toml_datetime.specs.Checks.{after_fraction, after_marked, after_time, first_failing, fraction, has_length, marked, time_rows, where_there};
 ghost use Rattle.port_toml_datetime.specs.inside.Values.{time_of};
 
 use crate::Time;
 use crate::error::{Check, DatetimeParseError};
 use crate::numbers::{nanoseconds, two_digits};
-use crate::scan::{check, digits, fraction, marked};
+use crate::scan::{Field, check, digits, read_field};
+
+/// The field behind a `:`, where one follows, and what follows both.
+fn read_second(bytes: &[u8]) -> Result<(Option<Field>, &[u8]), DatetimeParseError>
+    ensures is { IfOk result (λ r. where_there is_digits (marked (codes ":") bytes.now) ≡ true) }
+    ensures there { IfOk result (λ r. is_some r.0 ≡ is_some (marked (codes ":") bytes.now)) }
+    ensures two { IfOk result (λ r.
+        where_there (λ f. f.is_two) r.0 ≡ where_there (has_length 2) (marked (codes ":") bytes.now)) }
+    ensures number { IfOk result (λ r. where_there (has_length 2) (marked (codes ":") bytes.now) ≡ true
+        → option_map (λ f. f.number) r.0 ≡ option_map number_of (marked (codes ":") bytes.now)) }
+    ensures rest { IfOk result (λ r. r.1.now ≡ after_marked (codes ":") bytes.now) }
+    ensures isnt { IfErr result (λ e. where_there is_digits (marked (codes ":") bytes.now) ≡ false) }
+    ensures err { IfErr result (λ e. fault_of e ≡ words_of Check.Second) }
+{
+    match bytes {
+        [b':', rest @ ..] => {
+            let (second, rest) = read_field(rest, Check::Second)?;
+            Ok((Some(second), rest))
+        }
+        _ => Ok((None, bytes)),
+    }
+}
+
+/// The nanoseconds of the digits behind a `.`, where one follows a second, and what follows both.
+fn read_fraction(has_second: bool, bytes: &[u8]) -> Result<(Option<u32>, &[u8]), DatetimeParseError>
+    ensures is { IfOk result (λ r. where_there is_digits (fraction has_second bytes.now) ≡ true) }
+    ensures value { IfOk result (λ r. r.0 ≡ option_map nanoseconds (fraction has_second bytes.now)) }
+    ensures rest { IfOk result (λ r. r.1.now ≡ after_fraction has_second bytes.now) }
+    ensures isnt { IfErr result (λ e. where_there is_digits (fraction has_second bytes.now) ≡ false) }
+    ensures err { IfErr result (λ e. fault_of e ≡ words_of Check.Nanosecond) }
+{
+    match bytes {
+        [b'.', rest @ ..] if has_second => {
+            let (digits, rest) = digits(rest, Check::Nanosecond)?;
+            Ok((Some(nanoseconds(digits)), rest))
+        }
+        _ => Ok((None, bytes)),
+    }
+}
 
 /// Whether the second isn't there, or has two digits.
-fn is_two_digits(second: Option<&[u8]>) -> bool
-    ensures { result ≡ where_there (has_length 2) (option_map (λ s. s.now) second.entry) }
+fn is_two_digits(second: Option<Field>) -> bool
+    ensures { result ≡ where_there (λ f. f.is_two) second }
 {
     match second {
-        Some(digits) => digits.len() == 2,
+        Some(second) => second.is_two,
         None => true,
     }
 }
 
-fn second_number(second: Option<&[u8]>) -> Option<u8>
-    requires digits { IfSome second (λ s. AreDigits s.now) }
-    requires two { where_there (has_length 2) (option_map (λ s. s.now) second) ≡ true }
-    ensures { result ≡ option_map number_of (option_map (λ s. s.now) second.entry) }
+fn number_of_second(second: Option<Field>) -> Option<u8>
+    ensures { result ≡ option_map (λ f. f.number) second }
 {
     match second {
-        Some(digits) => Some(two_digits(digits)),
+        Some(second) => Some(second.number),
         None => None,
     }
 }
@@ -41,18 +78,9 @@ fn is_second(second: Option<u8>) -> bool
     }
 }
 
-fn fraction_number(fraction: Option<&[u8]>) -> Option<u32>
-    requires { IfSome fraction (λ s. AreDigits s.now) }
-    ensures { result ≡ option_map nanoseconds (option_map (λ s. s.now) fraction.entry) }
-{
-    match fraction {
-        Some(digits) => Some(nanoseconds(digits)),
-        None => None,
-    }
-}
-
 /// A time, from behind the `:` that follows the hour.
 #[tactic(auto, unfolding(crate::specs::Checks::time_rows, crate::specs::Checks::after_time, crate::specs::inside::Values::time_of))]
+#[inline(always)]
 pub(crate) fn read_time<'a>(
     hour: &[u8],
     bytes: &'a [u8],
@@ -63,19 +91,18 @@ pub(crate) fn read_time<'a>(
     ensures rest { IfOk result (λ r. r.1.now ≡ after_time bytes.now) }
     ensures err { IfErr result (λ e. first_failing (time_rows hour.now bytes.now) ≡ Some (fault_of e)) }
 {
-    let (minute, bytes) = digits(bytes, Check::Minute)?;
-    let (second, bytes) = marked(b':', bytes, Check::Second)?;
-    let (fraction, bytes) = fraction(second, bytes)?;
+    let (minute, bytes) = read_field(bytes, Check::Minute)?;
+    let (second, bytes) = read_second(bytes)?;
+    let (nanosecond, bytes) = read_fraction(second.is_some(), bytes)?;
     check(hour.len() == 2, Check::HourWidth)?;
-    check(minute.len() == 2, Check::MinuteWidth)?;
+    check(minute.is_two, Check::MinuteWidth)?;
     check(is_two_digits(second), Check::SecondWidth)?;
     let hour = two_digits(hour);
-    let minute = two_digits(minute);
-    let second = second_number(second);
+    let minute = minute.number;
+    let second = number_of_second(second);
     check(hour <= 23, Check::HourRange)?;
     check(minute <= 59, Check::MinuteRange)?;
     check(is_second(second), Check::SecondRange)?;
-    let nanosecond = fraction_number(fraction);
     Ok((
         Time {
             hour,

@@ -1,11 +1,12 @@
 //! Tokens in front of bytes, each with the check that asks for it. All access to bytes goes through these.
-ghost use Rattle.std.specs.Prelude.{◌≡◌, true, false, [], ◌∷◌, IfOk, IfErr, IfSome, option_map};
-ghost use Rattle.scan_core.specs.Digits.{AreDigits};
+ghost use Rattle.std.specs.Prelude.{◌≡◌, true, false, [], ◌∷◌, IfOk, IfErr};
+ghost use Rattle.scan_core.specs.Digits.{AreDigits, number_of};
 ghost use Rattle.port_toml_datetime.specs.Faults.{fault_of, words_of};
-ghost use Rattle.port_toml_datetime.specs.Checks.{after_fraction, after_marked, fraction, marked, where_there};
+ghost use Rattle.port_toml_datetime.specs.Checks.{has_length};
 ghost use Rattle.port_toml_datetime.specs.Tokens.{after_token, first_token, is_digits, is_end, is_mark, is_of};
 
 use crate::error::{Check, DatetimeParseError};
+use crate::numbers::two_digits;
 use scan_core::split_digits;
 
 /// The digits in front and what follows them, or the error where there are none.
@@ -22,6 +23,73 @@ pub(crate) fn digits(bytes: &[u8], asked: Check) -> Result<(&[u8], &[u8]), Datet
         return Err(DatetimeParseError::new(asked));
     }
     Ok((front, rest))
+}
+
+/// A run of digits that is to be a field of two.
+#[derive(Clone, Copy)]
+pub(crate) struct Field {
+    /// Whether it has two digits.
+    pub is_two: bool,
+    /// The number that they write, or 0 where they aren't two.
+    pub number: u8,
+}
+
+fn field_of(digits: &[u8]) -> Field
+    requires { AreDigits digits.now }
+    ensures two { result.is_two ≡ has_length 2 digits.now }
+    ensures number { has_length 2 digits.now ≡ true → result.number ≡ number_of digits.now }
+{
+    if digits.len() == 2 {
+        Field {
+            is_two: true,
+            number: two_digits(digits),
+        }
+    } else {
+        Field {
+            is_two: false,
+            number: 0,
+        }
+    }
+}
+
+fn begins_with_digit(bytes: &[u8]) -> bool
+    ensures { result ≡ is_digits bytes.now }
+{
+    match bytes {
+        [b'0'..=b'9', ..] => true,
+        _ => false,
+    }
+}
+
+/// The digits in front as a field of two, and what follows them, or the error where there are none.
+///
+/// Two digits are read without a loop, since nearly all fields have two.
+pub(crate) fn read_field(bytes: &[u8], asked: Check) -> Result<(Field, &[u8]), DatetimeParseError>
+    ensures is { IfOk result (λ r. is_digits (first_token bytes.now) ≡ true) }
+    ensures two { IfOk result (λ r. r.0.is_two ≡ has_length 2 (first_token bytes.now)) }
+    ensures number { IfOk result (λ r. has_length 2 (first_token bytes.now) ≡ true
+        → r.0.number ≡ number_of (first_token bytes.now)) }
+    ensures rest { IfOk result (λ r. r.1.now ≡ after_token bytes.now) }
+    ensures isnt { IfErr result (λ e. is_digits (first_token bytes.now) ≡ false) }
+    ensures err { IfErr result (λ e. fault_of e ≡ words_of asked) }
+{
+    match bytes {
+        [tens, ones, rest @ ..]
+            if tens.is_ascii_digit() && ones.is_ascii_digit() && !begins_with_digit(rest) => {
+            let number = 10 * (*tens - b'0') + (*ones - b'0');
+            Ok((
+                Field {
+                    is_two: true,
+                    number,
+                },
+                rest,
+            ))
+        }
+        _ => {
+            let (found, rest) = digits(bytes, asked)?;
+            Ok((field_of(found), rest))
+        }
+    }
 }
 
 /// What follows the mark in front, or the error where it isn't there.
@@ -58,49 +126,4 @@ pub(crate) fn end(bytes: &[u8]) -> Result<(), DatetimeParseError>
     ensures err { IfErr result (λ e. fault_of e ≡ words_of Check.End) }
 {
     check(bytes.is_empty(), Check::End)
-}
-
-/// The digits behind the mark in front, where the mark is there.
-pub(crate) fn marked(
-    mark: u8,
-    bytes: &[u8],
-    asked: Check,
-) -> Result<(Option<&[u8]>, &[u8]), DatetimeParseError>
-    requires { is_mark mark ≡ true }
-    ensures is { IfOk result (λ r. where_there is_digits (marked (mark ∷ []) bytes.now) ≡ true) }
-    ensures token { IfOk result (λ r. option_map (λ s. s.now) r.0 ≡ marked (mark ∷ []) bytes.now) }
-    ensures rest { IfOk result (λ r. r.1.now ≡ after_marked (mark ∷ []) bytes.now) }
-    ensures digits { IfOk result (λ r. IfSome r.0 (λ s. AreDigits s.now)) }
-    ensures isnt { IfErr result (λ e. where_there is_digits (marked (mark ∷ []) bytes.now) ≡ false) }
-    ensures err { IfErr result (λ e. fault_of e ≡ words_of asked) }
-{
-    match bytes {
-        [byte, rest @ ..] if *byte == mark => {
-            let (found, rest) = digits(rest, asked)?;
-            Ok((Some(found), rest))
-        }
-        _ => Ok((None, bytes)),
-    }
-}
-
-/// The digits of a fraction, which stands only behind a second.
-pub(crate) fn fraction<'a>(
-    second: Option<&[u8]>,
-    bytes: &'a [u8],
-) -> Result<(Option<&'a [u8]>, &'a [u8]), DatetimeParseError>
-    ensures is { IfOk result (λ r.
-        where_there is_digits (fraction (option_map (λ s. s.now) second.entry) bytes.now) ≡ true) }
-    ensures token { IfOk result (λ r.
-        option_map (λ s. s.now) r.0 ≡ fraction (option_map (λ s. s.now) second.entry) bytes.now) }
-    ensures rest { IfOk result (λ r.
-        r.1.now ≡ after_fraction (option_map (λ s. s.now) second.entry) bytes.now) }
-    ensures digits { IfOk result (λ r. IfSome r.0 (λ s. AreDigits s.now)) }
-    ensures isnt { IfErr result (λ e.
-        where_there is_digits (fraction (option_map (λ s. s.now) second.entry) bytes.now) ≡ false) }
-    ensures err { IfErr result (λ e. fault_of e ≡ words_of Check.Nanosecond) }
-{
-    match second {
-        Some(_) => marked(b'.', bytes, Check::Nanosecond),
-        None => Ok((None, bytes)),
-    }
 }

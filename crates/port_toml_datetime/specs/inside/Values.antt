@@ -1,5 +1,5 @@
 -- The values that tokens have, whether or not the checks hold. Cited by private contracts alone.
-use Rattle.std.specs.Prelude.{ℕ, ◌+◌, ◌*◌, Bool, List, codes, Option, Some, None, option_map, if◌then◌else◌}
+use Rattle.std.specs.Prelude.{ℕ, ◌+◌, ◌*◌, Bool, List, codes, Option, Some, None, option_map, is_some, if◌then◌else◌}
 use Rattle.scan_core.specs.Digits.{number_of}
 use Rattle.port_toml_datetime.specs.Times.{nanoseconds}
 use Rattle.port_toml_datetime.specs.Offsets.{signed}
@@ -22,7 +22,7 @@ time_of hour text =
       hour = number_of hour;
       minute = number_of (token 0 text);
       second = option_map number_of second;
-      nanosecond = option_map nanoseconds (fraction second (after_marked (codes ":") (after 1 text)));
+      nanosecond = option_map nanoseconds (fraction (is_some second) (after_marked (codes ":") (after 1 text)));
     }
 
 unfoldable pub numeric_offset_of : Bool → List ℕ → Offset

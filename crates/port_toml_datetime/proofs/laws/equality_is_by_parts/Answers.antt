@@ -1,5 +1,5 @@
 use Rattle.std.proofs.Common.{rules, ◌≡◌, Option, refl, ap}
-use Rattle.std.specs.Prelude.{◌↔◌, IsTrue}
+use Rattle.std.specs.Prelude.{◌↔◌}
 use Rattle.port_toml_datetime.specs.declared.date.Date.{Date}
 use Rattle.port_toml_datetime.specs.declared.time.Time.{Time}
 use Rattle.port_toml_datetime.specs.declared.offset.Offset.{Offset}

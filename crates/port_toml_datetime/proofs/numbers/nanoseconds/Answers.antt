@@ -1,4 +1,4 @@
-use Rattle.std.proofs.Common.{◌∙◌, arith}
+use Rattle.std.proofs.Common.{arith}
 use Rattle.port_toml_datetime.proofs.FractionFacts.{nine_short, scaled}
 use Rattle.port_toml_datetime.proofs.numbers.nanoseconds.Goals as goal
 

@@ -1,6 +1,4 @@
-use Rattle.std.proofs.Common.{ap, ◌∙◌, arith}
-use Rattle.std.proofs.lemmas.List.{take_all}
-use Rattle.scan_core.specs.Digits.{number_of}
+use Rattle.std.proofs.Common.{arith}
 use Rattle.scan_core.proofs.DigitFacts.{digit_is}
 use Rattle.port_toml_datetime.proofs.FractionFacts.{one_more}
 use Rattle.port_toml_datetime.proofs.numbers.number.Goals as goal
