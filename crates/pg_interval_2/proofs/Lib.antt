@@ -37,3 +37,5 @@ pub mod SqlCounts
 pub mod SqlSolid
 pub mod SqlSpelled
 pub mod SqlReadBack
+pub mod SqlFound
+pub mod SqlShape

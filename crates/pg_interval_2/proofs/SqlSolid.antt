@@ -17,7 +17,7 @@ sign_clear default false sign (inl plus) = rw plus (refl, tt)
 sign_clear default false sign (inr none) = rw none.0 tt
 
 -- a sign, digits and what follows them
-solid : (default negative : Bool) (sign field tail : List ℕ) → IsSignOr default negative sign → IsField field → NoBlanks tail → IsSolid (sign ++ (field ++ tail))
+pub solid : (default negative : Bool) (sign field tail : List ℕ) → IsSignOr default negative sign → IsField field → NoBlanks tail → IsSolid (sign ++ (field ++ tail))
 solid default negative sign field tail signed digits clear =
     let some = digits.0 in
     (omega (arith, some, length-append sign (field ++ tail), length-append field tail), no_blanks-append sign (field ++ tail) (sign_clear default negative sign signed) (no_blanks-append field tail (digits_no_blanks field digits.1) clear))
@@ -31,7 +31,7 @@ days_solid negative word counts h =
     let clear = solid false negative h.sign h.days [] h.signed h.day_field tt in
     subst IsSolid (sym h.joined) (subst (λ (l : List ℕ). IsSolid (h.sign ++ l)) (append-nil h.days) clear)
 
-seconds_clear : (negative : Bool) (piece : List ℕ) (counts : List Count) → HasSeconds negative piece counts → NoBlanks piece
+pub seconds_clear : (negative : Bool) (piece : List ℕ) (counts : List Count) → HasSeconds negative piece counts → NoBlanks piece
 seconds_clear negative piece counts (inl none) = rw none.0 tt
 seconds_clear negative piece counts (inr h) =
     let joined = h.joined in

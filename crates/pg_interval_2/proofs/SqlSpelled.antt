@@ -31,7 +31,7 @@ minus_alone : (negative : Bool) → IsSignOr false negative (minus negative)
 minus_alone true = inl refl
 minus_alone false = inr (refl, refl)
 
-governed : (negative : Bool) → IsSignOr negative negative []
+pub governed : (negative : Bool) → IsSignOr negative negative []
 governed true = inr (refl, refl)
 governed false = inr (refl, refl)
 
