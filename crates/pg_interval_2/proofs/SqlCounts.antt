@@ -4,7 +4,7 @@ use Rattle.scan_core.specs.Blanks.{is_blank, words, EndsWord}
 use Rattle.scan_core.specs.Count.{Count}
 use Rattle.pg_interval_2.specs.ItemReading.{after_blanks}
 use Rattle.pg_interval_2.specs.Sql.{IsYearMonth, IsTime, AreDaysAndTime, AreAllThree, AreSqlWords, IsSql}
-use Rattle.pg_interval_2.specs.inside.SqlReading.{YearMonth, Days, word_counts, read_field, read_word, last_time, read_sql}
+use Rattle.pg_interval_2.specs.inside.SqlReading.{YearMonth, Days, word_counts, read_field, read_word, last_time, behind_date, behind_days, read_sql}
 use Rattle.pg_interval_2.proofs.Answering.{HasOneList}
 use Rattle.pg_interval_2.proofs.ItemWords.{first_word, words-after_blanks, words_in_front}
 use Rattle.pg_interval_2.proofs.SqlWords.{year_month_read, days_read, time_read}
@@ -67,7 +67,7 @@ no_words bytes h = nothing_if (after_blanks bytes) (after_blanks-first bytes) (w
 -- ---- the words of a text are read
 
 one_word : (text word : List ℕ) (counts : List Count) → words text ≡ word ∷ [] → IsYearMonth word counts ⊎ IsTime false word counts → read_sql text ≡ Some counts
-unfolding read_sql
+unfolding read_sql behind_date
 one_word text word counts h (inl date) =
     let found = begins_with text word [] h in
     let read = ap (read_word false) found.split ∙ year_month_read word found.rest counts date found.ends in
@@ -81,32 +81,26 @@ one_word text word counts h (inr time) =
     rw (read, end) (ap (λ (l : List Count). Some l) (sym reads.counted))
 
 -- a time that ends the bytes, behind counts
-pub record EndsInTime (default : Bool) (bytes : List ℕ) (before counts : List Count) : Type 0 where
-  pub first : ℕ
-  pub front : List ℕ
-  pub bytes_are : after_blanks bytes ≡ first ∷ front
-  pub read : option_and_then (last_time before) (read_word default (first ∷ front)) ≡ Some (before ++ counts)
-
-ends_in_time : (default : Bool) (bytes word : List ℕ) (before counts : List Count) → words bytes ≡ word ∷ [] → IsTime default word counts → EndsInTime default bytes before counts
+ends_in_time : (default : Bool) (bytes word : List ℕ) (before counts : List Count) → words bytes ≡ word ∷ [] → IsTime default word counts → option_and_then (last_time before) (read_word default (after_blanks bytes)) ≡ Some (before ++ counts)
 ends_in_time default bytes word before counts h time =
     let found = begins_with bytes word [] h in
     let reads = time_read default word found.rest counts time found.ends in
-    let read = ap (read_word default) (sym found.bytes_are ∙ found.split) ∙ reads.read in
+    let read = ap (read_word default) found.split ∙ reads.read in
     let end = no_words found.rest found.behind in
-    record { first = found.first; front = found.front; bytes_are = found.bytes_are; read = rw (read, end) (ap (λ (l : List Count). Some (before ++ l)) (sym reads.counted)) }
+    rw (read, end) (ap (λ (l : List Count). Some (before ++ l)) (sym reads.counted))
 
 two_words : (text first second : List ℕ) (counts : List Count) → words text ≡ first ∷ second ∷ [] → AreDaysAndTime first second counts → read_sql text ≡ Some counts
-unfolding read_sql
+unfolding read_sql behind_days
 two_words text first second counts h are =
     let found = begins_with text first (second ∷ []) h in
     let read = ap (read_word false) found.split ∙ days_read are.negative first found.rest are.day_counts are.days found.ends in
+    let next = (begins_with found.rest second [] found.behind).bytes_are in
     let last = ends_in_time are.negative found.rest second (word_counts (Days are.negative are.days.days)) are.time_counts found.behind are.time in
-    let there = last.bytes_are in
     let counted = are.counted ∙ ap (λ (l : List Count). l ++ are.time_counts) are.days.counted in
-    rw (read, there) (last.read ∙ ap (λ (l : List Count). Some l) (sym counted))
+    rw (read, next) (rw next at last ∙ ap (λ (l : List Count). Some l) (sym counted))
 
 three_words : (text first second third : List ℕ) (counts : List Count) → words text ≡ first ∷ second ∷ third ∷ [] → AreAllThree first second third counts → read_sql text ≡ Some counts
-unfolding read_sql
+unfolding read_sql behind_date
 three_words text first second third counts h are =
     let found = begins_with text first (second ∷ third ∷ []) h in
     let read = ap (read_word false) found.split ∙ year_month_read first found.rest are.date_counts are.date found.ends in
@@ -115,12 +109,11 @@ three_words text first second third counts h are =
     let then = ap (read_word false) (sym next.bytes_are ∙ next.split) ∙ days_read are.negative second next.rest are.day_counts are.days next.ends in
     let before = word_counts (YearMonth are.date.negative are.date.years are.date.months) ++ word_counts (Days are.negative are.days.days) in
     let last = ends_in_time false next.rest third before are.time_counts next.behind are.time in
-    let there = last.bytes_are in
     let counted = are.counted ∙ ap₂ (λ (x y : List Count). x ++ (y ++ are.time_counts)) are.date.counted are.days.counted in
-    rw (read, here, then, there) (last.read ∙ ap (λ (l : List Count). Some l) (sym counted))
+    rw (read, here, then) (last ∙ ap (λ (l : List Count). Some l) (sym counted))
 
 zero_read : read_sql (codes "0") ≡ Some []
-unfolding read_sql read_word read_field
+unfolding read_sql behind_days read_word read_field
 zero_read = refl
 
 words_read : (text : List ℕ) (all : List (List ℕ)) (counts : List Count) → words text ≡ all → AreSqlWords all counts → read_sql text ≡ Some counts

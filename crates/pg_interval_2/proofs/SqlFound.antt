@@ -1,5 +1,5 @@
 -- What is read as a text in `sql_standard` style is one.
-use Rattle.std.proofs.Common.{◌≡◌, ℕ, ◌≤◌, ◌==◌, cond, Bool, true, false, nat_le, List, [], ◌∷◌, ◌++◌, Option, Some, None, option_and_then, option_map, refl, sym, ◌∙◌, ap, subst, append_assoc, append-nil, arith, inl, inr, codes}
+use Rattle.std.proofs.Common.{◌≡◌, ℕ, ◌≤◌, ◌==◌, cond, Bool, true, false, nat_le, List, [], ◌∷◌, ◌++◌, Option, Some, None, option_map, refl, sym, ◌∙◌, ap, subst, append_assoc, append-nil, arith, inl, inr, codes}
 use Rattle.std.proofs.lemmas.Bool.Decides.{nat_tests}
 use Rattle.std.proofs.lemmas.Option.{same_Some, cond_some, option_and_then_some}
 use Rattle.scan_core.specs.Blanks.{EndsWord}
@@ -7,7 +7,7 @@ use Rattle.pg_interval_2.specs.Clock.{IsField}
 use Rattle.pg_interval_2.specs.ItemReading.{after_blanks}
 use Rattle.pg_interval_2.specs.Reading.{read_fraction}
 use Rattle.pg_interval_2.specs.Sql.{IsSignOr, HasSeconds}
-use Rattle.pg_interval_2.specs.inside.SqlReading.{SqlWord, YearMonth, Days, Time, seconds_counts, read_sign_or, read_field, short_seconds, read_seconds, read_time, read_months, read_behind, closed_word, read_word}
+use Rattle.pg_interval_2.specs.inside.SqlReading.{SqlWord, YearMonth, Days, Time, seconds_counts, read_sign_or, read_field, short_seconds, read_seconds, read_perhaps_seconds, read_time, read_months, read_behind, closed_word, read_word}
 use Rattle.pg_interval_2.proofs.ItemFacts.{ends_from}
 use Rattle.pg_interval_2.proofs.Numbers.{above_zero, front_are_digits, front_and_after, is_fraction}
 use Rattle.pg_interval_2.proofs.SqlSpelled.{governed}
@@ -36,6 +36,10 @@ field_stands bytes r h =
 
 -- ---- seconds
 
+mapped_some : {A B P : Type 0} (f : A → B) (o : Option A) (y : B) → option_map f o ≡ Some y → ((x : A) → o ≡ Some x → f x ≡ y → P) → P
+mapped_some f None y h k = cc
+mapped_some f (Some x) y h k = k x refl (same_Some _ _ h)
+
 -- seconds stand in front, or nothing
 abbrev SecondsStand : Bool → List ℕ → Option (List ℕ × List ℕ) × List ℕ → Type 0
 SecondsStand negative bytes r = (piece : List ℕ) × HasSeconds negative piece (seconds_counts negative r.0) × (bytes ≡ piece ++ r.1)
@@ -43,12 +47,12 @@ SecondsStand negative bytes r = (piece : List ℕ) × HasSeconds negative piece 
 at_most_six : (n : ℕ) → nat_le n 6 ≡ true → n ≤ 6
 at_most_six n h = grind (arith, nat_tests)
 
-short_stand : (negative : Bool) (bs : List ℕ) (field : List ℕ × List ℕ) (r : Option (List ℕ × List ℕ) × List ℕ) → IsField field.0 → bs ≡ field.0 ++ field.1 → short_seconds field.0 (read_fraction field.1) ≡ Some r → SecondsStand negative (58 ∷ bs) r
+short_stand : (negative : Bool) (bs : List ℕ) (field : List ℕ × List ℕ) (r : (List ℕ × List ℕ) × List ℕ) → IsField field.0 → bs ≡ field.0 ++ field.1 → short_seconds field.0 (read_fraction field.1) ≡ Some r → SecondsStand negative (58 ∷ bs) (Some r.0, r.1)
 short_stand negative bs field r digits split h =
     let found = cond_some _ _ _ h in
     let point = is_fraction field.1 in
     let fraction = read_fraction field.1 in
-    subst (SecondsStand negative (58 ∷ bs)) found.1 (
+    subst (λ (q : (List ℕ × List ℕ) × List ℕ). SecondsStand negative (58 ∷ bs) (Some q.0, q.1)) found.1 (
       codes ":" ++ (field.0 ++ point.0),
       inr (record {
         seconds = field.0;
@@ -63,22 +67,23 @@ short_stand negative bs field r digits split h =
       ap (λ (l : List ℕ). 58 ∷ l) (split ∙ ap (λ (l : List ℕ). field.0 ++ l) point.2 ∙ sym (append_assoc field.0 point.0 fraction.1)),
     )
 
+colon_stands : (negative : Bool) (bs : List ℕ) (r : (List ℕ × List ℕ) × List ℕ) → read_seconds bs ≡ Some r → SecondsStand negative (58 ∷ bs) (Some r.0, r.1)
+unfolding read_seconds
+colon_stands negative bs r h =
+    option_and_then_some _ (read_field bs) r h (λ field read last. let stands = field_stands bs field read in short_stand negative bs field r stands.0 stands.1 last)
+
 seconds_if : (t negative : Bool) (b : ℕ) (bs : List ℕ) (r : Option (List ℕ × List ℕ) × List ℕ) → (t ≡ true → b ≡ 58)
-    → cond t (option_and_then (λ f. short_seconds f.0 (read_fraction f.1)) (read_field bs)) (Some (None, b ∷ bs)) ≡ Some r → SecondsStand negative (b ∷ bs) r
+    → cond t (option_map (λ r. (Some r.0, r.1)) (read_seconds bs)) (Some (None, b ∷ bs)) ≡ Some r → SecondsStand negative (b ∷ bs) r
 seconds_if true negative b bs r colon h =
     let here = colon refl in
-    option_and_then_some _ (read_field bs) r h (λ field read last. let stands = field_stands bs field read in subst (λ (c : ℕ). SecondsStand negative (c ∷ bs) r) (sym here) (short_stand negative bs field r stands.0 stands.1 last))
+    mapped_some _ (read_seconds bs) r h (λ q read same. subst (λ (c : ℕ). SecondsStand negative (c ∷ bs) r) (sym here) (subst (SecondsStand negative (58 ∷ bs)) same (colon_stands negative bs q read)))
 seconds_if false negative b bs r colon h = subst (SecondsStand negative (b ∷ bs)) (same_Some _ _ h) ([], inl (refl, refl), refl)
 
-seconds_stand : (negative : Bool) (bytes : List ℕ) (r : Option (List ℕ × List ℕ) × List ℕ) → read_seconds bytes ≡ Some r → SecondsStand negative bytes r
+seconds_stand : (negative : Bool) (bytes : List ℕ) (r : Option (List ℕ × List ℕ) × List ℕ) → read_perhaps_seconds bytes ≡ Some r → SecondsStand negative bytes r
 seconds_stand negative [] r h = subst (SecondsStand negative []) (same_Some _ _ h) ([], inl (refl, refl), refl)
 seconds_stand negative (b ∷ bs) r h = seconds_if (b == 58) negative b bs r (is_byte b 58) h
 
 -- ---- a word
-
-mapped_some : {A B P : Type 0} (f : A → B) (o : Option A) (y : B) → option_map f o ≡ Some y → ((x : A) → o ≡ Some x → f x ≡ y → P) → P
-mapped_some f None y h k = cc
-mapped_some f (Some x) y h k = k x refl (same_Some _ _ h)
 
 abbrev pub negative_of : SqlWord → Bool
 negative_of (YearMonth negative years months) = negative
@@ -112,7 +117,7 @@ time_stands : (negative : Bool) (digits bs : List ℕ) (r : SqlWord × List ℕ)
 unfolding read_time
 time_stands negative digits bs r field h =
     option_and_then_some _ (read_field bs) r h (λ minutes read last.
-    mapped_some _ (read_seconds minutes.1) r last (λ seconds found same.
+    mapped_some _ (read_perhaps_seconds minutes.1) r last (λ seconds found same.
     let stands = field_stands bs minutes read in
     let behind = seconds_stand negative minutes.1 seconds found in
     subst (BodyStands negative (digits ++ (codes ":" ++ bs))) same (

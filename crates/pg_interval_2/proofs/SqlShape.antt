@@ -9,7 +9,7 @@ use Rattle.scan_core.proofs.DigitFacts.{digit_is_alone}
 use Rattle.pg_interval_2.specs.Denotes.{HasNoShape}
 use Rattle.pg_interval_2.specs.ItemReading.{after_blanks}
 use Rattle.pg_interval_2.specs.Sql.{IsSignOr, IsYearMonth, IsDays, IsTime, AreSqlWords, IsSql}
-use Rattle.pg_interval_2.specs.inside.SqlReading.{SqlWord, YearMonth, Days, Time, word_counts, read_word, last_time, days_and_time, read_words, read_sql}
+use Rattle.pg_interval_2.specs.inside.SqlReading.{SqlWord, YearMonth, Days, Time, word_counts, read_word, last_time, days_and_time, behind_date, behind_days, read_words, read_sql}
 use Rattle.pg_interval_2.proofs.ItemFacts.{both, are_skipped}
 use Rattle.pg_interval_2.proofs.ItemWords.{words-after_blanks, words_in_front, no_blanks-append, digits_no_blanks}
 use Rattle.pg_interval_2.proofs.SqlCounts.{sql_read}
@@ -104,15 +104,14 @@ by_words : (text : List ℕ) (all : List (List ℕ)) (counts : List Count) → w
 by_words text all counts h are = inr (subst (λ (ws : List (List ℕ)). AreSqlWords ws counts) (sym (sym (words-after_blanks text) ∙ h)) are)
 
 -- days and a time stand behind a year-month
-behind_date : (text : List ℕ) (b : ℕ) (rest : List ℕ) (negative : Bool) (years months : List ℕ) (counts : List Count) (h : StandsWord false (after_blanks text) (YearMonth negative years months, b ∷ rest)) (r : SqlWord × List ℕ)
+date_and_days : (text : List ℕ) (b : ℕ) (rest : List ℕ) (negative : Bool) (years months : List ℕ) (counts : List Count) (h : StandsWord false (after_blanks text) (YearMonth negative years months, b ∷ rest)) (r : SqlWord × List ℕ)
     → StandsWord false (b ∷ rest) r → days_and_time (word_counts (YearMonth negative years months)) r ≡ Some counts → IsSql text counts
-behind_date text b rest negative years months counts h (YearMonth n y m, last) then e = cc
-behind_date text b rest negative years months counts h (Time n hours minutes seconds, last) then e = cc
-behind_date text b rest negative years months counts h (Days n days, []) then e = cc
-behind_date text b rest negative years months counts h (Days n days, c ∷ last) then e =
-    let ends = time_ends false (c ∷ last) (word_counts (YearMonth negative years months) ++ word_counts (Days n days)) counts e in
+date_and_days text b rest negative years months counts h (YearMonth n y m, last) then e = cc
+date_and_days text b rest negative years months counts h (Time n hours minutes seconds, last) then e = cc
+date_and_days text b rest negative years months counts h (Days n days, last) then e =
+    let ends = time_ends false last (word_counts (YearMonth negative years months) ++ word_counts (Days n days)) counts e in
     let third = ends.words_are in
-    let second = words_are false (b ∷ rest) (Days n days, c ∷ last) then ∙ ap (λ (ws : List (List ℕ)). (then.sign ++ then.body) ∷ ws) third in
+    let second = words_are false (b ∷ rest) (Days n days, last) then ∙ ap (λ (ws : List (List ℕ)). (then.sign ++ then.body) ∷ ws) third in
     by_words text ((h.sign ++ h.body) ∷ (then.sign ++ then.body) ∷ ends.word ∷ []) counts
     (words_are false (after_blanks text) (YearMonth negative years months, b ∷ rest) h ∙ ap (λ (ws : List (List ℕ)). (h.sign ++ h.body) ∷ ws) second)
     (record {
@@ -121,7 +120,7 @@ behind_date text b rest negative years months counts h (Days n days, c ∷ last)
       day_counts = word_counts (Days n days);
       time_counts = ends.time_counts;
       date = is_year_month (after_blanks text) (b ∷ rest) negative years months h;
-      days = are_days (b ∷ rest) (c ∷ last) n days then;
+      days = are_days (b ∷ rest) last n days then;
       time = ends.time;
       counted = ends.counted;
     })
@@ -146,7 +145,8 @@ one_test n h = grind (arith, nat_tests)
 zero_test : (n : ℕ) → (n == 0) ≡ true → n ≡ 0
 zero_test n h = grind (arith, nat_tests)
 
-zero_shape : (text : List ℕ) (negative : Bool) (days : List ℕ) (counts : List Count) → StandsWord false (after_blanks text) (Days negative days, []) → read_words text (Days negative days, []) ≡ Some counts → IsSql text counts
+zero_shape : (text : List ℕ) (negative : Bool) (days : List ℕ) (counts : List Count) → StandsWord false (after_blanks text) (Days negative days, []) → behind_days text negative days [] ≡ Some counts → IsSql text counts
+unfolding behind_days
 zero_shape text negative days counts h e =
     let found = cond_some _ _ _ e in
     let tests = both (length text == 1) (number_of days == 0) found.0 in
@@ -162,18 +162,19 @@ zero_shape text negative days counts h e =
 
 -- ---- the whole text
 
-words_found : (text : List ℕ) (counts : List Count) (r : SqlWord × List ℕ) → StandsWord false (after_blanks text) r → read_words text r ≡ Some counts → IsSql text counts
-words_found text counts (Time negative hours minutes seconds, []) h e =
-    by_words text ((h.sign ++ h.body) ∷ []) counts (words_are false (after_blanks text) (Time negative hours minutes seconds, []) h)
-    (inr (subst (IsTime false (h.sign ++ h.body)) (same_Some _ _ e) (is_time false (after_blanks text) [] negative hours minutes seconds h)))
-words_found text counts (Time negative hours minutes seconds, b ∷ rest) h e = cc
-words_found text counts (YearMonth negative years months, []) h e =
+date_found : (text : List ℕ) (counts : List Count) (negative : Bool) (years months rest : List ℕ) → StandsWord false (after_blanks text) (YearMonth negative years months, rest)
+    → behind_date (word_counts (YearMonth negative years months)) rest ≡ Some counts → IsSql text counts
+unfolding behind_date
+date_found text counts negative years months [] h e =
     by_words text ((h.sign ++ h.body) ∷ []) counts (words_are false (after_blanks text) (YearMonth negative years months, []) h)
     (inl (subst (IsYearMonth (h.sign ++ h.body)) (same_Some _ _ e) (is_year_month (after_blanks text) [] negative years months h)))
-words_found text counts (YearMonth negative years months, b ∷ rest) h e =
-    option_and_then_some _ (read_word false (b ∷ rest)) counts e (λ r read then. behind_date text b rest negative years months counts h r (word_stands false (b ∷ rest) r read) then)
-words_found text counts (Days negative days, []) h e = zero_shape text negative days counts h e
-words_found text counts (Days negative days, b ∷ rest) h e =
+date_found text counts negative years months (b ∷ rest) h e =
+    option_and_then_some _ (read_word false (b ∷ rest)) counts e (λ r read then. date_and_days text b rest negative years months counts h r (word_stands false (b ∷ rest) r read) then)
+
+days_found : (text : List ℕ) (counts : List Count) (negative : Bool) (days rest : List ℕ) → StandsWord false (after_blanks text) (Days negative days, rest) → behind_days text negative days rest ≡ Some counts → IsSql text counts
+unfolding behind_days
+days_found text counts negative days [] h e = zero_shape text negative days counts h e
+days_found text counts negative days (b ∷ rest) h e =
     let ends = time_ends negative (b ∷ rest) (word_counts (Days negative days)) counts e in
     by_words text ((h.sign ++ h.body) ∷ ends.word ∷ []) counts
     (words_are false (after_blanks text) (Days negative days, b ∷ rest) h ∙ ap (λ (ws : List (List ℕ)). (h.sign ++ h.body) ∷ ws) ends.words_are)
@@ -185,6 +186,13 @@ words_found text counts (Days negative days, b ∷ rest) h e =
       time = ends.time;
       counted = ends.counted;
     })
+
+words_found : (text : List ℕ) (counts : List Count) (r : SqlWord × List ℕ) → StandsWord false (after_blanks text) r → read_words text r ≡ Some counts → IsSql text counts
+words_found text counts (YearMonth negative years months, rest) h e = date_found text counts negative years months rest h e
+words_found text counts (Days negative days, rest) h e = days_found text counts negative days rest h e
+words_found text counts (Time negative hours minutes seconds, rest) h e =
+    let ends = last_ends false (after_blanks text) [] counts (Time negative hours minutes seconds, rest) h e in
+    by_words text (ends.word ∷ []) counts ends.words_are (inr (subst (IsTime false ends.word) (sym ends.counted) ends.time))
 
 pub is_sql : (text : List ℕ) (counts : List Count) → read_sql text ≡ Some counts → IsSql text counts
 unfolding read_sql

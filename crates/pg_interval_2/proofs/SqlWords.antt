@@ -1,13 +1,14 @@
 -- A word of a text in `sql_standard` style that stands in front is read.
-use Rattle.std.proofs.Common.{◌≡◌, ℕ, ◌==◌, Bool, true, false, nat_le, List, [], ◌∷◌, ◌++◌, length, Option, Some, None, option_and_then, refl, ◌∙◌, ap, append_assoc, arith, inl, inr, codes}
+use Rattle.std.proofs.Common.{◌≤◌, ◌≡◌, ℕ, ◌==◌, Bool, true, false, nat_le, List, [], ◌∷◌, ◌++◌, length, Option, Some, None, option_and_then, refl, ◌∙◌, ap, append_assoc, arith, inl, inr, codes}
 use Rattle.std.proofs.lemmas.Bool.Decides.{nat_tests}
 use Rattle.scan_core.specs.Blanks.{is_blank, EndsWord}
 use Rattle.scan_core.specs.Count.{Count, count_of}
 use Rattle.scan_core.specs.declared.share.Unit.TheVariants.{Hour, Minute}
+use Rattle.scan_core.specs.Number.{IsFraction}
 use Rattle.pg_interval_2.specs.Clock.{IsField}
 use Rattle.pg_interval_2.specs.ItemReading.{after_blanks}
 use Rattle.pg_interval_2.specs.Sql.{IsSignOr, IsYearMonth, IsDays, HasSeconds, IsTime}
-use Rattle.pg_interval_2.specs.inside.SqlReading.{SqlWord, YearMonth, Days, Time, seconds_counts, word_counts, read_sign_or, read_field, read_seconds, read_time, read_months, read_behind, closed_word, read_word}
+use Rattle.pg_interval_2.specs.inside.SqlReading.{SqlWord, YearMonth, Days, Time, seconds_counts, word_counts, read_sign_or, read_field, read_seconds, read_perhaps_seconds, read_time, read_months, read_behind, closed_word, read_word}
 use Rattle.scan_core.specs.Fronts.{NoDigitFirst}
 use Rattle.scan_core.proofs.FrontFacts.{front_of, after_of}
 use Rattle.pg_interval_2.proofs.Numbers.{NoSignFirst, fraction_of, digits_no_sign, tail_no_digit}
@@ -84,13 +85,22 @@ days_read negative word rest counts h ends =
 -- what seconds are read as, if they are there
 pub record ReadsSeconds (negative : Bool) (piece rest : List ℕ) (counts : List Count) : Type 0 where
   pub seconds : Option (List ℕ × List ℕ)
-  pub read : read_seconds (piece ++ rest) ≡ Some (seconds, rest)
+  pub read : read_perhaps_seconds (piece ++ rest) ≡ Some (seconds, rest)
   pub counted : counts ≡ seconds_counts negative seconds
   pub no_digit : NoDigitFirst (piece ++ rest)
 
-no_seconds : (rest : List ℕ) → EndsWord rest → read_seconds rest ≡ Some (None, rest)
+no_seconds : (rest : List ℕ) → EndsWord rest → read_perhaps_seconds rest ≡ Some (None, rest)
 no_seconds [] ends = refl
 no_seconds (b ∷ bs) ends = let other = (blank_is_no b ends).2 in rw other refl
+
+seconds_behind : (seconds fraction tail rest : List ℕ) → IsField seconds → IsFraction fraction tail → length fraction ≤ 6 → EndsWord rest → read_seconds (seconds ++ (tail ++ rest)) ≡ Some ((seconds, fraction), rest)
+unfolding read_seconds
+seconds_behind seconds fraction tail rest digits point few ends =
+    let closes = end_closes rest ends in
+    let field = field_read seconds (tail ++ rest) digits (tail_no_digit fraction tail rest point closes.digit) in
+    let behind = fraction_of fraction tail rest point closes.digit closes.point in
+    let short : nat_le (length fraction) 6 ≡ true = grind (arith, nat_tests) in
+    rw (field, behind, short) refl
 
 seconds_read : (negative : Bool) (piece rest : List ℕ) (counts : List Count) → HasSeconds negative piece counts → EndsWord rest → ReadsSeconds negative piece rest counts
 seconds_read negative piece rest counts (inl none) ends =
@@ -99,13 +109,10 @@ seconds_read negative piece rest counts (inl none) ends =
 seconds_read negative piece rest counts (inr h) ends =
     let split : piece ++ rest ≡ codes ":" ++ (h.seconds ++ (h.tail ++ rest)) =
     ap (λ (l : List ℕ). l ++ rest) h.joined ∙ ap (λ (l : List ℕ). codes ":" ++ l) (append_assoc h.seconds h.tail rest) in
-    let closes = end_closes rest ends in
-    let field = field_read h.seconds (h.tail ++ rest) h.second_field (tail_no_digit h.fraction h.tail rest h.point closes.digit) in
-    let behind = fraction_of h.fraction h.tail rest h.point closes.digit closes.point in
-    let short : nat_le (length h.fraction) 6 ≡ true = let few = h.short in grind (arith, nat_tests) in
+    let behind = seconds_behind h.seconds h.fraction h.tail rest h.second_field h.point h.short ends in
     record {
       seconds = Some (h.seconds, h.fraction);
-      read = ap read_seconds split ∙ rw (field, behind, short) refl;
+      read = ap read_perhaps_seconds split ∙ rw behind refl;
       counted = h.counted;
       no_digit = rw split refl;
     }
@@ -119,7 +126,7 @@ pub record ReadsTime (default : Bool) (word rest : List ℕ) (counts : List Coun
   pub read : read_word default (word ++ rest) ≡ Some (Time negative hours minutes seconds, after_blanks rest)
   pub counted : counts ≡ word_counts (Time negative hours minutes seconds)
 
-minutes_read : (negative : Bool) (hours minutes piece rest : List ℕ) (seconds : Option (List ℕ × List ℕ)) → IsField minutes → NoDigitFirst (piece ++ rest) → read_seconds (piece ++ rest) ≡ Some (seconds, rest)
+minutes_read : (negative : Bool) (hours minutes piece rest : List ℕ) (seconds : Option (List ℕ × List ℕ)) → IsField minutes → NoDigitFirst (piece ++ rest) → read_perhaps_seconds (piece ++ rest) ≡ Some (seconds, rest)
     → read_time negative hours (minutes ++ (piece ++ rest)) ≡ Some (Time negative hours minutes seconds, rest)
 unfolding read_time
 minutes_read negative hours minutes piece rest seconds field n read = let found = field_read minutes (piece ++ rest) field n in rw (found, read) refl

@@ -34,17 +34,21 @@ unfoldable pub read_field : List ℕ → Option (List ℕ × List ℕ)
 read_field bytes = if nat_lt 0 (length (front_digits bytes)) then Some (front_digits bytes, after_digits bytes) else None
 
 -- seconds with at most six digits behind the point
-abbrev pub short_seconds : List ℕ → List ℕ × List ℕ → Option (Option (List ℕ × List ℕ) × List ℕ)
-short_seconds seconds fraction = if nat_le (length fraction.0) 6 then Some (Some (seconds, fraction.0), fraction.1) else None
+abbrev pub short_seconds : List ℕ → List ℕ × List ℕ → Option ((List ℕ × List ℕ) × List ℕ)
+short_seconds seconds fraction = if nat_le (length fraction.0) 6 then Some ((seconds, fraction.0), fraction.1) else None
 
--- the seconds behind a colon in front, or none where no colon is there, and what follows
-abbrev pub read_seconds : List ℕ → Option (Option (List ℕ × List ℕ) × List ℕ)
-read_seconds [] = Some (None, [])
-read_seconds (b ∷ bs) = if b == 58 then option_and_then (λ r. short_seconds r.0 (read_fraction r.1)) (read_field bs) else Some (None, b ∷ bs)
+-- the seconds behind their colon, and what follows
+unfoldable pub read_seconds : List ℕ → Option ((List ℕ × List ℕ) × List ℕ)
+read_seconds bytes = option_and_then (λ r. short_seconds r.0 (read_fraction r.1)) (read_field bytes)
+
+-- a colon and seconds in front, or nothing where no colon is there, and what follows
+abbrev pub read_perhaps_seconds : List ℕ → Option (Option (List ℕ × List ℕ) × List ℕ)
+read_perhaps_seconds [] = Some (None, [])
+read_perhaps_seconds (b ∷ bs) = if b == 58 then option_map (λ r. (Some r.0, r.1)) (read_seconds bs) else Some (None, b ∷ bs)
 
 -- minutes and perhaps seconds, behind the hours' colon
 unfoldable pub read_time : Bool → List ℕ → List ℕ → Option (SqlWord × List ℕ)
-read_time negative hours bytes = option_and_then (λ m. option_map (λ s. (Time negative hours m.0 s.0, s.1)) (read_seconds m.1)) (read_field bytes)
+read_time negative hours bytes = option_and_then (λ m. option_map (λ s. (Time negative hours m.0 s.0, s.1)) (read_perhaps_seconds m.1)) (read_field bytes)
 
 -- months, behind the years' minus
 unfoldable pub read_months : Bool → List ℕ → List ℕ → Option (SqlWord × List ℕ)
@@ -72,17 +76,24 @@ last_time before (word, rest) = None
 
 -- days and a time that ends the text, behind a year-month
 abbrev pub days_and_time : List Count → SqlWord × List ℕ → Option (List Count)
-days_and_time before (Days negative days, b ∷ rest) = option_and_then (last_time (before ++ word_counts (Days negative days))) (read_word false (b ∷ rest))
+days_and_time before (Days negative days, rest) = option_and_then (last_time (before ++ word_counts (Days negative days))) (read_word false rest)
 days_and_time before (word, rest) = None
 
--- all words behind the first one
+-- what follows a year-month that begins the text: the end, or days and a time
+unfoldable pub behind_date : List Count → List ℕ → Option (List Count)
+behind_date before [] = Some before
+behind_date before (b ∷ rest) = option_and_then (days_and_time before) (read_word false (b ∷ rest))
+
+-- what follows days that begin the text: a time, or the end where the text is a zero of one byte
+unfoldable pub behind_days : List ℕ → Bool → List ℕ → List ℕ → Option (List Count)
+behind_days text negative days [] = if length text == 1 && number_of days == 0 then Some [] else None
+behind_days text negative days (b ∷ rest) = option_and_then (last_time (word_counts (Days negative days))) (read_word negative (b ∷ rest))
+
+-- all words from the first one on
 abbrev pub read_words : List ℕ → SqlWord × List ℕ → Option (List Count)
-read_words text (Time negative hours minutes seconds, []) = Some (word_counts (Time negative hours minutes seconds))
-read_words text (YearMonth negative years months, []) = Some (word_counts (YearMonth negative years months))
-read_words text (YearMonth negative years months, b ∷ rest) = option_and_then (days_and_time (word_counts (YearMonth negative years months))) (read_word false (b ∷ rest))
-read_words text (Days negative days, []) = if length text == 1 && number_of days == 0 then Some [] else None
-read_words text (Days negative days, b ∷ rest) = option_and_then (last_time (word_counts (Days negative days))) (read_word negative (b ∷ rest))
-read_words text (word, rest) = None
+read_words text (YearMonth negative years months, rest) = behind_date (word_counts (YearMonth negative years months)) rest
+read_words text (Days negative days, rest) = behind_days text negative days rest
+read_words text (Time negative hours minutes seconds, rest) = last_time [] (Time negative hours minutes seconds, rest)
 
 -- the counts of the whole text
 unfoldable pub read_sql : List ℕ → Option (List Count)
