@@ -9,7 +9,8 @@ use Rattle.pg_interval_2.specs.Reading.{read_fraction}
 use Rattle.pg_interval_2.specs.Sql.{IsSignOr, HasSeconds}
 use Rattle.pg_interval_2.specs.inside.SqlReading.{SqlWord, YearMonth, Days, Time, seconds_counts, read_sign_or, read_field, short_seconds, read_seconds, read_perhaps_seconds, read_time, read_months, read_behind, closed_word, read_word}
 use Rattle.pg_interval_2.proofs.ItemFacts.{ends_from}
-use Rattle.pg_interval_2.proofs.Numbers.{above_zero, front_are_digits, front_and_after, is_fraction}
+use Rattle.scan_core.proofs.FrontFacts.{front_are_digits, front_and_after}
+use Rattle.pg_interval_2.proofs.Numbers.{above_zero, is_fraction}
 use Rattle.pg_interval_2.proofs.SqlSpelled.{governed}
 
 -- ---- a sign and digits
