@@ -1,1 +1,2 @@
 pub mod SqlReading
+pub mod SqlViews
