@@ -1,5 +1,5 @@
 -- What a tally of counts knows: cited by private contracts alone.
-use Rattle.std.specs.Prelude.{◌≡◌, Bool, true, false, IsTrue, List, Some, Result, Ok, Err}
+use Rattle.std.specs.Prelude.{◌≡◌, ℕ, Bool, true, false, IsTrue, List, Some, Result, Ok, Err}
 use Rattle.std.specs.List.{list_all}
 use Rattle.scan_core.specs.Count.{Count}
 use Rattle.scan_core.specs.Shares.{share, fits_type}
@@ -40,3 +40,7 @@ Answers counts (Err (BadUnit start end)) = ⊥
 Answers counts (Err (InvalidYearMonth m)) = (misfit counts ≡ Some Months) × (m.now ≡ year_month_overflow)
 Answers counts (Err (InvalidDay m)) = (misfit counts ≡ Some Days) × (m.now ≡ day_overflow)
 Answers counts (Err (InvalidTime m)) = (misfit counts ≡ Some Micros) × (m.now ≡ time_overflow)
+
+-- the tally is of the counts that the text spells
+abbrev pub IsTallyOf : (List ℕ → List Count → Type 0) → List ℕ → Tally → Type 0
+IsTallyOf Shape text tally = (counts : List Count) × Shape text counts × Tallies tally counts

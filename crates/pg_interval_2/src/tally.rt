@@ -1,7 +1,8 @@
 //! The tally of a text's counts: exact sums, and which parts a share has left. Nothing is judged before the end.
 ghost use Rattle.std.specs.Prelude.{◌≡◌, ◌+◌, ◌-◌, ◌<◌, ◌≤◌, ◌^◌, [], ◌∷◌, ◌++◌, List};
-ghost use Rattle.scan_core.specs.Count.{Count};
+ghost use Rattle.scan_core.specs.Count.{Count, count_of};
 ghost use Rattle.scan_core.specs.Digits.{AreDigits};
+ghost use Rattle.scan_core.specs.Runs.{IsRun, digits_of};
 ghost use Rattle.scan_core.specs.Shares.{main_part};
 ghost use Rattle.pg_interval_2.specs.Reading.{IsDecimal, count_with, numeral_in, numeral_of};
 ghost use Rattle.pg_interval_2.specs.Tallies.{Tallies, Answers, marked};
@@ -10,7 +11,7 @@ use crate::error::ParseError;
 use crate::interval::Interval;
 use crate::number::Decimal;
 use crate::scan::Number;
-use scan_core::{Looked, Part, Steps, Totals, Unit, add_scanned, count_share};
+use scan_core::{Looked, Part, Run, Steps, Totals, Unit, add_scanned, count_share};
 use std::sync::ledger::Ledger;
 
 /// The sums of the shares that fit, and of each part whether all shares do.
@@ -69,6 +70,36 @@ impl Tally {
         ) {
             self.mark(unit);
         }
+    }
+
+    /// Takes one more count without a fraction, whose digits a scan of the text has passed.
+    #[inline(always)]
+    pub(crate) fn add_whole<L: Ledger>(
+        &mut self,
+        text: &Looked<'_>,
+        negative: bool,
+        whole: Run,
+        unit: Unit,
+        steps: &mut Steps<L>,
+    )
+        requires whole { IsRun text.now whole }
+        requires room { self.old.totals.adds < 2 ^ 63 }
+        ensures adds { self.new.totals.adds ≤ self.old.totals.adds + 1 }
+        ensures tallied { (counts : List Count) → Tallies self.old counts
+            → Tallies self.new (counts ++ count_of negative (digits_of text.now whole) [] unit ∷ []) }
+        ensures looks { steps.new ≡ steps.old }
+    {
+        let fraction = Run {
+            start: whole.end,
+            end: whole.end,
+            value: 0,
+        };
+        let number = Decimal {
+            negative,
+            whole,
+            fraction,
+        };
+        self.add(text, number, unit, steps);
     }
 
     /// Takes one more count.

@@ -58,7 +58,7 @@ perhaps_counts seen (Some x) = word_counts (seen x)
 -- the counts of a text's words, and that their digits stand in it
 abbrev pub text_counts : List ℕ → Words → List Count
 text_counts text words =
-    perhaps_counts (seen_year_month text) words.date ++ (perhaps_counts (seen_days text) words.days ++ perhaps_counts (seen_time text) words.time)
+    (perhaps_counts (seen_year_month text) words.date ++ perhaps_counts (seen_days text) words.days) ++ perhaps_counts (seen_time text) words.time
 
 abbrev pub AreTextRuns : List ℕ → Words → Type 0
 AreTextRuns text words = Perhaps (AreDateRuns text) words.date × Perhaps (λ (d : DayRuns). IsRun text d.days) words.days × Perhaps (AreTimeRuns text) words.time
