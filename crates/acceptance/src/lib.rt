@@ -5,6 +5,10 @@
 #[cfg(test)]
 mod ends;
 #[cfg(test)]
+mod fancy;
+#[cfg(test)]
+mod file_times;
+#[cfg(test)]
 mod hostile;
 #[cfg(test)]
 mod iso;
