@@ -161,10 +161,10 @@ fn texts_of_the_original(rt: HostRuntime) -> Result<(), Fail> {
         let without_spaces = fancy.format_compact(alloc)?;
         assert_eq!(rt; without_spaces.as_str(), compact);
         let read = Duration::parse_fancy_duration(text)?;
-        assert_eq!(rt; read.as_nanos(), length.as_nanos(), "of {text}");
+        assert_eq!(rt; read.as_nanos(), length.as_nanos());
         let read = Duration::parse_fancy_duration(compact)?;
-        assert_eq!(rt; read.as_nanos(), length.as_nanos(), "of {compact}");
-        assert!(rt; fancy.reads_back(), "of {text}");
+        assert_eq!(rt; read.as_nanos(), length.as_nanos());
+        assert!(rt; fancy.reads_back());
     }
     Ok(())
 }
