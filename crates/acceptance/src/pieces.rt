@@ -133,7 +133,7 @@ fn line_feeds_alone(rt: HostRuntime) -> Result<(), Fail> {
         let ended = run(alloc, &mut source, &mut sink, 1_000_000);
         assert_eq!(rt; ended, end, "at {cut}");
         assert_eq!(rt; sink.held().len(), held, "at {cut}");
-        assert_eq!(rt; sink.held(), &replies[..held], "at {cut}");
+        assert!(rt; replies.starts_with(sink.held()), "at {cut}");
     }
     Ok(())
 }
