@@ -1,12 +1,12 @@
 -- A name is one form's.
 use Rattle.std.proofs.Common.{◌≡◌, ◌==◌, ◌&&◌, ℕ, Bool, true, false, cond, List, [], ◌∷◌, Option, Some, None, refl, sym, ◌∙◌, ap}
 use Rattle.forms.specs.declared.form.Form.{Form}
-use Rattle.forms.specs.declared.form.Form.TheVariants.{FileTime, Fancy, PgIso, Postgres}
+use Rattle.forms.specs.declared.form.Form.TheVariants.{FileTime, Fancy, PgIso, Postgres, PgSql}
 use Rattle.forms.specs.Names.{name_of}
 
 -- all forms
 abbrev forms : List Form
-forms = FileTime ∷ Fancy ∷ PgIso ∷ Postgres ∷ []
+forms = FileTime ∷ Fancy ∷ PgIso ∷ Postgres ∷ PgSql ∷ []
 
 abbrev same_bytes : List ℕ → List ℕ → Bool
 same_bytes [] [] = true
@@ -24,6 +24,7 @@ finds_form FileTime = refl
 finds_form Fancy = refl
 finds_form PgIso = refl
 finds_form Postgres = refl
+finds_form PgSql = refl
 
 pub one_form : (f g : Form) → name_of f ≡ name_of g → f ≡ g
 one_form f g same =

@@ -10,7 +10,7 @@ use Rattle.pg_interval_2.specs.Styles.{Shape, written}
 use Rattle.forms.specs.declared.cause.Cause.{Cause}
 use Rattle.forms.specs.declared.cause.Cause.TheVariants.{Syntax, Range}
 use Rattle.forms.specs.declared.form.Form.{Form}
-use Rattle.forms.specs.declared.form.Form.TheVariants.{PgIso, Postgres}
+use Rattle.forms.specs.declared.form.Form.TheVariants.{PgIso, Postgres, PgSql}
 use Rattle.forms.specs.declared.value.Value.{Value}
 use Rattle.forms.specs.Answers.{and_then, ReadsBy, writes_by}
 use Rattle.forms.specs.Forms.{writes}
@@ -59,6 +59,7 @@ onto_answer from to text answer (value, inr read, h) =
 pub of_style : (form : Form) (s : Style) → style_of form ≡ Some s → HasRows form (Shape s) worth held (written s)
 of_style PgIso s h = let P : Style → Type 0 = λ s. HasRows PgIso (Shape s) worth held (written s) in let e : style.Iso ≡ s = cc in subst P e (record { reads = λ text a r. r; read = λ text a r. r; written = λ value. refl })
 of_style Postgres s h = let P : Style → Type 0 = λ s. HasRows Postgres (Shape s) worth held (written s) in let e : style.Postgres ≡ s = cc in subst P e (record { reads = λ text a r. r; read = λ text a r. r; written = λ value. refl })
+of_style PgSql s h = let P : Style → Type 0 = λ s. HasRows PgSql (Shape s) worth held (written s) in let e : style.Sql ≡ s = cc in subst P e (record { reads = λ text a r. r; read = λ text a r. r; written = λ value. refl })
 of_style _ s h = absurd (let e : None ≡ Some s = h in cc)
 
 same_written : (to : Form) (t : Style) → HasRows to (Shape t) worth held (written t) → (r : Result Value Cause) → and_then r (writes to) ≡ and_then r (writes_by held (written t))

@@ -3,7 +3,7 @@ use Rattle.std.proofs.Common.{◌≡◌, ◌≢◌, ℕ, suc, ◌<◌, ◌==◌,
 use Rattle.std.specs.Prelude.{unwrap_or}
 use Rattle.std.proofs.lemmas.Bool.Decides.{nat_tests}
 use Rattle.forms.specs.declared.form.Form.{Form}
-use Rattle.forms.specs.declared.form.Form.TheVariants.{FileTime, Fancy, PgIso, Postgres}
+use Rattle.forms.specs.declared.form.Form.TheVariants.{FileTime, Fancy, PgIso, Postgres, PgSql}
 use Rattle.forms.specs.Names.{name_of}
 use Rattle.forms.specs.Replies.{IsTail}
 use Rattle.forms.specs.Reading.{NoSpace, behind, IsNamed}
@@ -37,6 +37,7 @@ spaceless FileTime = refl
 spaceless Fancy = refl
 spaceless PgIso = refl
 spaceless Postgres = refl
+spaceless PgSql = refl
 
 name_no_space : (form : Form) → NoSpace (name_of form)
 name_no_space form = no_space_tested (name_of form) (spaceless form)

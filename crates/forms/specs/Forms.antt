@@ -5,7 +5,7 @@ use Rattle.pg_interval_2.specs.Styles.{Shape, written}
 use Rattle.pg_interval_2.specs.declared.style.Style.TheVariants as style
 use Rattle.forms.specs.declared.cause.Cause.{Cause}
 use Rattle.forms.specs.declared.form.Form.{Form}
-use Rattle.forms.specs.declared.form.Form.TheVariants.{FileTime, Fancy, PgIso, Postgres}
+use Rattle.forms.specs.declared.form.Form.TheVariants.{FileTime, Fancy, PgIso, Postgres, PgSql}
 use Rattle.forms.specs.declared.value.Value.{Value}
 use Rattle.forms.specs.Answers.{ReadsBy, writes_by}
 use Rattle.forms.specs.form.FileTime as file_time
@@ -18,6 +18,7 @@ Reads FileTime = ReadsBy file_time.Spells file_time.worth
 Reads Fancy = ReadsBy fancy.Spells fancy.worth
 Reads PgIso = ReadsBy (Shape style.Iso) interval.worth
 Reads Postgres = ReadsBy (Shape style.Postgres) interval.worth
+Reads PgSql = ReadsBy (Shape style.Sql) interval.worth
 
 -- the written text of a value in the form, or the cause why there is none
 abbrev pub writes : Form → Value → Result (List ℕ) Cause
@@ -25,3 +26,4 @@ writes FileTime = writes_by file_time.held decimal
 writes Fancy = writes_by fancy.held short_text
 writes PgIso = writes_by interval.held (written style.Iso)
 writes Postgres = writes_by interval.held (written style.Postgres)
+writes PgSql = writes_by interval.held (written style.Sql)

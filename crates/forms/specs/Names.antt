@@ -3,7 +3,7 @@ use Rattle.std.specs.Prelude.{ℕ, List, codes, Option, Some, None}
 use Rattle.pg_interval_2.specs.declared.style.Style.{Style}
 use Rattle.pg_interval_2.specs.declared.style.Style.TheVariants as style
 use Rattle.forms.specs.declared.form.Form.{Form}
-use Rattle.forms.specs.declared.form.Form.TheVariants.{FileTime, Fancy, PgIso, Postgres}
+use Rattle.forms.specs.declared.form.Form.TheVariants.{FileTime, Fancy, PgIso, Postgres, PgSql}
 use Rattle.forms.specs.declared.cause.Cause.{Cause}
 use Rattle.forms.specs.declared.cause.Cause.TheVariants.{Syntax, NoSuchMoment, Range, Kind, Precision, Ambiguous}
 
@@ -13,11 +13,13 @@ name_of FileTime = codes "FileTime"
 name_of Fancy = codes "Fancy"
 name_of PgIso = codes "PgIso"
 name_of Postgres = codes "Postgres"
+name_of PgSql = codes "PgSql"
 
 -- the style of an interval form
 abbrev pub style_of : Form → Option Style
 style_of PgIso = Some style.Iso
 style_of Postgres = Some style.Postgres
+style_of PgSql = Some style.Sql
 style_of _ = None
 
 -- a cause's name

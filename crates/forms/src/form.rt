@@ -18,6 +18,8 @@ pub enum Form {
     PgIso,
     /// PostgreSQL's intervals in style `postgres`: `1 year 2 mons 3 days 04:05:06`.
     Postgres,
+    /// PostgreSQL's intervals in style `sql_standard`: `+1-2 +3 +4:05:06`.
+    PgSql,
 }
 
 impl Form {
@@ -30,6 +32,7 @@ impl Form {
             "Fancy" => Some(Form::Fancy),
             "PgIso" => Some(Form::PgIso),
             "Postgres" => Some(Form::Postgres),
+            "PgSql" => Some(Form::PgSql),
             _ => None,
         }
     }
@@ -43,6 +46,7 @@ impl Form {
             Form::Fancy => "Fancy",
             Form::PgIso => "PgIso",
             Form::Postgres => "Postgres",
+            Form::PgSql => "PgSql",
         }
     }
 }

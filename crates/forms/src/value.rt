@@ -57,6 +57,7 @@ pub fn write_value(form: Form, value: Value) -> Result<Short, Cause>
         Form::Fancy => fancy::write(value),
         Form::PgIso => intervals::write(Style::Iso, value),
         Form::Postgres => intervals::write(Style::Postgres, value),
+        Form::PgSql => intervals::write(Style::Sql, value),
     }
 }
 
@@ -69,5 +70,6 @@ fn read(form: Form, text: &str) -> Result<Value, Cause>
         Form::Fancy => fancy::read(text),
         Form::PgIso => intervals::read(Style::Iso, text),
         Form::Postgres => intervals::read(Style::Postgres, text),
+        Form::PgSql => intervals::read(Style::Sql, text),
     }
 }
