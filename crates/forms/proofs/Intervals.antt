@@ -20,13 +20,13 @@ use Rattle.forms.specs.declared.cause.Cause.TheVariants.{Syntax, Range, Kind, Pr
 use Rattle.forms.specs.declared.form.Form.{Form}
 use Rattle.forms.specs.declared.value.Value.{Value}
 use Rattle.forms.specs.declared.value.Value.TheVariants.{Triple, Length}
-use Rattle.forms.specs.Answers.{ReadsBy}
+use Rattle.forms.specs.Answers.{Is, ReadsBy}
 use Rattle.forms.specs.Values.{IsWithinBounds, Same, IsLength}
 use Rattle.forms.specs.form.Intervals.{worth, interval_of, length_in_days, interval_of_length, held}
 use Rattle.forms.specs.inside.Lawful.{Lawful}
 use Rattle.forms.specs.inside.Readers.{IsRefusedBy}
 use Rattle.forms.proofs.Fitting.{within_32, within_64, fits_32, fits_64, widen, both, not_true}
-use Rattle.forms.proofs.Lawful.{then_ok, same_ok, IsHeldBack, HasRows, lawful_by}
+use Rattle.forms.proofs.Lawful.{then_ok, same_ok, one_image, IsHeldBack, HasRows, lawful_by}
 
 -- the triple of an interval
 abbrev pub triple : Interval → Value
@@ -53,16 +53,16 @@ named_misfit counts h None e = absurd (let both : true ≡ false = sym ((misfit-
 pub misfit_of : (counts : List Count) → fits counts ≡ false → (part : Part) × (worth counts ≡ Err Range) × (misfit counts ≡ Some part)
 misfit_of counts h = named_misfit counts h (misfit counts) refl
 
-pub reads_interval : (s : Style) (text : List ℕ) (t : Interval) → Denotes (Shape s) text t → ReadsBy (Shape s) worth text (Ok (triple t))
+pub reads_interval : (s : Style) (text : List ℕ) (t : Interval) → Denotes (Shape s) text t → ReadsBy (Shape s) (Is worth) text (Ok (triple t))
 reads_interval s text t h = inl (h.0, h.1, ap (λ (u : Interval). Ok (triple u)) h.3 ∙ sym (worth_fits h.0 h.2))
 
-pub reads_as : (s : Style) (text : List ℕ) (t : Interval) (months days micros : ℤ) → Denotes (Shape s) text t → months ≡ t.months → days ≡ t.days → micros ≡ t.microseconds → ReadsBy (Shape s) worth text (Ok (Triple months days micros))
+pub reads_as : (s : Style) (text : List ℕ) (t : Interval) (months days micros : ℤ) → Denotes (Shape s) text t → months ≡ t.months → days ≡ t.days → micros ≡ t.microseconds → ReadsBy (Shape s) (Is worth) text (Ok (Triple months days micros))
 reads_as s text t months days micros h m d u = rw (m, d, u) (reads_interval s text t h)
 
-pub reads_misfit : (s : Style) (text : List ℕ) (part : Part) → Misfits (Shape s) text part → ReadsBy (Shape s) worth text (Err Range)
+pub reads_misfit : (s : Style) (text : List ℕ) (part : Part) → Misfits (Shape s) text part → ReadsBy (Shape s) (Is worth) text (Err Range)
 reads_misfit s text part h = inl (h.0, h.1, sym (worth_misfits h.0 (not_fitting h.0 part h.2)))
 
-pub reads_no_shape : (s : Style) (text : List ℕ) → HasNoShape (Shape s) text → ReadsBy (Shape s) worth text (Err Syntax)
+pub reads_no_shape : (s : Style) (text : List ℕ) → HasNoShape (Shape s) text → ReadsBy (Shape s) (Is worth) text (Err Syntax)
 reads_no_shape s text h = inr (h, refl)
 
 -- ---- what a reader's error says
@@ -183,7 +183,7 @@ abbrev pub IsWrittenBack : Style → Type 0
 IsWrittenBack s = (t : Interval) → IsInRange t → Denotes (Shape s) (written s t) t
 
 abbrev pub IsHeld : Style → Value → Interval → Type 0
-IsHeld s value t = IsHeldBack (Shape s) worth held (written s t) value t
+IsHeld s value t = IsHeldBack (Shape s) (Is worth) (Is held) (written s t) value t
 
 held_by : (s : Style) → IsWrittenBack s → (value : Value) (t : Interval) → IsInRange t → Same value (triple t) → IsHeld s value t
 held_by s written_back value t range same =
@@ -192,9 +192,9 @@ held_by s written_back value t range same =
       meaning = d.0;
       back = triple t;
       spelled = d.1;
-      valued = worth_fits d.0 d.2 ∙ ap (λ (u : Interval). Ok (triple u)) (sym d.3);
+      valued = sym (worth_fits d.0 d.2 ∙ ap (λ (u : Interval). Ok (triple u)) (sym d.3));
       same = same;
-      again = held_parts t.months t.days t.microseconds range.months range.days range.microseconds;
+      again = sym (held_parts t.months t.days t.microseconds range.months range.days range.microseconds);
     }
 
 held_back : (s : Style) → IsWrittenBack s → (value : Value) (t : Interval) → IsWithinBounds value → held value ≡ Ok t → IsHeld s value t
@@ -202,5 +202,13 @@ held_back s written_back (Triple months days micros) t w h = let found = interva
 held_back s written_back (Length nanos) t w h = let found = length_held nanos t h in held_by s written_back (Length nanos) t found.0 found.1
 held_back s written_back _ t w h = absurd (let e : Err Kind ≡ Ok t = h in cc)
 
-pub intervals : (form : Form) (s : Style) → HasRows form (Shape s) worth held (written s) → ((text : List ℕ) (a b : List Count) → Shape s text a → Shape s text b → a ≡ b) → IsWrittenBack s → Lawful form
-intervals form s rows one written_back = lawful_by form (Shape s) worth held (written s) rows one (λ text counts value spelled h. within counts value h) (held_back s written_back)
+pub intervals : (form : Form) (s : Style) → HasRows form (Shape s) (Is worth) (Is held) (written s) → ((text : List ℕ) (a b : List Count) → Shape s text a → Shape s text b → a ≡ b) → IsWrittenBack s → Lawful form
+intervals form s rows one written_back =
+    lawful_by form (Shape s) (Is worth) (Is held) (written s) rows
+    (record {
+      one = one;
+      one_worth = one_image worth;
+      one_held = one_image held;
+      within = λ text counts value spelled h. within counts value (sym h);
+      back = λ value t w h. held_back s written_back value t w (sym h);
+    })

@@ -37,7 +37,7 @@ abbrev pub OneAnswer : Type 0
 OneAnswer = (from to : Form) (text : List ℕ) (a b : Result (List ℕ) Cause) → IsAnswer from to text a → IsAnswer from to text b → a ≡ b
 
 pub one_answer : ((form : Form) → Lawful form) → ((from to : Form) (text : List ℕ) (answer : Result (List ℕ) Cause) → IsAnswer from to text answer → Turns from to text answer) → OneAnswer
-one_answer lawful turns from to text a b h k = one_turn from to (lawful from) text a b (turns from to text a h) (turns from to text b k)
+one_answer lawful turns from to text a b h k = one_turn from to (lawful from) (lawful to) text a b (turns from to text a h) (turns from to text b k)
 
 one_answered : OneAnswer → (line a b : List ℕ) → AnswersRequest line a → AnswersRequest line b → a ≡ b
 one_answered one line a b h k =

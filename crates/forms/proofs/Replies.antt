@@ -12,8 +12,8 @@ use Rattle.forms.specs.declared.cause.Cause.TheVariants.{Syntax, Range}
 use Rattle.forms.specs.declared.form.Form.{Form}
 use Rattle.forms.specs.declared.form.Form.TheVariants.{PgIso, Postgres, PgSql}
 use Rattle.forms.specs.declared.value.Value.{Value}
-use Rattle.forms.specs.Answers.{and_then, ReadsBy, writes_by}
-use Rattle.forms.specs.Forms.{writes}
+use Rattle.forms.specs.Answers.{Is, ReadsBy, result_map, WritesBy, Then}
+use Rattle.forms.specs.Forms.{Writes}
 use Rattle.forms.specs.Names.{style_of}
 use Rattle.forms.specs.ReadBack.{Turns}
 use Rattle.forms.specs.Replies.{IsIntervalAnswer, IsAnswerBy, IsAnswer}
@@ -23,52 +23,62 @@ use Rattle.forms.proofs.Lawful.{HasRows}
 
 -- reading in one style and writing in another
 abbrev TurnsBy : Style → Style → List ℕ → Result (List ℕ) Cause → Type 0
-TurnsBy from to text answer = (value : Result Value Cause) × ReadsBy (Shape from) worth text value × (answer ≡ and_then value (writes_by held (written to)))
+TurnsBy from to text answer = (value : Result Value Cause) × ReadsBy (Shape from) (Is worth) text value × Then (WritesBy (Is held) (written to)) value answer
 
--- the text of a triple
-written_triple : (to : Style) (from : Style) (text : List ℕ) (t : Interval) → Denotes (Shape from) text t → writes_by held (written to) (triple t) ≡ Ok (written to t)
-written_triple to from text t h =
-    let range = denoted_in_range from text t h in
-    ap (λ (r : Result Interval Cause). and_then r (λ (u : Interval). Ok (written to u))) (held_parts t.months t.days t.microseconds range.months range.days range.microseconds)
+-- the interval of a triple that a text denotes
+held_triple : (from : Style) (text : List ℕ) (t : Interval) → Denotes (Shape from) text t → Ok t ≡ held (triple t)
+held_triple from text t h = let range = denoted_in_range from text t h in sym (held_parts t.months t.days t.microseconds range.months range.days range.microseconds)
+
+-- its text
+written_triple : (from : Style) (to : Style) (text : List ℕ) (t : Interval) → Denotes (Shape from) text t → WritesBy (Is held) (written to) (triple t) (Ok (written to t))
+written_triple from to text t h = (Ok t, held_triple from text t h, refl)
 
 onto_turn : (from to : Style) (text : List ℕ) (answer : Result (List ℕ) Cause) → IsIntervalAnswer from to text answer → TurnsBy from to text answer
-onto_turn from to text (Ok out) h = (Ok (triple h.0), reads_interval from text h.0 h.1, ap Ok h.2 ∙ sym (written_triple to from text h.0 h.1))
+onto_turn from to text (Ok out) h =
+    let P : List ℕ → Type 0 = λ l. WritesBy (Is held) (written to) (triple h.0) (Ok l) in
+    (Ok (triple h.0), reads_interval from text h.0 h.1, subst P (sym h.2) (written_triple from to text h.0 h.1))
 onto_turn from to text (Err Syntax) h = (Err Syntax, reads_no_shape from text h, refl)
 onto_turn from to text (Err Range) h = (Err Range, reads_misfit from text h.0 h.1, refl)
 onto_turn from to text (Err _) h = absurd h
 
 -- counts that are spelled, by whether they fit
-by_fit : (from to : Style) (text : List ℕ) (counts : List Count) → Shape from text counts → (test : Bool) → test ≡ fits counts → (answer : Result (List ℕ) Cause) → answer ≡ and_then (worth counts) (writes_by held (written to)) → IsIntervalAnswer from to text answer
-by_fit from to text counts spelled true all answer h =
+by_fit : (from to : Style) (text : List ℕ) (counts : List Count) → Shape from text counts → (test : Bool) → test ≡ fits counts → (value : Result Value Cause) → value ≡ worth counts → (answer : Result (List ℕ) Cause) → Then (WritesBy (Is held) (written to)) value answer
+    → IsIntervalAnswer from to text answer
+by_fit from to text counts spelled true all value h answer turned =
     let denoted : Denotes (Shape from) text (sum_of counts) = (counts, spelled, sym all, refl) in
-    let value : worth counts ≡ Ok (triple (sum_of counts)) = worth_fits counts (sym all) in
-    let is : answer ≡ Ok (written to (sum_of counts)) = h ∙ (ap (λ (r : Result Value Cause). and_then r (writes_by held (written to))) value ∙ written_triple to from text (sum_of counts) denoted) in
+    let P : Result Value Cause → Type 0 = λ v. Then (WritesBy (Is held) (written to)) v answer in
+    let w : WritesBy (Is held) (written to) (triple (sum_of counts)) answer = subst P (h ∙ worth_fits counts (sym all)) turned in
+    let is : answer ≡ Ok (written to (sum_of counts)) = w.2 ∙ ap (result_map (written to)) (w.1 ∙ sym (held_triple from text (sum_of counts) denoted)) in
     subst (IsIntervalAnswer from to text) (sym is) (sum_of counts, denoted, refl)
-by_fit from to text counts spelled false all answer h =
+by_fit from to text counts spelled false all value h answer turned =
     let m = misfit_of counts (sym all) in
-    let is : answer ≡ Err Range = h ∙ ap (λ (r : Result Value Cause). and_then r (writes_by held (written to))) m.1 in
+    let P : Result Value Cause → Type 0 = λ v. Then (WritesBy (Is held) (written to)) v answer in
+    let is : answer ≡ Err Range = subst P (h ∙ m.1) turned in
     subst (IsIntervalAnswer from to text) (sym is) (m.0, (counts, spelled, m.2))
 
 onto_answer : (from to : Style) (text : List ℕ) (answer : Result (List ℕ) Cause) → TurnsBy from to text answer → IsIntervalAnswer from to text answer
-onto_answer from to text answer (value, inl read, h) = by_fit from to text read.0 read.1 (fits read.0) refl answer (h ∙ ap (λ (r : Result Value Cause). and_then r (writes_by held (written to))) read.2)
+onto_answer from to text answer (value, inl read, h) = by_fit from to text read.0 read.1 (fits read.0) refl value read.2 answer h
 onto_answer from to text answer (value, inr read, h) =
-    let is : answer ≡ Err Syntax = h ∙ ap (λ (r : Result Value Cause). and_then r (writes_by held (written to))) read.1 in
+    let P : Result Value Cause → Type 0 = λ v. Then (WritesBy (Is held) (written to)) v answer in
+    let is : answer ≡ Err Syntax = subst P read.1 h in
     subst (IsIntervalAnswer from to text) (sym is) read.0
 
 -- the rows of an interval form are those of its style
-pub of_style : (form : Form) (s : Style) → style_of form ≡ Some s → HasRows form (Shape s) worth held (written s)
-of_style PgIso s h = let P : Style → Type 0 = λ s. HasRows PgIso (Shape s) worth held (written s) in let e : style.Iso ≡ s = cc in subst P e (record { reads = λ text a r. r; read = λ text a r. r; written = λ value. refl })
-of_style Postgres s h = let P : Style → Type 0 = λ s. HasRows Postgres (Shape s) worth held (written s) in let e : style.Postgres ≡ s = cc in subst P e (record { reads = λ text a r. r; read = λ text a r. r; written = λ value. refl })
-of_style PgSql s h = let P : Style → Type 0 = λ s. HasRows PgSql (Shape s) worth held (written s) in let e : style.Sql ≡ s = cc in subst P e (record { reads = λ text a r. r; read = λ text a r. r; written = λ value. refl })
+abbrev HasStyle : Form → Style → Type 0
+HasStyle form s = HasRows form (Shape s) (Is worth) (Is held) (written s)
+
+pub of_style : (form : Form) (s : Style) → style_of form ≡ Some s → HasStyle form s
+of_style PgIso s h = let e : style.Iso ≡ s = cc in subst (HasStyle PgIso) e (record { reads = λ text a r. r; read = λ text a r. r; writes = λ value a w. w; written = λ value a w. w })
+of_style Postgres s h = let e : style.Postgres ≡ s = cc in subst (HasStyle Postgres) e (record { reads = λ text a r. r; read = λ text a r. r; writes = λ value a w. w; written = λ value a w. w })
+of_style PgSql s h = let e : style.Sql ≡ s = cc in subst (HasStyle PgSql) e (record { reads = λ text a r. r; read = λ text a r. r; writes = λ value a w. w; written = λ value a w. w })
 of_style _ s h = absurd (let e : None ≡ Some s = h in cc)
 
-same_written : (to : Form) (t : Style) → HasRows to (Shape t) worth held (written t) → (r : Result Value Cause) → and_then r (writes to) ≡ and_then r (writes_by held (written t))
-same_written to t rows (Ok value) = rows.written value
-same_written to t rows (Err cause) = refl
+then_writes : (to : Form) (t : Style) → HasStyle to t → (value : Result Value Cause) (answer : Result (List ℕ) Cause) → (Then (WritesBy (Is held) (written t)) value answer → Then (Writes to) value answer) × (Then (Writes to) value answer → Then (WritesBy (Is held) (written t)) value answer)
+then_writes to t rows (Ok value) answer = (rows.written value answer, rows.writes value answer)
+then_writes to t rows (Err cause) answer = (λ h. h, λ h. h)
 
-same_turns : (from to : Form) (s t : Style) → HasRows from (Shape s) worth held (written s) → HasRows to (Shape t) worth held (written t) → (text : List ℕ) (answer : Result (List ℕ) Cause) → (TurnsBy s t text answer → Turns from to text answer) × (Turns from to text answer → TurnsBy s t text answer)
-same_turns from to s t f g text answer =
-    (λ h. (h.0, f.read text h.0 h.1, h.2 ∙ sym (same_written to t g h.0)), λ h. (h.0, f.reads text h.0 h.1, h.2 ∙ same_written to t g h.0))
+same_turns : (from to : Form) (s t : Style) → HasStyle from s → HasStyle to t → (text : List ℕ) (answer : Result (List ℕ) Cause) → (TurnsBy s t text answer → Turns from to text answer) × (Turns from to text answer → TurnsBy s t text answer)
+same_turns from to s t f g text answer = (λ h. (h.0, f.read text h.0 h.1, (then_writes to t g h.0 answer).0 h.2), λ h. (h.0, f.reads text h.0 h.1, (then_writes to t g h.0 answer).1 h.2))
 
 by_styles : (from to : Form) (a b : Option Style) → style_of from ≡ a → style_of to ≡ b → (text : List ℕ) (answer : Result (List ℕ) Cause)
     → (IsAnswerBy a b (Turns from to) text answer → Turns from to text answer) × (Turns from to text answer → IsAnswerBy a b (Turns from to) text answer)

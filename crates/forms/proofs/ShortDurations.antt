@@ -18,12 +18,12 @@ use Rattle.forms.specs.declared.cause.Cause.TheVariants.{Syntax, Range, Kind, Am
 use Rattle.forms.specs.declared.form.Form.TheVariants.{Fancy}
 use Rattle.forms.specs.declared.value.Value.{Value}
 use Rattle.forms.specs.declared.value.Value.TheVariants.{Triple, Length}
-use Rattle.forms.specs.Answers.{ReadsBy}
+use Rattle.forms.specs.Answers.{Is, ReadsBy}
 use Rattle.forms.specs.Values.{IsWithinBounds, Same, nanos_of as triple_nanos}
 use Rattle.forms.specs.form.Fancy.{Spells, worth, has_months_alone, length_of, length_of_triple, held}
 use Rattle.forms.specs.inside.Lawful.{Lawful}
 use Rattle.forms.proofs.Fitting.{below, tested, not_tested, both, not_true}
-use Rattle.forms.proofs.Lawful.{then_ok, else_ok, same_ok, IsHeldBack, lawful_by}
+use Rattle.forms.proofs.Lawful.{then_ok, else_ok, same_ok, one_image, IsHeldBack, lawful_by}
 
 -- ---- reading
 
@@ -35,20 +35,20 @@ worth_beyond : (nanos : ℕ) → 2 ^ 64 * 1_000_000_000 ≤ nanos → worth nano
 unfolding worth
 worth_beyond nanos h = rw (not_tested nanos (2 ^ 64 * 1_000_000_000) h) refl
 
-pub reads_length : (text : List ℕ) (times : ℕ × ℕ) → IsStrict text → Denotes text times → (given : ℕ) → given ≡ nanos_of times → ReadsBy Spells worth text (Ok (Length given))
+pub reads_length : (text : List ℕ) (times : ℕ × ℕ) → IsStrict text → Denotes text times → (given : ℕ) → given ≡ nanos_of times → ReadsBy Spells (Is worth) text (Ok (Length given))
 reads_length text times strict h given e =
     let seconds = h.seconds in
     let rest = h.nanoseconds in
     let fits : nanos_of times < 2 ^ 64 * 1_000_000_000 = omega arith in
     inl (nanos_of times, (strict, h.sums), ap (λ (n : ℕ). Ok (Length n)) e ∙ sym (worth_within (nanos_of times) fits))
 
-pub reads_too_big : (text : List ℕ) → IsStrict text → IsTooBig text → ReadsBy Spells worth text (Err Range)
+pub reads_too_big : (text : List ℕ) → IsStrict text → IsTooBig text → ReadsBy Spells (Is worth) text (Err Range)
 reads_too_big text strict h =
     let beyond = h.beyond in
     let fits : 2 ^ 64 * 1_000_000_000 ≤ h.nanos = omega arith in
     inl (h.nanos, (strict, h.sums), sym (worth_beyond h.nanos fits))
 
-pub reads_no_strict : (text : List ℕ) → (IsStrict text → ⊥) → ReadsBy Spells worth text (Err Syntax)
+pub reads_no_strict : (text : List ℕ) → (IsStrict text → ⊥) → ReadsBy Spells (Is worth) text (Err Syntax)
 reads_no_strict text isnt = inr (λ nanos spelled. isnt spelled.0, refl)
 
 -- ---- the length of a value
@@ -135,16 +135,16 @@ sums_back back nanos fits clear =
     let denoted = (back (times_of nanos) (omega arith) (omega arith)).1 (λ alone. clear (subst MonthsStandAlone same alone)) in
     subst (λ (n : ℕ). SumsTo (written n) n) same denoted.sums
 
-held_by : AreStrict → AreReadBack → (value : Value) (z : ℤ) (nanos : ℕ) → length_of z ≡ Ok nanos → Same value (Length nanos) → IsHeldBack Spells worth held (written nanos) value nanos
+held_by : AreStrict → AreReadBack → (value : Value) (z : ℤ) (nanos : ℕ) → length_of z ≡ Ok nanos → Same value (Length nanos) → IsHeldBack Spells (Is worth) (Is held) (written nanos) value nanos
 held_by strict back value z nanos h same =
     let found = length_held z nanos h in
     record {
       meaning = nanos;
       back = Length nanos;
       spelled = (strict nanos found.fits, sums_back back nanos found.fits found.clear);
-      valued = worth_within nanos found.fits;
+      valued = sym (worth_within nanos found.fits);
       same = same;
-      again = ap length_of (sym found.is) ∙ h;
+      again = sym (ap length_of (sym found.is) ∙ h);
     }
 
 is_int : (a b : ℤ) → int_eq a b ≡ true → a ≡ b
@@ -164,7 +164,7 @@ triple_held months days micros nanos h =
     let first = then_ok (int_eq months (pos 0)) (length_of (triple_nanos days micros)) nanos Kind h in
     (is_int months (pos 0) first.0, first.1)
 
-held_back : AreStrict → AreReadBack → (value : Value) (nanos : ℕ) → IsWithinBounds value → held value ≡ Ok nanos → IsHeldBack Spells worth held (written nanos) value nanos
+held_back : AreStrict → AreReadBack → (value : Value) (nanos : ℕ) → IsWithinBounds value → held value ≡ Ok nanos → IsHeldBack Spells (Is worth) (Is held) (written nanos) value nanos
 held_back strict back (Length n) nanos w h =
     let found = length_held (pos n) nanos h in
     let same : n ≡ nanos = let e = found.is in omega (arith, ints) in
@@ -177,12 +177,19 @@ held_back strict back _ nanos w h = absurd (let e : Err Kind ≡ Ok nanos = h in
 
 pub short_durations : ((text : List ℕ) (a b : ℕ) → SumsTo text a → SumsTo text b → a ≡ b) → AreStrict → AreReadBack → Lawful Fancy
 short_durations one strict back =
-    lawful_by Fancy Spells worth held written (record { reads = λ text a h. h; read = λ text a h. h; written = λ value. refl }) (λ text a b h k. one text a b h.1 k.1) within (held_back strict back)
+    lawful_by Fancy Spells (Is worth) (Is held) written (record { reads = λ text a h. h; read = λ text a h. h; writes = λ value a h. h; written = λ value a h. h })
+    (record {
+      one = λ text a b h k. one text a b h.1 k.1;
+      one_worth = one_image worth;
+      one_held = one_image held;
+      within = λ text nanos value spelled h. within text nanos value spelled (sym h);
+      back = λ value nanos w h. held_back strict back value nanos w (sym h);
+    })
 
 abbrev failed : FancyError → Result (ℕ × ℕ) FancyError
 failed error = Err error
 
 -- what the reader of short durations refuses of a strict text
-pub refused : (text : List ℕ) (error : FancyError) → IsStrict text → (IsErrOf (failed error) TooBig → IsTooBig text) → (failed error ≡ Err NotHeld → ⊥) → ReadsBy Spells worth text (Err Range)
+pub refused : (text : List ℕ) (error : FancyError) → IsStrict text → (IsErrOf (failed error) TooBig → IsTooBig text) → (failed error ≡ Err NotHeld → ⊥) → ReadsBy Spells (Is worth) text (Err Range)
 refused text TooBig strict big held = reads_too_big text strict (big refl)
 refused text NotHeld strict big held = absurd (held refl)

@@ -7,23 +7,23 @@ use Rattle.forms.specs.declared.cause.Cause.{Cause}
 use Rattle.forms.specs.declared.form.Form.{Form}
 use Rattle.forms.specs.declared.form.Form.TheVariants.{FileTime, Fancy, PgIso, Postgres, PgSql}
 use Rattle.forms.specs.declared.value.Value.{Value}
-use Rattle.forms.specs.Answers.{ReadsBy, writes_by}
+use Rattle.forms.specs.Answers.{Is, ReadsBy, WritesBy}
 use Rattle.forms.specs.form.FileTime as file_time
 use Rattle.forms.specs.form.Fancy as fancy
 use Rattle.forms.specs.form.Intervals as interval
 
 -- what a text stands for in the form: a value, or the cause why it is none
 abbrev pub Reads : Form → List ℕ → Result Value Cause → Type 0
-Reads FileTime = ReadsBy file_time.Spells file_time.worth
-Reads Fancy = ReadsBy fancy.Spells fancy.worth
-Reads PgIso = ReadsBy (Shape style.Iso) interval.worth
-Reads Postgres = ReadsBy (Shape style.Postgres) interval.worth
-Reads PgSql = ReadsBy (Shape style.Sql) interval.worth
+Reads FileTime = ReadsBy file_time.Spells (Is file_time.worth)
+Reads Fancy = ReadsBy fancy.Spells (Is fancy.worth)
+Reads PgIso = ReadsBy (Shape style.Iso) (Is interval.worth)
+Reads Postgres = ReadsBy (Shape style.Postgres) (Is interval.worth)
+Reads PgSql = ReadsBy (Shape style.Sql) (Is interval.worth)
 
 -- the written text of a value in the form, or the cause why there is none
-abbrev pub writes : Form → Value → Result (List ℕ) Cause
-writes FileTime = writes_by file_time.held decimal
-writes Fancy = writes_by fancy.held short_text
-writes PgIso = writes_by interval.held (written style.Iso)
-writes Postgres = writes_by interval.held (written style.Postgres)
-writes PgSql = writes_by interval.held (written style.Sql)
+abbrev pub Writes : Form → Value → Result (List ℕ) Cause → Type 0
+Writes FileTime = WritesBy (Is file_time.held) decimal
+Writes Fancy = WritesBy (Is fancy.held) short_text
+Writes PgIso = WritesBy (Is interval.held) (written style.Iso)
+Writes Postgres = WritesBy (Is interval.held) (written style.Postgres)
+Writes PgSql = WritesBy (Is interval.held) (written style.Sql)

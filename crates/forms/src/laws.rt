@@ -6,7 +6,7 @@ ghost use Rattle.forms.specs.declared.run_end.RunEnd.{RunEnd as AnyEnd};
 ghost use Rattle.forms.specs.declared.run_end.RunEnd.TheVariants.{TooLong, WriteFault};
 ghost use Rattle.forms.specs.declared.value.Value.{Value as AnyValue};
 ghost use Rattle.forms.specs.Ends.{Ended, EndsByLength, GainsFront, Streams};
-ghost use Rattle.forms.specs.Forms.{Reads, writes};
+ghost use Rattle.forms.specs.Forms.{Reads, Writes};
 ghost use Rattle.forms.specs.Lines.{lines};
 ghost use Rattle.forms.specs.Outside.{Rose};
 ghost use Rattle.forms.specs.ReadBack.{Turns, IsReadBack};
@@ -33,6 +33,13 @@ pub fn texts_have_one_reading()
     all_lawful();
 }
 
+/// A value has one written text at most in each form, and where it has none there is one cause.
+pub fn values_have_one_writing()
+    ensures { (form : AnyForm) (value : AnyValue) (a b : AnyResult (List ℕ) AnyCause) → Writes form value a → Writes form value b → a ≡ b }
+{
+    all_lawful();
+}
+
 /// What a text stands for is within the bounds of values.
 pub fn read_values_are_within_bounds()
     ensures { (form : AnyForm) (text : List ℕ) (value : AnyValue) → Reads form text (Ok value) → IsWithinBounds value }
@@ -42,7 +49,7 @@ pub fn read_values_are_within_bounds()
 
 /// The written text of a value stands for this value, or for one that is the same, whose text it is.
 pub fn written_texts_are_read_back()
-    ensures { (form : AnyForm) (value : AnyValue) (text : List ℕ) → IsWithinBounds value → writes form value ≡ Ok text → IsReadBack form value text }
+    ensures { (form : AnyForm) (value : AnyValue) (text : List ℕ) → IsWithinBounds value → Writes form value (Ok text) → IsReadBack form value text }
 {
     all_lawful();
 }

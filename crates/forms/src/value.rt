@@ -1,10 +1,10 @@
 //! Values, which texts of all forms stand for, and the two tables of forms: how each reads a value, and how it writes one.
-ghost use Rattle.std.specs.Prelude.{◌≡◌, ◌≤◌, ◌↔◌, Result as AnyResult, IfOk};
+ghost use Rattle.std.specs.Prelude.{◌≡◌, ◌≤◌, ◌↔◌, List, ℕ, Result as AnyResult, IfOk};
 ghost use Rattle.arrayvec.specs.ArrayString.{array_string_len};
 ghost use Rattle.forms.specs.declared.cause.Cause.{Cause as AnyCause};
 ghost use Rattle.forms.specs.declared.value.Value.{Value as AnyValue};
 ghost use Rattle.forms.specs.Answers.{bytes_of};
-ghost use Rattle.forms.specs.Forms.{Reads, writes};
+ghost use Rattle.forms.specs.Forms.{Reads, Writes};
 ghost use Rattle.forms.specs.Values.{IsWithinBounds};
 
 use crate::cause::Cause;
@@ -49,19 +49,14 @@ pub fn read_value(form: Form, text: &str) -> Result<Value, Cause>
 /// otherwise. It takes no memory.
 pub fn write_value(form: Form, value: Value) -> Result<Short, Cause>
     requires { IsWithinBounds value }
-    ensures bytes { bytes_of result ≡ writes form value }
+    ensures answer { (answer : AnyResult (List ℕ) AnyCause) → (bytes_of result ≡ answer) ↔ Writes form value answer }
     ensures len { IfOk result (λ out. array_string_len out ≤ 96) }
 {
-    match form {
-        Form::FileTime => file_time::write(value),
-        Form::Fancy => fancy::write(value),
-        Form::PgIso => intervals::write(Style::Iso, value),
-        Form::Postgres => intervals::write(Style::Postgres, value),
-        Form::PgSql => intervals::write(Style::Sql, value),
-    }
+    all_lawful();
+    write(form, value)
 }
 
-/// The form's reader.
+/// What the form's reader answers.
 fn read(form: Form, text: &str) -> Result<Value, Cause>
     ensures { Reads form text.now result }
 {
@@ -71,5 +66,20 @@ fn read(form: Form, text: &str) -> Result<Value, Cause>
         Form::PgIso => intervals::read(Style::Iso, text),
         Form::Postgres => intervals::read(Style::Postgres, text),
         Form::PgSql => intervals::read(Style::Sql, text),
+    }
+}
+
+/// What the form's writer answers.
+fn write(form: Form, value: Value) -> Result<Short, Cause>
+    requires { IsWithinBounds value }
+    ensures answer { Writes form value (bytes_of result) }
+    ensures len { IfOk result (λ out. array_string_len out ≤ 96) }
+{
+    match form {
+        Form::FileTime => file_time::write(value),
+        Form::Fancy => fancy::write(value),
+        Form::PgIso => intervals::write(Style::Iso, value),
+        Form::Postgres => intervals::write(Style::Postgres, value),
+        Form::PgSql => intervals::write(Style::Sql, value),
     }
 }

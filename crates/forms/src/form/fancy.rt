@@ -5,7 +5,7 @@ ghost use Rattle.arrayvec.specs.ArrayString.{array_string_len};
 ghost use Rattle.fancy_duration.specs.Written.{written};
 ghost use Rattle.forms.specs.declared.form.Form.{Form as AnyForm};
 ghost use Rattle.forms.specs.Answers.{bytes_of};
-ghost use Rattle.forms.specs.Forms.{Reads, writes};
+ghost use Rattle.forms.specs.Forms.{Reads, Writes};
 ghost use Rattle.forms.specs.Values.{IsWithinBounds, nanos_of};
 ghost use Rattle.forms.specs.form.Fancy.{held, length_of, length_of_triple};
 ghost use Rattle.forms.specs.inside.Lawful.{Lawful};
@@ -36,7 +36,7 @@ pub fn read(text: &str) -> Result<Value, Cause>
 /// The written text of a length, or of a triple without months.
 pub fn write(value: Value) -> Result<Short, Cause>
     requires { IsWithinBounds value }
-    ensures bytes { bytes_of result ≡ writes AnyForm.Fancy value }
+    ensures answer { Writes AnyForm.Fancy value (bytes_of result) }
     ensures len { IfOk result (λ out. array_string_len out ≤ 96) }
 {
     let nanos = length_for(value)?;

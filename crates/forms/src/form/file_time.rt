@@ -4,7 +4,7 @@ ghost use Rattle.arrayvec.specs.ArrayString.{array_string_len};
 ghost use Rattle.nt_time.specs.FileTime.{unix_nanos};
 ghost use Rattle.forms.specs.declared.form.Form.{Form as AnyForm};
 ghost use Rattle.forms.specs.Answers.{bytes_of};
-ghost use Rattle.forms.specs.Forms.{Reads, writes};
+ghost use Rattle.forms.specs.Forms.{Reads, Writes};
 ghost use Rattle.forms.specs.Values.{IsWithinBounds};
 ghost use Rattle.forms.specs.form.FileTime.{ticks_after};
 ghost use Rattle.forms.specs.inside.Lawful.{Lawful};
@@ -32,7 +32,7 @@ pub fn read(text: &str) -> Result<Value, Cause>
 /// The raw count at an instant, in decimal.
 pub fn write(value: Value) -> Result<Short, Cause>
     requires { IsWithinBounds value }
-    ensures bytes { bytes_of result ≡ writes AnyForm.FileTime value }
+    ensures answer { Writes AnyForm.FileTime value (bytes_of result) }
     ensures len { IfOk result (λ out. array_string_len out ≤ 96) }
 {
     let Value::Instant(nanos) = value else {

@@ -3,7 +3,7 @@ ghost use Rattle.std.specs.Prelude.{◌≡◌, ◌*◌, ◌^◌, ◌<◌, ◌≤
 ghost use Rattle.arrayvec.specs.ArrayString.{array_string_len};
 ghost use Rattle.pg_interval_2.specs.Denotes.{Denotes};
 ghost use Rattle.pg_interval_2.specs.Styles.{Shape, written};
-ghost use Rattle.forms.specs.Answers.{ReadsBy, bytes_of, writes_by};
+ghost use Rattle.forms.specs.Answers.{Is, ReadsBy, WritesBy, bytes_of};
 ghost use Rattle.forms.specs.Values.{IsWithinBounds};
 ghost use Rattle.forms.specs.form.Intervals.{worth, held, interval_of, interval_of_length};
 ghost use Rattle.forms.specs.inside.Readers.{IsRefusedBy};
@@ -18,7 +18,7 @@ const NANOSECONDS_A_DAY: u128 = 86_400_000_000_000;
 
 /// The triple that a text denotes in the style.
 pub fn read(style: Style, text: &str) -> Result<Value, Cause>
-    ensures { ReadsBy (Shape style) worth text.now result }
+    ensures { ReadsBy (Shape style) (Is worth) text.now result }
 {
     match interval_in(style, text) {
         Ok(interval) => Ok(Value::Triple {
@@ -46,7 +46,7 @@ fn interval_in(style: Style, text: &str) -> Result<Interval, ParseError>
 /// The written text of a triple, or of a length in days and microseconds.
 pub fn write(style: Style, value: Value) -> Result<Short, Cause>
     requires { IsWithinBounds value }
-    ensures bytes { bytes_of result ≡ writes_by held (written style) value }
+    ensures answer { WritesBy (Is held) (written style) value (bytes_of result) }
     ensures len { IfOk result (λ out. array_string_len out ≤ 96) }
 {
     let interval = interval_for(value)?;

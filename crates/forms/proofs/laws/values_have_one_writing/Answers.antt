@@ -1,0 +1,4 @@
+use Rattle.forms.proofs.laws.values_have_one_writing.Goals as goal
+
+pub returns : goal.returns
+returns c = λ form. (c.all_lawful.ensures form).one_written
