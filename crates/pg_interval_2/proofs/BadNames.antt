@@ -6,8 +6,8 @@ use Rattle.scan_core.specs.Count.{Count}
 use Rattle.scan_core.specs.declared.share.Unit.{Unit as TimeUnit}
 use Rattle.scan_core.proofs.WordFacts.{NoBlanks, ink, ink-append, ink-words, total_length, same_place, words-closed}
 use Rattle.pg_interval_2.specs.Postgres.{AreItems, IsFreshName, IsBadName, all_counts, counts_unit, has_distinct_units}
-use Rattle.pg_interval_2.specs.Reading.{Numeral}
-use Rattle.pg_interval_2.specs.ItemReading.{Verdict, Spelled, BadLetters, judge_unit, verdict}
+use Rattle.pg_interval_2.specs.inside.Reading.{Numeral}
+use Rattle.pg_interval_2.specs.inside.ItemReading.{Verdict, Spelled, BadLetters, judge_unit, verdict}
 use Rattle.pg_interval_2.specs.UnitNames.{unit_named}
 use Rattle.pg_interval_2.proofs.ItemFacts.{AreLetters, AreBlanks, both, letter_no_blank, first_letter}
 use Rattle.pg_interval_2.proofs.ItemsRead.{StandsNamed}

@@ -1,5 +1,5 @@
 -- Items counted one after the other.
-use Rattle.std.proofs.Common.{◌≡◌, ◌≢◌, ℕ, ◌||◌, ◌==◌, Bool, true, false, cond, List, [], ◌∷◌, ◌++◌, refl, sym, ◌∙◌, ap, subst, append_assoc, append-nil, length-append, arith, inl, inr, ◌+◌, ◌≤◌, length, codes}
+use Rattle.std.proofs.Common.{◌≡◌, ◌≢◌, ℕ, ◌||◌, ◌==◌, Bool, true, false, cond, List, [], ◌∷◌, ◌++◌, refl, sym, ◌∙◌, ap, subst, append_assoc, append-nil, length-append, arith, inl, inr, ◌+◌, ◌≤◌, length, codes, take, Some}
 use Rattle.std.specs.Prelude.{filter}
 use Rattle.std.proofs.lemmas.Bool.Decides.{eqb_tells}
 use Rattle.scan_core.specs.Count.{Count, count_of}
@@ -7,14 +7,22 @@ use Rattle.scan_core.specs.declared.share.Unit.{Unit as TimeUnit}
 use Rattle.scan_core.specs.declared.share.Unit.TheVariants.{Year, Month, Day, Hour, Minute, Second}
 use Rattle.pg_interval_2.specs.declared.counted.Counted.{Counted}
 use Rattle.pg_interval_2.specs.Clock.{is_nonzero}
-use Rattle.pg_interval_2.specs.CountedItems.{AreClockDigits, IsCounted, CountsOne, CountsPerhaps, CountsAll}
-use Rattle.scan_core.specs.Digits.{AreDigits}
-use Rattle.pg_interval_2.specs.ItemReading.{ClockFields, ClockItem, NamedItem, read_item}
-use Rattle.pg_interval_2.specs.Reading.{Numeral}
-use Rattle.pg_interval_2.proofs.ItemsRead.{StandsNamed, StandsClock, Stands, item_stands, fraction_digits}
-use Rattle.pg_interval_2.specs.Postgres.{place_of, counts_unit, has_distinct_units}
-use Rattle.pg_interval_2.specs.Tallies.{Tallies}
-use Rattle.pg_interval_2.specs.UnitSets.{holds_unit}
+use Rattle.pg_interval_2.specs.inside.CountedItems.{IsCounted, CountsOne, CountsPerhaps, CountsAll}
+use Rattle.pg_interval_2.specs.inside.ItemReading.{ClockFields, ClockItem, NamedItem, read_item}
+use Rattle.scan_core.specs.Runs.{digits_of}
+use Rattle.scan_core.specs.declared.runs.Run.{Run}
+use Rattle.scan_core.proofs.Between.{between_none}
+use Rattle.pg_interval_2.specs.inside.ItemViews.{HasFields}
+use Rattle.pg_interval_2.specs.inside.Reading.{Numeral, count_with, numeral_in}
+use Rattle.pg_interval_2.specs.declared.clock.Clock.{Clock}
+use Rattle.pg_interval_2.specs.declared.number.Decimal.{Decimal}
+use Rattle.pg_interval_2.proofs.ItemsRead.{StandsNamed, StandsClock, Stands, item_stands}
+use Rattle.pg_interval_2.specs.Postgres.{IsFreshName, place_of, counts_unit, has_distinct_units}
+use Rattle.pg_interval_2.specs.Turned.{turned_count, turned_sign}
+use Rattle.pg_interval_2.specs.UnitNames.{unit_named}
+use Rattle.pg_interval_2.proofs.Turning.{turned_fields}
+use Rattle.pg_interval_2.specs.inside.Tallies.{Tallies}
+use Rattle.pg_interval_2.specs.inside.UnitSets.{holds_unit}
 use Rattle.pg_interval_2.proofs.Verdicts.{counts_unit-append, same_both, distinct_push, fresh_behind}
 
 or_false : (x : Bool) → (x || false) ≡ x
@@ -101,10 +109,23 @@ clock_fields h m s = filter_if (is_nonzero h) h (filter is_nonzero (m ∷ s ∷ 
 pub again_nonzero : (counts : List Count) (c : Count) (more : List Count) → is_nonzero c ≡ true → counts_unit c.unit counts ≡ true → has_distinct_units (counts ++ (nonzero c ++ more)) ≡ false
 again_nonzero counts c more some h = rw some (again counts c more h)
 
--- the counts of a clock's fields, the fraction as it is given
-abbrev pub field_counts : Bool → List ℕ → List ℕ → List ℕ → List ℕ → List Count
-field_counts negative hours minutes seconds fraction =
-    filter is_nonzero (count_of negative hours [] Hour ∷ count_of negative minutes [] Minute ∷ count_of negative seconds fraction Second ∷ [])
+-- a field's count
+pub whole_count : (text : List ℕ) (number : Decimal) (negative sign : Bool) (run : Run) (digits : List ℕ) (unit : TimeUnit) → number.negative ≡ negative → number.whole ≡ run
+    → number.fraction ≡ record { start = run.end; end = run.end; value = 0 } → negative ≡ sign → digits_of text run ≡ digits → count_with (numeral_in text number) unit ≡ count_of sign digits [] unit
+whole_count text number negative sign run digits unit n w f s d =
+    let none : digits_of text number.fraction ≡ [] = ap (digits_of text) f ∙ between_none text run.end in
+    let whole : digits_of text number.whole ≡ digits = ap (digits_of text) w ∙ d in
+    let same : number.negative ≡ sign = n ∙ s in
+    rw (none, whole, same) refl
+
+-- the count of the seconds, with the fraction's first six digits
+pub fraction_count : (text : List ℕ) (clock : Clock) (fields : ClockFields) → HasFields text clock fields
+    → count_with (numeral_in text (record { negative = clock.negative; whole = clock.seconds; fraction = clock.fraction })) Second ≡ count_of fields.negative fields.seconds (take 6 fields.fraction) Second
+fraction_count text clock fields has =
+    let negative = has.negative in
+    let seconds = has.seconds in
+    let fraction = has.fraction in
+    rw (negative, seconds, fraction) refl
 
 -- the last of a clock's fields
 pub clock_last : (counts : List Count) (h m s : Count) (new : Counted) (result : Bool) → CountsPerhaps ((counts ++ nonzero h) ++ nonzero m) s new result
@@ -127,17 +148,26 @@ pub clock_first : (counts : List Count) (h m s : Count) → is_nonzero h ≡ tru
 clock_first counts h m s some before =
     ap (λ (l : List Count). has_distinct_units (counts ++ l)) (clock_fields h m s) ∙ again_nonzero counts h (nonzero m ++ nonzero s) some before
 
--- ---- what is read in front is digits
+-- ---- turned before they are counted
 
-pub clock_digits : (bytes : List ℕ) (fields : ClockFields) (rest : List ℕ) → read_item bytes ≡ ClockItem fields rest → AreClockDigits fields
-clock_digits bytes fields rest h =
-    let stands : StandsClock bytes fields rest = subst (Stands bytes) h (item_stands bytes) in
-    record { hours = stands.hours; minutes = stands.minutes; seconds = stands.seconds; fraction = stands.fraction }
+-- a clock with its sign turned
+pub turned_has : (turned : Bool) (text same : List ℕ) (clock : Clock) (fields : ClockFields) (negative : Bool) → same ≡ text → negative ≡ turned_sign turned clock.negative → HasFields text clock fields
+    → HasFields same (record { negative = negative; hours = clock.hours; minutes = clock.minutes; seconds = clock.seconds; fraction = clock.fraction }) (turned_fields turned fields)
+turned_has turned text same clock fields negative e n has =
+    rw e (record { negative = n ∙ ap (turned_sign turned) has.negative; hours = has.hours; minutes = has.minutes; seconds = has.seconds; fraction = has.fraction })
 
-pub named_digits : (bytes : List ℕ) (n : Numeral) (letters rest : List ℕ) → read_item bytes ≡ NamedItem n letters rest → AreDigits n.whole × AreDigits n.fraction
-named_digits bytes n letters rest h =
-    let stands : StandsNamed bytes n letters rest = subst (Stands bytes) h (item_stands bytes) in
-    (stands.digits.digits, fraction_digits n.fraction stands.digits.tail stands.digits.point)
+-- a number with its sign turned
+pub turned_number : (turned : Bool) (text same : List ℕ) (number : Decimal) (negative : Bool) (unit : TimeUnit) → same ≡ text → negative ≡ turned_sign turned number.negative
+    → count_with (numeral_in same (record { negative = negative; whole = number.whole; fraction = number.fraction })) unit ≡ turned_count turned (count_with (numeral_in text number) unit)
+turned_number turned text same number negative unit e n = rw (e, n) refl
+
+-- letters that name a unit that was counted before
+pub not_fresh : (names : TimeUnit → List (List ℕ)) (counts : List Count) (letters : List ℕ) (unit : TimeUnit) → unit_named names letters ≡ Some unit → counts_unit unit counts ≡ true → ¬ (IsFreshName names counts letters)
+not_fresh names counts letters unit named before (other, is, fresh) =
+    let both : Some unit ≡ Some other = sym named ∙ is in
+    let same : unit ≡ other = cc in
+    let clash : true ≡ false = sym before ∙ ap (λ (u : TimeUnit). counts_unit u counts) same ∙ fresh in
+    cc
 
 -- ---- how long an item is
 

@@ -7,7 +7,7 @@ use Rattle.scan_core.specs.Count.{Count}
 use Rattle.scan_core.specs.declared.share.Unit.{Unit as TimeUnit}
 use Rattle.scan_core.proofs.Joins.{Finds, join_same, join_values}
 use Rattle.pg_interval_2.specs.Iso.{unit_in, date_unit, time_unit, IsPair, ArePairs, IsIso}
-use Rattle.pg_interval_2.specs.Reading.{Numeral, count_with, read_letter, read_number, read_unsigned, read_pair}
+use Rattle.pg_interval_2.specs.inside.Reading.{Numeral, count_with, read_letter, read_number, read_unsigned, read_pair}
 use Rattle.pg_interval_2.proofs.Numbers.{finds_number, is_number}
 
 date_letter : (letter : ℕ) (unit : TimeUnit) → date_unit letter ≡ Some unit → (is_ascii_digit letter ≡ false) × ((letter == 46) ≡ false)

@@ -8,10 +8,10 @@ use Rattle.scan_core.proofs.Joins.{join_push, join_same}
 use Rattle.pg_interval_2.specs.declared.tally.Tally.{Tally}
 use Rattle.pg_interval_2.specs.Denotes.{HasNoShape}
 use Rattle.pg_interval_2.specs.Iso.{unit_in, IsPair, IsIso}
-use Rattle.pg_interval_2.specs.IsoTally.{IsTallied, StopsBehindPairs, TakesPairs, ends_pairs}
+use Rattle.pg_interval_2.specs.inside.IsoTally.{IsTallied, StopsBehindPairs, TakesPairs, ends_pairs}
 use Rattle.scan_core.specs.Scanning.{Passes, Place, ahead}
-use Rattle.pg_interval_2.specs.Reading.{read_number, read_pair, read_unsigned}
-use Rattle.pg_interval_2.specs.Tallies.{Tallies}
+use Rattle.pg_interval_2.specs.inside.Reading.{read_number, read_pair, read_unsigned}
+use Rattle.pg_interval_2.specs.inside.Tallies.{Tallies}
 use Rattle.pg_interval_2.proofs.IsoCounts.{is_pair, finds_pair, nothing_read, time_ends, no_time, behind_dates}
 
 fraction_digits : (fraction tail : List ℕ) → IsFraction fraction tail → AreDigits fraction

@@ -4,7 +4,7 @@ use Rattle.std.specs.Char.{is_ascii_digit, is_ascii_alphabetic}
 use Rattle.std.specs.List.{list_all}
 use Rattle.std.proofs.lemmas.Bool.Decides.{nat_tests}
 use Rattle.scan_core.specs.Blanks.{is_blank, EndsWord}
-use Rattle.pg_interval_2.specs.ItemReading.{after_blanks, front_letters, after_letters, ends_word}
+use Rattle.pg_interval_2.specs.inside.ItemReading.{after_blanks, front_letters, after_letters, ends_word}
 
 -- ---- letters and blanks
 

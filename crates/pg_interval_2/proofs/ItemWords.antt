@@ -10,7 +10,7 @@ use Rattle.scan_core.specs.Digits.{AreDigits}
 use Rattle.scan_core.specs.Number.{IsSign, IsFraction, IsNumber}
 use Rattle.scan_core.proofs.WordFacts.{NoBlanks, words-blank, words-first}
 use Rattle.pg_interval_2.specs.Clock.{IsClock}
-use Rattle.pg_interval_2.specs.ItemReading.{after_blanks}
+use Rattle.pg_interval_2.specs.inside.ItemReading.{after_blanks}
 use Rattle.pg_interval_2.proofs.ItemFacts.{AreLetters, AreBlanks, both, letter_no_blank, are_skipped}
 
 -- ---- bytes that aren't blank

@@ -5,10 +5,10 @@ use Rattle.scan_core.specs.Blanks.{EndsWord}
 use Rattle.scan_core.specs.Count.{Count}
 use Rattle.scan_core.specs.Number.{IsFraction, IsNumber}
 use Rattle.pg_interval_2.specs.Clock.{IsField, IsClock}
-use Rattle.pg_interval_2.specs.Reading.{read_sign}
+use Rattle.pg_interval_2.specs.inside.Reading.{read_sign}
 use Rattle.scan_core.specs.Fronts.{NoDigitFirst}
 use Rattle.scan_core.proofs.FrontFacts.{front_of, after_of}
-use Rattle.pg_interval_2.specs.ItemReading.{after_blanks, ClockItem, NamedItem, NoItem, read_byte, read_seconds, read_clock, named_item, read_named, read_item}
+use Rattle.pg_interval_2.specs.inside.ItemReading.{after_blanks, ClockItem, NamedItem, NoItem, read_byte, read_seconds, read_clock, named_item, read_named, read_item}
 use Rattle.pg_interval_2.proofs.Numbers.{NoPointFirst, NoSignFirst, fraction_of, sign_of, digits_no_sign, tail_no_digit}
 use Rattle.pg_interval_2.proofs.ItemFacts.{AreLetters, AreBlanks, first_letter, first_blank, blank_is_no, letter_is_no, front_letters_of, after_letters_of, skipped, no_skip, ends_test}
 

@@ -7,8 +7,8 @@ use Rattle.scan_core.specs.Number.{IsSign, IsFraction, IsNumber}
 use Rattle.pg_interval_2.specs.Clock.{IsClock, clock_counts}
 use Rattle.scan_core.specs.Fronts.{front_digits, after_digits}
 use Rattle.scan_core.proofs.FrontFacts.{front_are_digits, front_and_after}
-use Rattle.pg_interval_2.specs.Reading.{Numeral, read_sign, read_fraction}
-use Rattle.pg_interval_2.specs.ItemReading.{after_blanks, front_letters, after_letters, ends_word, ClockFields, NextItem, ClockItem, NamedItem, NoItem, read_byte, read_seconds, read_clock, named_item, read_named, read_behind_digits, read_item}
+use Rattle.pg_interval_2.specs.inside.Reading.{Numeral, read_sign, read_fraction}
+use Rattle.pg_interval_2.specs.inside.ItemReading.{after_blanks, front_letters, after_letters, ends_word, ClockFields, NextItem, ClockItem, NamedItem, NoItem, read_byte, read_seconds, read_clock, named_item, read_named, read_behind_digits, read_item}
 use Rattle.pg_interval_2.proofs.Numbers.{is_fraction, is_sign, above_zero}
 use Rattle.pg_interval_2.proofs.ItemFacts.{AreLetters, AreBlanks, both, front_are_letters, letters_and_after, are_skipped, ends_from}
 

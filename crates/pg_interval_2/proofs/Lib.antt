@@ -29,8 +29,8 @@ pub mod NoItems
 pub mod PostgresCounts
 pub mod UnitFacts
 pub mod CountedFacts
-pub mod PostgresSteps
-pub mod PostgresEnds
+pub mod ItemSteps
+pub mod ItemEnds
 pub mod OneList
 pub mod SqlWords
 pub mod SqlCounts
@@ -39,3 +39,8 @@ pub mod SqlSpelled
 pub mod SqlReadBack
 pub mod SqlFound
 pub mod SqlShape
+pub mod Turning
+pub mod UnitWords
+pub mod ClockFacts
+pub mod UnitNameFacts
+pub mod PostgresReading

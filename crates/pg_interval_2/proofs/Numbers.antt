@@ -8,7 +8,7 @@ use Rattle.scan_core.specs.Digits.{AreDigits}
 use Rattle.scan_core.specs.Number.{IsSign, IsFraction, IsNumber}
 use Rattle.scan_core.specs.Fronts.{NoDigitFirst, front_digits, after_digits}
 use Rattle.scan_core.proofs.FrontFacts.{front_of, after_of, front_are_digits, front_and_after}
-use Rattle.pg_interval_2.specs.Reading.{Numeral, read_sign, read_fraction, read_unsigned, read_number}
+use Rattle.pg_interval_2.specs.inside.Reading.{Numeral, read_sign, read_fraction, read_unsigned, read_number}
 
 -- the text doesn't begin with a point
 abbrev pub NoPointFirst : List ℕ → Type 0

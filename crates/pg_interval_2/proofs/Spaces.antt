@@ -3,7 +3,7 @@ use Rattle.std.proofs.Common.{◌≡◌, ℕ, ◌<◌, List, [], ◌∷◌, ◌+
 use Rattle.std.specs.List.{join_with_byte}
 use Rattle.scan_core.specs.Blanks.{words}
 use Rattle.scan_core.proofs.WordFacts.{NoBlanks, words-blank, words-first}
-use Rattle.pg_interval_2.specs.Writing.{spaced, with_words}
+use Rattle.pg_interval_2.specs.inside.Writing.{spaced, with_words}
 
 -- each word has a byte, and no blank
 abbrev pub AreWords : List (List ℕ) → Type 0

@@ -2,7 +2,7 @@
 use Rattle.std.proofs.Common.{◌≡◌, ◌⊎◌, ℕ, cond, Bool, true, false, List, [], ◌∷◌, ◌++◌, Some, option_and_then, refl, sym, ◌∙◌, ap, ap₂, inl, inr, codes}
 use Rattle.scan_core.specs.Blanks.{is_blank, words, EndsWord}
 use Rattle.scan_core.specs.Count.{Count}
-use Rattle.pg_interval_2.specs.ItemReading.{after_blanks}
+use Rattle.pg_interval_2.specs.inside.ItemReading.{after_blanks}
 use Rattle.pg_interval_2.specs.Sql.{IsYearMonth, IsTime, AreDaysAndTime, AreAllThree, AreSqlWords, IsSql}
 use Rattle.pg_interval_2.specs.inside.SqlReading.{YearMonth, Days, word_counts, read_field, read_word, last_time, behind_date, behind_days, read_sql}
 use Rattle.pg_interval_2.proofs.Answering.{HasOneList}

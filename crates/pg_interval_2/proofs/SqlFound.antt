@@ -4,8 +4,8 @@ use Rattle.std.proofs.lemmas.Bool.Decides.{nat_tests}
 use Rattle.std.proofs.lemmas.Option.{same_Some, cond_some, option_and_then_some}
 use Rattle.scan_core.specs.Blanks.{EndsWord}
 use Rattle.pg_interval_2.specs.Clock.{IsField}
-use Rattle.pg_interval_2.specs.ItemReading.{after_blanks}
-use Rattle.pg_interval_2.specs.Reading.{read_fraction}
+use Rattle.pg_interval_2.specs.inside.ItemReading.{after_blanks}
+use Rattle.pg_interval_2.specs.inside.Reading.{read_fraction}
 use Rattle.pg_interval_2.specs.Sql.{IsSignOr, HasSeconds}
 use Rattle.pg_interval_2.specs.inside.SqlReading.{SqlWord, YearMonth, Days, Time, seconds_counts, read_sign_or, read_field, short_seconds, read_seconds, read_perhaps_seconds, read_time, read_months, read_behind, closed_word, read_word}
 use Rattle.pg_interval_2.proofs.ItemFacts.{ends_from}

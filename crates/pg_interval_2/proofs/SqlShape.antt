@@ -7,7 +7,7 @@ use Rattle.scan_core.specs.Count.{Count}
 use Rattle.scan_core.specs.Digits.{AreDigits, number_of}
 use Rattle.scan_core.proofs.DigitFacts.{digit_is_alone}
 use Rattle.pg_interval_2.specs.Denotes.{HasNoShape}
-use Rattle.pg_interval_2.specs.ItemReading.{after_blanks}
+use Rattle.pg_interval_2.specs.inside.ItemReading.{after_blanks}
 use Rattle.pg_interval_2.specs.Sql.{IsSignOr, IsYearMonth, IsDays, IsTime, AreSqlWords, IsSql}
 use Rattle.pg_interval_2.specs.inside.SqlReading.{SqlWord, YearMonth, Days, Time, word_counts, read_word, last_time, days_and_time, behind_date, behind_days, read_words, read_sql}
 use Rattle.pg_interval_2.proofs.ItemFacts.{both, are_skipped}

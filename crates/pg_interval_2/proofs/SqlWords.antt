@@ -6,7 +6,7 @@ use Rattle.scan_core.specs.Count.{Count, count_of}
 use Rattle.scan_core.specs.declared.share.Unit.TheVariants.{Hour, Minute}
 use Rattle.scan_core.specs.Number.{IsFraction}
 use Rattle.pg_interval_2.specs.Clock.{IsField}
-use Rattle.pg_interval_2.specs.ItemReading.{after_blanks}
+use Rattle.pg_interval_2.specs.inside.ItemReading.{after_blanks}
 use Rattle.pg_interval_2.specs.Sql.{IsSignOr, IsYearMonth, IsDays, HasSeconds, IsTime}
 use Rattle.pg_interval_2.specs.inside.SqlReading.{SqlWord, YearMonth, Days, Time, seconds_counts, word_counts, read_sign_or, read_field, read_seconds, read_perhaps_seconds, read_time, read_months, read_behind, closed_word, read_word}
 use Rattle.scan_core.specs.Fronts.{NoDigitFirst}

@@ -13,7 +13,7 @@ use Rattle.scan_core.proofs.ShareFacts.{each_part_fits}
 use Rattle.scan_core.proofs.SumFacts.{each_fits_push, total_push}
 use Rattle.pg_interval_2.proofs.Signs.{signed-zero, fits_type-signed_zero}
 use Rattle.pg_interval_2.specs.declared.tally.Tally.{Tally}
-use Rattle.pg_interval_2.specs.Tallies.{Tallies, each_fits, marked}
+use Rattle.pg_interval_2.specs.inside.Tallies.{Tallies, each_fits, marked}
 
 and_true : (x : Bool) → (x && true) ≡ x
 and_true true = refl

@@ -9,8 +9,8 @@ use Rattle.scan_core.specs.declared.share.Unit.{Unit as TimeUnit}
 use Rattle.scan_core.proofs.WordFacts.{total_length, total_length-append}
 use Rattle.pg_interval_2.specs.Clock.{IsClock, clock_counts}
 use Rattle.pg_interval_2.specs.Postgres.{IsItem, all_counts, place_of, counts_unit, has_distinct_units}
-use Rattle.pg_interval_2.specs.Reading.{Numeral, read_number}
-use Rattle.pg_interval_2.specs.ItemReading.{read_item, ClockWord, GluedWord, NumberWord, word_kind, Verdict, Unspelled, judge_unit, judge_word, is_name, verdict}
+use Rattle.pg_interval_2.specs.inside.Reading.{Numeral, read_number}
+use Rattle.pg_interval_2.specs.inside.ItemReading.{read_item, ClockWord, GluedWord, NumberWord, word_kind, Verdict, Unspelled, judge_unit, judge_word, is_name, verdict}
 use Rattle.pg_interval_2.specs.UnitNames.{unit_named}
 use Rattle.pg_interval_2.proofs.Numbers.{finds_number}
 use Rattle.pg_interval_2.proofs.ItemFacts.{AreLetters, both}

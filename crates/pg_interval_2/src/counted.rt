@@ -1,20 +1,24 @@
 //! The tally of items in which no unit may be counted twice.
-ghost use Rattle.std.specs.Prelude.{◌≡◌, ◌+◌, ◌<◌, ◌≤◌, ◌^◌, ◌==◌, ◌&&◌, [], ◌∷◌, List, length, take};
+ghost use Rattle.std.specs.Prelude.{◌≡◌, ◌+◌, ◌-◌, ◌<◌, ◌≤◌, ◌^◌, ◌==◌, ◌&&◌, [], ◌∷◌, List, ℕ, length};
 ghost use Rattle.scan_core.specs.Count.{Count};
-ghost use Rattle.std.specs.List.{list_all};
-ghost use Rattle.scan_core.specs.Digits.{AreDigits, number_of};
-ghost use Rattle.pg_interval_2.specs.Clock.{is_nonzero};
-ghost use Rattle.pg_interval_2.specs.CountedItems.{AreClockDigits, CountsOne, CountsPerhaps, CountsAll, IsCounted, LeavesRoom, Takes};
-ghost use Rattle.pg_interval_2.specs.ItemReading.{clock_of};
-ghost use Rattle.pg_interval_2.specs.ItemViews.{fields_of};
-ghost use Rattle.pg_interval_2.specs.Reading.{count_with, numeral_of};
+ghost use Rattle.scan_core.specs.Digits.{number_of};
+ghost use Rattle.scan_core.specs.Runs.{digits_of};
+ghost use Rattle.scan_core.specs.Scanning.{Spends, ahead};
+ghost use Rattle.pg_interval_2.specs.inside.CountedItems.{CountsOne, CountsPerhaps, CountsAll, IsCounted, LeavesRoom, IsStep};
+ghost use Rattle.pg_interval_2.specs.inside.ItemReading.{ClockFields, clock_of};
+ghost use Rattle.pg_interval_2.specs.inside.ItemViews.{AreClockRuns, HasFields};
+ghost use Rattle.pg_interval_2.specs.inside.NameSets.{names_in};
+ghost use Rattle.pg_interval_2.specs.inside.Reading.{IsDecimal, count_with, numeral_in};
+ghost use Rattle.pg_interval_2.specs.Turned.{turned_counts, turned_sign};
 
-use crate::items::{Clock, Item, next_item};
-use crate::scan::Number;
+use crate::clock::Clock;
+use crate::items::{Item, next_item};
+use crate::number::Decimal;
 use crate::tally::Tally;
-use crate::unit_name::unit_named;
+use crate::unit_names::{NameSet, unit_named};
 use crate::units::Units;
-use scan_core::Unit;
+use scan_core::{Looked, Run, Scan, Steps, Unit, Word};
+use std::sync::ledger::Ledger;
 
 /// A tally, and the units that it has counted.
 #[derive(Clone, Copy)]
@@ -25,39 +29,48 @@ pub(crate) struct Counted {
 
 /// What was found in front of a text.
 #[derive(Clone, Copy)]
-pub(crate) enum Step<'a> {
-    /// An item, which was counted, and what follows it.
-    Taken(&'a [u8]),
-    /// A number, and letters behind it that are no unit's name or one that was counted before; and what follows them.
-    BadName(&'a [u8], &'a [u8]),
+pub(crate) enum Step {
+    /// An item, which was counted.
+    Taken,
+    /// A number, and letters behind it that are no unit's name or one that was counted before.
+    BadName(Word),
     /// No item.
-    Unread,
+    NoItem,
 }
 
-/// Whether each digit is a 0.
-fn are_zeros(digits: &[u8]) -> bool
-    ensures { result ≡ list_all (λ digit. digit == 48) digits.now }
+/// A sign, turned where `turned`.
+#[inline(always)]
+fn turn(turned: bool, negative: bool) -> bool
+    ensures { result ≡ turned_sign turned negative }
 {
-    digits.iter().all(|digit| *digit == b'0')
+    if turned { !negative } else { negative }
 }
 
 /// Whether the number is 0.
-#[tactic(auto, using(crate::proofs::UnitFacts::zeros_value))]
-fn is_zero(number: Number<'_>) -> bool
-    requires whole { AreDigits number.whole.now }
-    requires fraction { AreDigits number.fraction.now }
-    ensures { result ≡ (number_of number.entry.whole.now == 0 && number_of number.entry.fraction.now == 0) }
+#[inline(always)]
+fn is_zero(number: Decimal) -> bool
+    ensures { (text : List ℕ) → IsDecimal text number → result
+        ≡ (number_of (digits_of text number.whole) == 0 && number_of (digits_of text number.fraction) == 0) }
 {
-    are_zeros(number.whole) && are_zeros(number.fraction)
+    number.whole.value == 0 && number.fraction.value == 0
 }
 
-/// The first six digits, or all where there are fewer.
-fn first_six(digits: &[u8]) -> &[u8]
-    ensures { result.now ≡ take 6 digits.now }
+/// The number of these digits alone.
+#[inline(always)]
+fn whole_number(negative: bool, whole: Run) -> Decimal
+    ensures number { result.negative ≡ negative }
+    ensures whole { result.whole ≡ whole }
+    ensures fraction { result.fraction ≡ record { start = whole.end; end = whole.end; value = 0 } }
 {
-    match digits.get(..6) {
-        Some(six) => six,
-        None => digits,
+    let fraction = Run {
+        start: whole.end,
+        end: whole.end,
+        value: 0,
+    };
+    Decimal {
+        negative,
+        whole,
+        fraction,
     }
 }
 
@@ -74,99 +87,124 @@ impl Counted {
     }
 
     /// Counts a number of a unit, and answers whether the unit wasn't counted before.
-    fn count(&mut self, number: Number<'_>, unit: Unit) -> bool
-        requires whole { AreDigits number.whole.now }
-        requires fraction { AreDigits number.fraction.now }
+    #[inline(always)]
+    fn count<L: Ledger>(
+        &mut self,
+        text: &Looked<'_>,
+        number: Decimal,
+        unit: Unit,
+        steps: &mut Steps<L>,
+    ) -> bool
+        requires number { IsDecimal text.now number }
         requires room { self.old.tally.totals.adds < 2 ^ 63 }
         ensures adds { self.new.tally.totals.adds ≤ self.old.tally.totals.adds + 1 }
-        ensures counted { (counts : List Count) → IsCounted self.old counts → CountsOne counts (count_with (numeral_of number.entry) unit) self.new result }
+        ensures counted { (counts : List Count) → IsCounted self.old counts
+            → CountsOne counts (count_with (numeral_in text.now number) unit) self.new result }
+        ensures least { steps.old ≤ steps.new }
+        ensures most { steps.new ≤ steps.old + (number.fraction.end - number.fraction.start) }
     {
         if self.units.contains(unit) {
             return false;
         }
         self.units.insert(unit);
-        self.tally.add_number(number, unit);
+        self.tally.add(text, number, unit, steps);
         true
     }
 
     /// Counts a number of a unit, unless it is 0, and answers false where its unit was counted before.
-    fn count_nonzero(&mut self, number: Number<'_>, unit: Unit) -> bool
-        requires whole { AreDigits number.whole.now }
-        requires fraction { AreDigits number.fraction.now }
+    #[inline(always)]
+    fn count_nonzero<L: Ledger>(
+        &mut self,
+        text: &Looked<'_>,
+        number: Decimal,
+        unit: Unit,
+        steps: &mut Steps<L>,
+    ) -> bool
+        requires number { IsDecimal text.now number }
         requires room { self.old.tally.totals.adds < 2 ^ 63 }
         ensures adds { self.new.tally.totals.adds ≤ self.old.tally.totals.adds + 1 }
-        ensures counted { (counts : List Count) → IsCounted self.old counts → CountsPerhaps counts (count_with (numeral_of number.entry) unit) self.new result }
+        ensures counted { (counts : List Count) → IsCounted self.old counts
+            → CountsPerhaps counts (count_with (numeral_in text.now number) unit) self.new result }
+        ensures least { steps.old ≤ steps.new }
+        ensures most { steps.new ≤ steps.old + (number.fraction.end - number.fraction.start) }
     {
         if is_zero(number) {
             return true;
         }
-        self.count(number, unit)
+        self.count(text, number, unit, steps)
     }
 
     /// Counts a clock's fields that aren't 0, and answers false where the unit of one was counted before.
-    fn count_clock(&mut self, clock: Clock<'_>) -> bool
-        requires digits { AreClockDigits (fields_of clock) }
+    #[inline(always)]
+    fn count_clock<L: Ledger>(
+        &mut self,
+        text: &Looked<'_>,
+        clock: Clock,
+        steps: &mut Steps<L>,
+    ) -> bool
+        requires runs { AreClockRuns text.now clock }
         requires room { self.old.tally.totals.adds + 3 ≤ 2 ^ 63 }
         ensures adds { self.new.tally.totals.adds ≤ self.old.tally.totals.adds + 3 }
-        ensures counted { (counts : List Count) → IsCounted self.old counts → CountsAll counts (clock_of (fields_of clock.entry)) self.new result }
+        ensures counted { (fields : ClockFields) → HasFields text.now clock fields → (counts : List Count)
+            → IsCounted self.old counts → CountsAll counts (clock_of fields) self.new result }
+        ensures least { steps.old ≤ steps.new }
+        ensures most { steps.new ≤ steps.old + (clock.fraction.end - clock.fraction.start) }
     {
         let negative = clock.negative;
-        if !self.count_nonzero(
-            Number {
-                negative,
-                whole: clock.hours,
-                fraction: &[],
-            },
-            Unit::Hour,
-        ) {
+        let hours = whole_number(negative, clock.hours);
+        if !self.count_nonzero(text, hours, Unit::Hour, steps) {
             return false;
         }
-        if !self.count_nonzero(
-            Number {
-                negative,
-                whole: clock.minutes,
-                fraction: &[],
-            },
-            Unit::Minute,
-        ) {
+        let minutes = whole_number(negative, clock.minutes);
+        if !self.count_nonzero(text, minutes, Unit::Minute, steps) {
             return false;
         }
-        let fraction = first_six(clock.fraction);
-        self.count_nonzero(
-            Number {
-                negative,
-                whole: clock.seconds,
-                fraction,
-            },
-            Unit::Second,
-        )
+        let seconds = Decimal {
+            negative,
+            whole: clock.seconds,
+            fraction: clock.fraction,
+        };
+        self.count_nonzero(text, seconds, Unit::Second, steps)
     }
 
-    /// Counts the item in front.
-    pub(crate) fn take_item<'a>(&mut self, bytes: &'a [u8]) -> Step<'a>
-        requires room { self.old.tally.totals.adds + length bytes.now < 2 ^ 63 }
-        ensures room { LeavesRoom (self.old.tally.totals.adds + length bytes.now) self.new.tally.totals.adds result }
-        ensures taken { (counts : List Count) → IsCounted self.old counts → Takes bytes.now counts self.new result }
+    /// Counts the item in front, which is passed, with the style's names; each count is turned first where `turned`.
+    #[inline(always)]
+    pub(crate) fn take_item<L: Ledger>(
+        &mut self,
+        names: NameSet,
+        turned: bool,
+        scan: &mut Scan<'_>,
+        steps: &mut Steps<L>,
+    ) -> Step
+        requires room { self.old.tally.totals.adds + length (ahead scan.old) < 2 ^ 63 }
+        ensures room { LeavesRoom (self.old.tally.totals.adds + length (ahead scan.old))
+            (self.new.tally.totals.adds + length (ahead scan.new)) result }
+        ensures step { (counts : List Count) → IsCounted self.old (turned_counts turned counts)
+            → IsStep (names_in names) turned scan.new.text (ahead scan.old) (ahead scan.new) counts self.new result }
+        ensures same { scan.new.text ≡ scan.old.text }
+        ensures spends { Spends steps.old (ahead scan.old) steps.new (ahead scan.new) }
     {
-        match next_item(bytes) {
-            Item::Clock(clock, rest) => {
-                if self.count_clock(clock) {
-                    Step::Taken(rest)
+        match next_item(scan, steps) {
+            Item::Clock(clock) => {
+                let negative = turn(turned, clock.negative);
+                if self.count_clock(scan.text(), Clock { negative, ..clock }, steps) {
+                    Step::Taken
                 } else {
-                    Step::Unread
+                    Step::NoItem
                 }
             }
-            Item::Named(number, letters, rest) => match unit_named(letters) {
+            Item::Named(number, letters) => match unit_named(names, letters) {
                 Some(unit) => {
-                    if self.count(number, unit) {
-                        Step::Taken(rest)
+                    let negative = turn(turned, number.negative);
+                    if self.count(scan.text(), Decimal { negative, ..number }, unit, steps) {
+                        Step::Taken
                     } else {
-                        Step::BadName(letters, rest)
+                        Step::BadName(letters)
                     }
                 }
-                None => Step::BadName(letters, rest),
+                None => Step::BadName(letters),
             },
-            Item::None => Step::Unread,
+            Item::Neither => Step::NoItem,
         }
     }
 }

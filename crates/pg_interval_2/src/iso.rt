@@ -3,9 +3,9 @@ ghost use Rattle.std.specs.Prelude.{◌≡◌, ◌+◌, ◌*◌, ◌-◌, ◌<�
 ghost use Rattle.scan_core.specs.Scanning.{Spends, ahead, unseen};
 ghost use Rattle.pg_interval_2.specs.Denotes.{Denotes, HasNoShape, NoPlace, Refuses};
 ghost use Rattle.pg_interval_2.specs.Iso.{IsIso, unit_in};
-ghost use Rattle.pg_interval_2.specs.IsoTally.{IsTallied, StopsBehindPairs, TakesPairs, ends_pairs};
+ghost use Rattle.pg_interval_2.specs.inside.IsoTally.{IsTallied, StopsBehindPairs, TakesPairs, ends_pairs};
 ghost use Rattle.pg_interval_2.specs.Messages.{not_iso};
-ghost use Rattle.pg_interval_2.specs.Reading.{IsDecimal, count_with, numeral_in, read_pair};
+ghost use Rattle.pg_interval_2.specs.inside.Reading.{IsDecimal, count_with, numeral_in, read_pair};
 
 use crate::error::ParseError;
 use crate::interval::Interval;
@@ -32,7 +32,7 @@ fn unit_of(in_time: bool, letter: u8) -> Option<Unit>
 
 /// The number and the unit in front, which are passed; None exactly where no such pair is there.
 #[inline(always)]
-#[tactic(auto, unfolding(crate::specs::Reading::read_pair))]
+#[tactic(auto, unfolding(crate::specs::inside::Reading::read_pair))]
 fn pair<L: Ledger>(
     in_time: bool,
     scan: &mut Scan<'_>,
@@ -197,6 +197,13 @@ mod tests {
             ("PT1.123456S", (0, 0, 1_123_456)),
             ("PT0.0000005S", (0, 0, 1)),
             ("PT-0.0000005S", (0, 0, -1)),
+            ("P0.55M", (0, 17, 0)),
+            ("P0.98D", (0, 0, 86_400_000_000)),
+            ("PT0.99M", (0, 0, 59_000_000)),
+            ("PT0.0000004999999S", (0, 0, 0)),
+            ("PT0.0000005000000S", (0, 0, 1)),
+            ("PT1D", (0, 1, 0)),
+            ("P1DT", (0, 1, 0)),
             ("P2147483647D1D-1D", (0, i32::MAX, 0)),
             ("P-178956970Y-8M", (i32::MIN, 0, 0)),
             ("P-2147483648D", (0, i32::MIN, 0)),
@@ -225,11 +232,14 @@ mod tests {
             ("P.D", NONE),
             ("P1S", NONE),
             ("P1D ", NONE),
+            ("PT1h", NONE),
+            ("P1DT ", NONE),
             ("P178956971Y", MONTHS),
             ("P2147483648D", DAYS),
             ("P9999999999D-9999999999D", DAYS),
             ("PT2562047789H", TIME),
             ("P2147483648DT2562047789H178956971Y", MONTHS),
+            ("P2147483648DT2562047789H", DAYS),
         ] {
             assert_eq!(rt; Interval::from_iso(text), Err(want), "at {text}");
             assert_eq!(rt; want.is_range(), want != NONE);

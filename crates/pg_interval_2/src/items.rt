@@ -1,92 +1,80 @@
-//! The items of the word styles: a number and the name of its unit, or a clock.
-ghost use Rattle.std.specs.Prelude.{◌≡◌, option_map};
-ghost use Rattle.pg_interval_2.specs.ItemReading.{ClockFields, read_clock, read_named, read_item};
-ghost use Rattle.pg_interval_2.specs.ItemViews.{item_of};
+//! The items of the word styles at the front of a scan: a number and the name of its unit, or a clock.
+ghost use Rattle.std.specs.Prelude.{◌≡◌, ◌+◌, ◌≤◌, length};
+ghost use Rattle.scan_core.specs.Runs.{IsRun, digits_of};
+ghost use Rattle.scan_core.specs.Scanning.{ahead, unseen};
+ghost use Rattle.pg_interval_2.specs.inside.ItemReading.{read_item, read_named};
+ghost use Rattle.pg_interval_2.specs.inside.ItemViews.{AreItemRuns, IsReadAs, fraction_length};
 
-use crate::scan::{Number, split_digits, split_fraction, split_sign, strip_byte};
-use crate::words::{ends_word, skip_blanks, split_letters};
+use crate::clock::{Clock, clock_behind};
+use crate::number::{Decimal, fraction, sign};
+use crate::words::ends_word;
+use scan_core::{Run, Scan, Steps, Word};
+use std::sync::ledger::Ledger;
 
-/// A clock's fields as slices of the text.
+/// What stood in front of a scan, which has passed it.
 #[derive(Clone, Copy)]
-pub(crate) struct Clock<'a> {
-    pub(crate) negative: bool,
-    pub(crate) hours: &'a [u8],
-    pub(crate) minutes: &'a [u8],
-    pub(crate) seconds: &'a [u8],
-    pub(crate) fraction: &'a [u8],
-}
-
-/// What stands in front of a text, and what follows it.
-#[derive(Clone, Copy)]
-pub(crate) enum Item<'a> {
+pub(crate) enum Item {
     /// A clock.
-    Clock(Clock<'a>, &'a [u8]),
+    Clock(Clock),
     /// A number, and the letters that stand for its unit.
-    Named(Number<'a>, &'a [u8], &'a [u8]),
+    Named(Decimal, Word),
     /// Neither.
-    None,
+    Neither,
 }
 
-/// The clock whose hours stand before the colon that these bytes follow.
-#[tactic(auto, unfolding(crate::specs::ItemReading::read_clock))]
-fn clock_behind<'a>(negative: bool, hours: &'a [u8], bytes: &'a [u8]) -> Item<'a>
-    ensures { item_of result ≡ read_clock negative hours.now bytes.now }
+/// The number whose whole digits the scan has passed, and its letters.
+#[inline(always)]
+#[tactic(auto, unfolding(crate::specs::inside::ItemReading::read_named))]
+fn named_behind<L: Ledger>(
+    negative: bool,
+    whole: Run,
+    scan: &mut Scan<'_>,
+    steps: &mut Steps<L>,
+) -> Item
+    requires { IsRun scan.old.text whole }
+    ensures read { IsReadAs scan.new.text (ahead scan.new) result
+        (read_named negative (digits_of scan.old.text whole) (ahead scan.old)) }
+    ensures runs { AreItemRuns scan.new.text (ahead scan.new) result }
+    ensures same { scan.new.text ≡ scan.old.text }
+    ensures onward { fraction_length result + length (ahead scan.new) ≤ length (ahead scan.old) }
+    ensures ticks { steps.new + unseen (ahead scan.new) ≡ steps.old + unseen (ahead scan.old) }
 {
-    let (minutes, rest) = split_digits(bytes);
-    let rest = match strip_byte(b':', rest) {
-        Some(rest) => rest,
-        None => return Item::None,
-    };
-    let (seconds, rest) = split_digits(rest);
-    let (fraction, rest) = split_fraction(rest);
-    if hours.is_empty() || minutes.is_empty() || seconds.is_empty() || !ends_word(rest) {
-        return Item::None;
-    }
-    Item::Clock(
-        Clock {
-            negative,
-            hours,
-            minutes,
-            seconds,
-            fraction,
-        },
-        rest,
-    )
-}
-
-/// The number whose whole digits stand before these bytes, and its letters.
-#[tactic(auto, unfolding(crate::specs::ItemReading::read_named))]
-fn named_behind<'a>(negative: bool, whole: &'a [u8], bytes: &'a [u8]) -> Item<'a>
-    ensures { item_of result ≡ read_named negative whole.now bytes.now }
-{
-    let (fraction, rest) = split_fraction(bytes);
+    let fraction = fraction(scan, steps);
     if whole.is_empty() && fraction.is_empty() {
-        return Item::None;
+        return Item::Neither;
     }
-    let (letters, rest) = split_letters(skip_blanks(rest));
-    if letters.is_empty() || !ends_word(rest) {
-        return Item::None;
+    scan.blanks(steps);
+    let letters = scan.letters(steps);
+    if letters.start == letters.end || !ends_word(scan) {
+        return Item::Neither;
     }
     Item::Named(
-        Number {
+        Decimal {
             negative,
             whole,
             fraction,
         },
         letters,
-        rest,
     )
 }
 
 /// The item in front: a sign and digits begin both kinds, and a colon behind them tells a clock.
-#[tactic(auto, unfolding(crate::specs::ItemReading::read_item))]
-pub(crate) fn next_item(bytes: &[u8]) -> Item<'_>
-    ensures { item_of result ≡ read_item bytes.now }
+#[inline(always)]
+#[tactic(auto, unfolding(crate::specs::inside::ItemReading::read_item))]
+pub(crate) fn next_item<L: Ledger>(scan: &mut Scan<'_>, steps: &mut Steps<L>) -> Item
+    ensures read { IsReadAs scan.new.text (ahead scan.new) result (read_item (ahead scan.old)) }
+    ensures runs { AreItemRuns scan.new.text (ahead scan.new) result }
+    ensures same { scan.new.text ≡ scan.old.text }
+    ensures onward { fraction_length result + length (ahead scan.new) ≤ length (ahead scan.old) }
+    ensures ticks { steps.new + unseen (ahead scan.new) ≡ steps.old + unseen (ahead scan.old) }
 {
-    let (negative, body) = split_sign(true, bytes);
-    let (whole, rest) = split_digits(body);
-    match strip_byte(b':', rest) {
-        Some(minutes) => clock_behind(negative, whole, minutes),
-        None => named_behind(negative, whole, rest),
+    let negative = sign(true, scan, steps);
+    let whole = scan.digits(steps);
+    if !scan.next_if(b':', steps) {
+        return named_behind(negative, whole, scan, steps);
+    }
+    match clock_behind(negative, whole, scan, steps) {
+        Some(clock) => Item::Clock(clock),
+        None => Item::Neither,
     }
 }

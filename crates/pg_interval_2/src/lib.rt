@@ -5,6 +5,8 @@
 //! Ported from the crate `pg_interval_2` of Rust. Readers and `text` take no memory.
 #![tactic(auto)]
 
+mod body;
+mod clock;
 mod clock_text;
 mod counted;
 mod error;
@@ -17,14 +19,13 @@ mod number;
 mod parts;
 mod postgres;
 mod postgres_text;
-mod scan;
 mod sql;
 mod sql_text;
 mod sql_word;
 mod style;
 mod tally;
 mod text;
-mod unit_name;
+mod unit_names;
 mod units;
 mod words;
 

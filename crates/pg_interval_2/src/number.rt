@@ -2,7 +2,7 @@
 ghost use Rattle.std.specs.Prelude.{◌≡◌, ◌+◌, ◌-◌, ◌<◌, ◌≤◌, None, Some, IfSome, IfNone, length};
 ghost use Rattle.scan_core.specs.Runs.{IsRun, digits_of};
 ghost use Rattle.scan_core.specs.Scanning.{ahead, unseen};
-ghost use Rattle.pg_interval_2.specs.Reading.{IsDecimal, numeral_in, read_fraction, read_number, read_sign, read_unsigned};
+ghost use Rattle.pg_interval_2.specs.inside.Reading.{IsDecimal, numeral_in, read_fraction, read_number, read_sign, read_unsigned};
 
 use scan_core::{Run, Scan, Steps};
 use std::sync::ledger::Ledger;
@@ -54,7 +54,7 @@ pub(crate) fn fraction<L: Ledger>(scan: &mut Scan<'_>, steps: &mut Steps<L>) -> 
 
 /// The unsigned number in front, with its sign, which is passed; None exactly where no digit is there.
 #[inline(always)]
-#[tactic(auto, unfolding(crate::specs::Reading::read_unsigned))]
+#[tactic(auto, unfolding(crate::specs::inside::Reading::read_unsigned))]
 fn unsigned<L: Ledger>(negative: bool, scan: &mut Scan<'_>, steps: &mut Steps<L>) -> Option<Decimal>
     ensures read { IfSome result (λ number.
         Some (numeral_in scan.new.text number, ahead scan.new) ≡ read_unsigned negative (ahead scan.old)) }
@@ -80,7 +80,7 @@ fn unsigned<L: Ledger>(negative: bool, scan: &mut Scan<'_>, steps: &mut Steps<L>
 
 /// The number in front, which is passed; None exactly where none is there. A plus may stand before it where `plus`.
 #[inline(always)]
-#[tactic(auto, unfolding(crate::specs::Reading::read_number))]
+#[tactic(auto, unfolding(crate::specs::inside::Reading::read_number))]
 pub(crate) fn number<L: Ledger>(
     plus: bool,
     scan: &mut Scan<'_>,

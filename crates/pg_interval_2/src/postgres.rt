@@ -1,46 +1,50 @@
 //! The `postgres` style: `1 year 2 mons 3 days 04:05:06`.
-ghost use Rattle.std.specs.Prelude.{◌≡◌, ℕ, IfOk, IfErr};
+ghost use Rattle.std.specs.Prelude.{◌≡◌, ◌+◌, ◌*◌, ◌<◌, ◌≤◌, ℕ, IfOk, IfErr, length};
 ghost use Rattle.pg_interval_2.specs.Denotes.{Denotes, Refuses};
 ghost use Rattle.pg_interval_2.specs.Messages.{not_postgres};
 ghost use Rattle.pg_interval_2.specs.Postgres.{IsPostgres, IsPostgresBadName};
-ghost use Rattle.pg_interval_2.specs.PostgresTally.{IsPostgresTally, IsUnread};
 
-use crate::counted::{Counted, Step};
+use crate::body::{Misread, tally_items};
 use crate::error::ParseError;
 use crate::interval::Interval;
-use crate::tally::Tally;
-use crate::words::skip_blanks;
+use crate::unit_names::NameSet;
+use scan_core::{Looked, Scan, Steps};
+use std::marker::Brand;
+use std::sync::ledger::{Blank, Ledger};
 
-/// Why a text spells no counts.
-#[derive(Clone, Copy)]
-enum Unread {
-    /// It isn't items.
-    Shape,
-    /// Behind a number, from `start` up to `end`, letters stand that name no unit or one that was counted before.
-    Name { start: usize, end: usize },
+/// What `Interval::from_postgres` answers, with at most two looks a byte, and with one at least where it is Ok.
+pub(crate) fn read_postgres<L: Ledger>(
+    text: &Looked<'_>,
+    steps: &mut Steps<L>,
+) -> Result<Interval, ParseError>
+    ensures ok { IfOk result (λ t. Denotes IsPostgres text.now t) }
+    ensures all { (t : Interval) → Denotes IsPostgres text.now t → result ≡ Ok t }
+    ensures err { IfErr result (λ e. Refuses IsPostgres IsPostgresBadName not_postgres text.now e) }
+    ensures bad { (start end : ℕ) → IsPostgresBadName text.now start end
+        → result ≡ Err (ParseError.BadUnit start end) }
+    ensures most { steps.new ≤ steps.old + 2 * length text.now }
+    ensures least { IfOk result (λ _. steps.old + length text.now ≤ steps.new) }
+{
+    let mut scan = Scan::new(text, steps);
+    match tally_items(NameSet::Postgres, false, &mut scan, steps) {
+        Ok(tally) => tally.answer(),
+        Err(Misread::BadName { start, end }) => Err(ParseError::BadUnit { start, end }),
+        Err(Misread::NoItems) => Err(ParseError::InvalidInterval("not a postgres interval")),
+    }
 }
 
-/// The tally of the counts that the text spells.
-fn tally_of(text: &[u8]) -> Result<Tally, Unread>
-    ensures ok { IfOk result (IsPostgresTally text.now) }
-    ensures err { IfErr result (IsUnread text.now) }
+/// The same with a counter of its own.
+fn read_postgres_alone<L: Ledger>(text: &Looked<'_>, blank: Blank) -> Result<Interval, ParseError>
+    requires name { blank.name ≡ L.name }
+    requires parts { blank.parts ≡ L.parts }
+    requires some { 0 < L.parts }
+    ensures ok { IfOk result (λ t. Denotes IsPostgres text.now t) }
+    ensures all { (t : Interval) → Denotes IsPostgres text.now t → result ≡ Ok t }
+    ensures err { IfErr result (λ e. Refuses IsPostgres IsPostgresBadName not_postgres text.now e) }
+    ensures bad { (start end : ℕ) → IsPostgresBadName text.now start end
+        → result ≡ Err (ParseError.BadUnit start end) }
 {
-    let mut counted = Counted::new();
-    let mut rest = skip_blanks(text);
-    while !rest.is_empty() {
-        match counted.take_item(rest) {
-            Step::Taken(after) => rest = skip_blanks(after),
-            Step::BadName(letters, after) => {
-                let end = text.len() - after.len();
-                return Err(Unread::Name {
-                    start: end - letters.len(),
-                    end,
-                });
-            }
-            Step::Unread => return Err(Unread::Shape),
-        }
-    }
-    Ok(counted.tally)
+    read_postgres(text, &mut Steps::<L>::new(blank))
 }
 
 impl Interval {
@@ -55,13 +59,10 @@ impl Interval {
         ensures ok { IfOk result (λ t. Denotes IsPostgres text.now t) }
         ensures all { (t : Interval) → Denotes IsPostgres text.now t → result ≡ Ok t }
         ensures err { IfErr result (λ e. Refuses IsPostgres IsPostgresBadName not_postgres text.now e) }
-        ensures bad { (start end : ℕ) → IsPostgresBadName text.now start end → result ≡ Err (ParseError.BadUnit start end) }
+        ensures bad { (start end : ℕ) → IsPostgresBadName text.now start end
+            → result ≡ Err (ParseError.BadUnit start end) }
     {
-        match tally_of(text.as_bytes()) {
-            Ok(tally) => tally.answer(),
-            Err(Unread::Name { start, end }) => Err(ParseError::BadUnit { start, end }),
-            Err(Unread::Shape) => Err(ParseError::InvalidInterval("not a postgres interval")),
-        }
+        read_postgres_alone::<Brand>(&Looked::new(text), Blank::new(1))
     }
 }
 
@@ -94,6 +95,12 @@ mod tests {
             ("0:00:00.1234567", (0, 0, 123_456)),
             ("0:00:00.", (0, 0, 0)),
             ("1 day 00:00:00", (0, 1, 0)),
+            ("2 minutes 3 seconds", (0, 0, 123_000_000)),
+            ("5 seconds 00:00:00.0000009", (0, 0, 5_000_000)),
+            ("+04:05:06", (0, 0, 14_706_000_000)),
+            ("1 day\u{b}1:00:00", (0, 1, 3_600_000_000)),
+            ("-0.0000004999999 seconds", (0, 0, 0)),
+            ("-0.0000005000000 seconds", (0, 0, -1)),
         ] {
             let want = Interval::new(want.0, want.1, want.2);
             assert_eq!(rt; Interval::from_postgres(text), Ok(want), "at {text}");
@@ -108,6 +115,9 @@ mod tests {
             ("1 day 2day", ParseError::BadUnit { start: 7, end: 10 }),
             ("1 fortnight", ParseError::BadUnit { start: 2, end: 11 }),
             ("1 month", ParseError::BadUnit { start: 2, end: 7 }),
+            ("1 Day", ParseError::BadUnit { start: 2, end: 5 }),
+            ("0 days 1 day", ParseError::BadUnit { start: 9, end: 12 }),
+            ("1 min", ParseError::BadUnit { start: 2, end: 5 }),
             (
                 "1 year 1 mon 1 day 1 hour 1 minute 1 second 5 x",
                 ParseError::BadUnit { start: 46, end: 47 },
@@ -116,6 +126,7 @@ mod tests {
             ("1 day x", NONE),
             ("1 day 2", NONE),
             ("1 hours 01:02:03", NONE),
+            ("0 hours 01:00:00", NONE),
             ("1 day --2 hours", NONE),
             ("5 00:00:00 days", NONE),
             ("1\u{A0}day", NONE),

@@ -2,7 +2,7 @@ ghost use Rattle.std.specs.Prelude.{◌≡◌, ◌+◌, ◌≤◌, ◌++◌, len
 ghost use Rattle.std.specs.List.{join_with_byte};
 ghost use Rattle.arrayvec.specs.ArrayString.{array_string_len};
 ghost use Rattle.pg_interval_2.specs.PostgresText.{counted_name, part_words, clock_words, postgres_words, postgres_text};
-ghost use Rattle.pg_interval_2.specs.Writing.{spaced, with_words};
+ghost use Rattle.pg_interval_2.specs.inside.Writing.{spaced, with_words};
 
 use crate::clock_text::push_clock;
 use crate::parts::{months_of, push_digits, push_minus, years_of};

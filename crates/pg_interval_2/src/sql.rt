@@ -6,7 +6,7 @@ ghost use Rattle.scan_core.specs.Scanning.{ahead, unseen};
 ghost use Rattle.pg_interval_2.specs.Denotes.{Denotes, HasNoShape, NoPlace, Refuses};
 ghost use Rattle.pg_interval_2.specs.Messages.{not_sql};
 ghost use Rattle.pg_interval_2.specs.Sql.{IsSql};
-ghost use Rattle.pg_interval_2.specs.Tallies.{IsTallyOf, Tallies};
+ghost use Rattle.pg_interval_2.specs.inside.Tallies.{IsTallyOf, Tallies};
 ghost use Rattle.pg_interval_2.specs.inside.SqlReading.{behind_date, behind_days, last_time, read_sql, read_word, seconds_counts, word_counts};
 ghost use Rattle.pg_interval_2.specs.inside.SqlViews.{AreDateRuns, AreSecondRuns, AreTextRuns, AreTimeRuns, Perhaps, perhaps_counts, seen_days, seen_seconds, seen_time, seen_year_month, text_counts};
 ghost use Rattle.pg_interval_2.specs.declared.sql_word.Days.{Days as DayRuns};

@@ -1,17 +1,15 @@
 //! The tally of a text's counts: exact sums, and which parts a share has left. Nothing is judged before the end.
 ghost use Rattle.std.specs.Prelude.{◌≡◌, ◌+◌, ◌-◌, ◌<◌, ◌≤◌, ◌^◌, [], ◌∷◌, ◌++◌, List};
 ghost use Rattle.scan_core.specs.Count.{Count, count_of};
-ghost use Rattle.scan_core.specs.Digits.{AreDigits};
 ghost use Rattle.scan_core.specs.Runs.{IsRun, digits_of};
 ghost use Rattle.scan_core.specs.Shares.{main_part};
-ghost use Rattle.pg_interval_2.specs.Reading.{IsDecimal, count_with, numeral_in, numeral_of};
-ghost use Rattle.pg_interval_2.specs.Tallies.{Tallies, Answers, marked};
+ghost use Rattle.pg_interval_2.specs.inside.Reading.{IsDecimal, count_with, numeral_in};
+ghost use Rattle.pg_interval_2.specs.inside.Tallies.{Tallies, Answers, marked};
 
 use crate::error::ParseError;
 use crate::interval::Interval;
 use crate::number::Decimal;
-use crate::scan::Number;
-use scan_core::{Looked, Part, Run, Steps, Totals, Unit, add_scanned, count_share};
+use scan_core::{Looked, Part, Run, Steps, Totals, Unit, add_scanned};
 use std::sync::ledger::Ledger;
 
 /// The sums of the shares that fit, and of each part whether all shares do.
@@ -100,20 +98,6 @@ impl Tally {
             fraction,
         };
         self.add(text, number, unit, steps);
-    }
-
-    /// Takes one more count.
-    pub(crate) fn add_number(&mut self, number: Number<'_>, unit: Unit)
-        requires whole { AreDigits number.whole.now }
-        requires fraction { AreDigits number.fraction.now }
-        requires room { self.old.totals.adds < 2 ^ 63 }
-        ensures adds { self.new.totals.adds ≤ self.old.totals.adds + 1 }
-        ensures tallied { (counts : List Count) → Tallies self.old counts → Tallies self.new (counts ++ count_with (numeral_of number.entry) unit ∷ []) }
-    {
-        match count_share(number.whole, number.fraction, number.negative, unit) {
-            Some(share) => self.totals.add(share),
-            None => self.mark(unit),
-        }
     }
 
     /// Notes that a share of this unit has left its part's type.

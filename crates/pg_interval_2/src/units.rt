@@ -9,12 +9,12 @@ pub(crate) struct Units {
     bits: u8,
 }
 
-#[tactic(auto, unfolding(crate::specs::UnitSets::holds_unit))]
+#[tactic(auto, unfolding(crate::specs::inside::UnitSets::holds_unit))]
 impl Units {
     ghost use Rattle.std.specs.Prelude.{◌≡◌, ◌≢◌, true, false};
     ghost use Rattle.scan_core.specs.declared.share.Unit.{Unit as TimeUnit};
     ghost use Rattle.pg_interval_2.specs.Postgres.{place_of};
-    ghost use Rattle.pg_interval_2.specs.UnitSets.{holds_unit};
+    ghost use Rattle.pg_interval_2.specs.inside.UnitSets.{holds_unit};
 
     /// No unit.
     pub(crate) fn new() -> Units

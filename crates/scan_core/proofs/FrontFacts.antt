@@ -1,5 +1,5 @@
 -- The front of a text is found: bytes that pass a test stand there, and none behind them does.
-use Rattle.std.proofs.Common.{◌≡◌, ℕ, ◌≤◌, ◌&&◌, Bool, true, false, cond, List, [], ◌∷◌, ◌++◌, length, refl, ap, arith}
+use Rattle.std.proofs.Common.{◌≡◌, ℕ, ◌≤◌, ◌&&◌, Bool, true, false, cond, List, [], ◌∷◌, ◌++◌, length, refl, ap, arith, take, zero, suc, sym, ◌∙◌}
 use Rattle.std.specs.Char.{is_ascii_digit}
 use Rattle.std.specs.List.{list_all}
 use Rattle.std.proofs.lemmas.Bool.Decides.{nat_tests}
@@ -54,6 +54,17 @@ behind_without test (b ∷ bs) = without_if test (test b) b bs (behind test bs) 
 pub length-behind : (test : ℕ → Bool) (bytes : List ℕ) → length (behind test bytes) ≤ length bytes
 length-behind test [] = omega arith
 length-behind test (b ∷ bs) = shorter_if (test b) b bs (behind test bs) (length-behind test bs)
+
+behind_if : (test : ℕ → Bool) (t : Bool) (b n : ℕ) (bs rest : List ℕ) → test b ≡ t → b ∷ bs ≡ take (suc n) (cond t (b ∷ leading test bs) []) ++ rest
+    → ((more : List ℕ) → bs ≡ take n (leading test bs) ++ more → behind test more ≡ behind test bs) → behind test rest ≡ cond t (behind test bs) (b ∷ bs)
+behind_if test true b n bs rest is split below = below rest cc
+behind_if test false b n bs rest is split below = ap (behind test) (sym split) ∙ rw is refl
+
+-- behind some of the front stands what stands behind all of it
+pub behind_some : (test : ℕ → Bool) (n : ℕ) (bytes rest : List ℕ) → bytes ≡ take n (leading test bytes) ++ rest → behind test rest ≡ behind test bytes
+behind_some test zero bytes rest split = ap (behind test) (sym split)
+behind_some test (suc n) [] rest split = ap (behind test) (sym split)
+behind_some test (suc n) (b ∷ bs) rest split = behind_if test (test b) b n bs rest refl split (λ more. behind_some test n bs more)
 
 -- ---- digits
 

@@ -6,7 +6,7 @@ use std::sync::ledger::Ledger;
 /// A text whose bytes are shown by `look` alone, so that each look is counted.
 #[derive(Drop)]
 pub struct Looked<'a> {
-    text: &'a str,
+    bytes: &'a [u8],
 }
 
 impl<'a> Model for Looked<'a> {
@@ -14,17 +14,19 @@ impl<'a> Model for Looked<'a> {
 
     ghost Value = { List ℕ };
 
-    ghost view = { λ s. s.text.now };
+    ghost view = { λ s. s.bytes.now };
 }
 
 impl<'a> Looked<'a> {
-    ghost use Rattle.std.specs.Prelude.{◌≡◌, ◌+◌, ◌<◌, ◌^◌, length, slice_index};
+    ghost use Rattle.std.specs.Prelude.{◌≡◌, ◌+◌, ◌<◌, ◌≤◌, ◌^◌, length, slice_index, take};
 
     /// The text.
     pub fn new(text: &'a str) -> Looked<'a>
         ensures { result ≡ text.now }
     {
-        Looked { text }
+        Looked {
+            bytes: text.as_bytes(),
+        }
     }
 
     /// How many bytes it has.
@@ -32,7 +34,17 @@ impl<'a> Looked<'a> {
         ensures length { result ≡ length self.now }
         ensures bound { result < 2 ^ 63 }
     {
-        self.text.len()
+        self.bytes.len()
+    }
+
+    /// Its first `end` bytes, as a text of their own.
+    pub fn up_to(&self, end: usize) -> Looked<'a>
+        requires { end ≤ length self.now }
+        ensures { result ≡ take end self.now }
+    {
+        Looked {
+            bytes: &self.bytes[..end],
+        }
     }
 
     /// Byte `i`, counted as one look.
@@ -43,6 +55,6 @@ impl<'a> Looked<'a> {
         ensures tick { steps.new ≡ steps.old + 1 }
     {
         steps.tick();
-        self.text.as_bytes()[i]
+        self.bytes[i]
     }
 }

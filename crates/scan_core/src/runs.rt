@@ -1,5 +1,5 @@
 //! The runs of digits, letters and blanks that a scan passes, as many as stand in front.
-ghost use Rattle.std.specs.Prelude.{◌≡◌, ◌+◌, ◌-◌, ◌*◌, ◌^◌, ◌<◌, ℕ, true};
+ghost use Rattle.std.specs.Prelude.{◌≡◌, ◌+◌, ◌-◌, ◌*◌, ◌^◌, ◌<◌, ◌==◌, ℕ, true};
 ghost use Rattle.std.specs.Char.{is_ascii_digit};
 ghost use Rattle.scan_core.specs.Runs.{Knows};
 
@@ -23,6 +23,16 @@ pub struct Word {
     pub start: usize,
     pub end: usize,
     pub value: u64,
+}
+
+impl Run {
+    /// Whether no digit stands there.
+    #[inline(always)]
+    pub fn is_empty(self) -> bool
+        ensures { result ≡ (self.start == self.end) }
+    {
+        self.start == self.end
+    }
 }
 
 /// The number with one more digit.

@@ -4,8 +4,8 @@ use Rattle.scan_core.specs.Count.{Count, count_of}
 use Rattle.scan_core.specs.Digits.{number_of}
 use Rattle.scan_core.specs.declared.share.Unit.TheVariants.{Year, Month, Day, Hour, Minute, Second}
 use Rattle.scan_core.specs.Fronts.{front_digits, after_digits}
-use Rattle.pg_interval_2.specs.Reading.{read_fraction}
-use Rattle.pg_interval_2.specs.ItemReading.{after_blanks, ends_word}
+use Rattle.pg_interval_2.specs.inside.Reading.{read_fraction}
+use Rattle.pg_interval_2.specs.inside.ItemReading.{after_blanks, ends_word}
 
 -- what a word is
 pub data SqlWord : Type 0 where

@@ -2,8 +2,8 @@ use Rattle.std.proofs.Common.{ℕ, List, arith, refl, subst, sym, ◌∙◌, ◌
 use Rattle.scan_core.specs.Count.{Count}
 use Rattle.scan_core.specs.Scanning.{ahead}
 use Rattle.scan_core.proofs.Spending.{spends_none, spends_again, spends_more}
-use Rattle.pg_interval_2.specs.Reading.{count_with, numeral_in}
-use Rattle.pg_interval_2.specs.Tallies.{Tallies}
+use Rattle.pg_interval_2.specs.inside.Reading.{count_with, numeral_in}
+use Rattle.pg_interval_2.specs.inside.Tallies.{Tallies}
 use Rattle.pg_interval_2.proofs.IsoSteps.{no_pairs, one_more_pair}
 use Rattle.pg_interval_2.proofs.iso.take_pairs.Goals as goal
 

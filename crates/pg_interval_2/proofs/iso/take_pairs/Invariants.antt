@@ -1,6 +1,6 @@
 use Rattle.std.proofs.Common.{◌≡◌, ◌+◌, ◌≤◌, length}
 use Rattle.scan_core.specs.Scanning.{Spends, ahead}
-use Rattle.pg_interval_2.specs.IsoTally.{TakesPairs}
+use Rattle.pg_interval_2.specs.inside.IsoTally.{TakesPairs}
 use Rattle.pg_interval_2.proofs.iso.take_pairs.Given as goal
 
 abbrev pub invariant-loop-scan : goal.invariant-loop-scan

@@ -1,7 +1,7 @@
 use Rattle.std.proofs.Common.{ℕ, List, ap, false, refl, subst, sym, true, ◌∙◌}
 use Rattle.std.proofs.lemmas.Bool.{false≢true}
 use Rattle.scan_core.specs.Scanning.{ahead}
-use Rattle.pg_interval_2.specs.IsoTally.{TakesPairs}
+use Rattle.pg_interval_2.specs.inside.IsoTally.{TakesPairs}
 use Rattle.pg_interval_2.proofs.IsoSteps.{alone_tallied, no_shape_behind_times, no_pair_at_end, stopped_dates, stopped_times, time_begins, timed_tallied}
 use Rattle.pg_interval_2.proofs.iso.tally_of.Goals as goal
 

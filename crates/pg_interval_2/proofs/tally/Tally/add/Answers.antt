@@ -1,6 +1,6 @@
 use Rattle.std.proofs.Common.{refl}
 use Rattle.scan_core.specs.Runs.{digits_of}
-use Rattle.pg_interval_2.specs.Reading.{count_with, numeral_in}
+use Rattle.pg_interval_2.specs.inside.Reading.{count_with, numeral_in}
 use Rattle.pg_interval_2.proofs.TallyFacts.{tally_share, tally_mark, off_unless}
 use Rattle.pg_interval_2.proofs.tally.Tally.add.Goals as goal
 

@@ -4,7 +4,6 @@ use Rattle.scan_core.specs.Count.{Count}
 use Rattle.scan_core.specs.Fronts.{front_digits, after_digits}
 use Rattle.scan_core.specs.Runs.{IsRun, digits_of}
 use Rattle.pg_interval_2.specs.declared.number.Decimal.{Decimal}
-use Rattle.pg_interval_2.specs.declared.scan.Number.{Number}
 use Rattle.scan_core.specs.declared.share.Unit.{Unit as TimeUnit}
 
 -- whether a minus stands in front, and what follows the sign
@@ -31,10 +30,6 @@ numeral_in text n = record { negative = n.negative; whole = digits_of text n.who
 pub record IsDecimal (text : List ℕ) (n : Decimal) : Type 0 where
   pub whole : IsRun text n.whole
   pub fraction : IsRun text n.fraction
-
--- a number of the code, without where its digits lie
-abbrev pub numeral_of : Number → Numeral
-numeral_of n = record { negative = n.negative; whole = n.whole.now; fraction = n.fraction.now }
 
 -- digits with a fraction behind a sign, or nothing where no digit is there
 unfoldable pub read_unsigned : Bool → List ℕ → Option (Numeral × List ℕ)

@@ -3,8 +3,8 @@ use Rattle.std.specs.Prelude.{◌≡◌, ℕ, Bool, true, false, ◌==◌, List,
 use Rattle.scan_core.specs.Count.{Count}
 use Rattle.pg_interval_2.specs.declared.tally.Tally.{Tally}
 use Rattle.pg_interval_2.specs.Iso.{unit_in, ArePairs, IsIso}
-use Rattle.pg_interval_2.specs.Reading.{read_pair}
-use Rattle.pg_interval_2.specs.Tallies.{Tallies}
+use Rattle.pg_interval_2.specs.inside.Reading.{read_pair}
+use Rattle.pg_interval_2.specs.inside.Tallies.{Tallies}
 
 -- pairs were taken from the front of the bytes, and their counts by the tally
 pub record TakesPairs (in_time : Bool) (bytes rest : List ℕ) (old new : Tally) : Type 0 where

@@ -1,0 +1,15 @@
+-- Counts with their signs turned: as `ago` at the end of a text in `postgres_verbose` style turns each of its counts.
+use Rattle.std.specs.Prelude.{Bool, not, List, map, if◌then◌else◌}
+use Rattle.scan_core.specs.Count.{Count, count_of}
+
+-- a sign, turned or not
+abbrev pub turned_sign : Bool → Bool → Bool
+turned_sign turned negative = if turned then not negative else negative
+
+-- a count, turned or not
+abbrev pub turned_count : Bool → Count → Count
+turned_count turned c = count_of (turned_sign turned c.negative) c.whole c.fraction c.unit
+
+-- all counts, turned or not
+abbrev pub turned_counts : Bool → List Count → List Count
+turned_counts turned counts = map (turned_count turned) counts
