@@ -105,7 +105,7 @@ ink_solid : (w : List ℕ) → NoBlanks w → ink w ≡ length w
 ink_solid [] h = refl
 ink_solid (b ∷ bs) h = let first = h.0 in let below = ink_solid bs h.1 in rw first (omega (arith, below))
 
-ink_blanks : (blanks : List ℕ) → AreBlanks blanks → ink blanks ≡ 0
+pub ink_blanks : (blanks : List ℕ) → AreBlanks blanks → ink blanks ≡ 0
 ink_blanks [] h = refl
 ink_blanks (b ∷ bs) h = let split = both (is_blank b) (list_all is_blank bs) h in let first = split.0 in let below = ink_blanks bs split.1 in rw first (omega (arith, below))
 

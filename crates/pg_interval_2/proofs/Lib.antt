@@ -44,3 +44,9 @@ pub mod UnitWords
 pub mod ClockFacts
 pub mod UnitNameFacts
 pub mod PostgresReading
+pub mod SpacedWords
+pub mod AgoEnds
+pub mod Frames
+pub mod VerboseCounts
+pub mod VerboseSpelled
+pub mod VerboseReadBack

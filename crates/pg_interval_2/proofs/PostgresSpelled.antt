@@ -15,7 +15,7 @@ use Rattle.pg_interval_2.specs.Clock.{IsClock, IsField, is_nonzero}
 use Rattle.pg_interval_2.specs.ClockText.{hours_text, field_text, fraction_text, clock_text}
 use Rattle.pg_interval_2.specs.Parts.{minus, years_of, months_of, hours_of, minutes_of, seconds_of, subsecond_of}
 use Rattle.pg_interval_2.specs.Postgres.{IsNamed, IsItem, AreItems, IsPostgres, all_counts, has_distinct_units}
-use Rattle.pg_interval_2.specs.PostgresText.{counted_name, part_words, clock_words, postgres_words, postgres_text}
+use Rattle.pg_interval_2.specs.PostgresText.{counted_name, number_words, part_words, clock_words, postgres_words, postgres_text}
 use Rattle.pg_interval_2.specs.UnitNames.{postgres_names, unit_named}
 use Rattle.pg_interval_2.proofs.ClockCounts.{micros_digits, three_counts}
 use Rattle.scan_core.proofs.Joins.{IsJoin-append, IsJoin-one}
@@ -28,33 +28,43 @@ use Rattle.pg_interval_2.proofs.WrittenNumbers.{cond_two, IsSign-minus, IsNumber
 
 -- ---- a number and its name
 
-named : (negative : Bool) (n : ℕ) (name : List ℕ) (unit : TimeUnit) → n < 2 ^ 64 → unit_named postgres_names name ≡ Some unit → unit_named postgres_names (name ++ codes "s") ≡ Some unit
-    → IsNamed postgres_names ((minus negative ++ decimal n) ∷ counted_name negative n name ∷ []) (count_of negative (decimal n) [] unit)
+-- the name that stands behind a number names the unit, singular or not
+pub counted_unit : (names : TimeUnit → List (List ℕ)) (negative : Bool) (n : ℕ) (name : List ℕ) (unit : TimeUnit)
+    → unit_named names name ≡ Some unit → unit_named names (name ++ codes "s") ≡ Some unit → unit_named names (counted_name negative n name) ≡ Some unit
 unfolding counted_name
-named negative n name unit small one more = record {
+counted_unit names negative n name unit one more = cond_both (not negative && n == 1) _ _ (λ word. unit_named names word ≡ Some unit) (λ _. one) (λ _. more)
+
+named : (names : TimeUnit → List (List ℕ)) (negative : Bool) (n : ℕ) (word : List ℕ) (unit : TimeUnit) → n < 2 ^ 64 → unit_named names word ≡ Some unit
+    → IsNamed names ((minus negative ++ decimal n) ∷ word ∷ []) (count_of negative (decimal n) [] unit)
+named names negative n word unit small is = record {
   number = minus negative ++ decimal n;
-  name = counted_name negative n name;
+  name = word;
   digits = rw append-nil at (IsNumber-whole true negative (decimal n) (digits_decimal n small) (decimal_nonempty n small));
-  unit = cond_both (not negative && n == 1) _ _ (λ word. unit_named postgres_names word ≡ Some unit) (λ _. one) (λ _. more);
+  unit = is;
   spelled = inl refl;
 }
 
 -- the items of a part: one, or none where it is 0
-abbrev part_items : Bool → ℕ → TimeUnit → List (List Count)
+abbrev pub part_items : Bool → ℕ → TimeUnit → List (List Count)
 part_items negative n unit = if n == 0 then [] else ((count_of negative (decimal n) [] unit ∷ []) ∷ [])
+
+pub number_join : (names : TimeUnit → List (List ℕ)) (negative : Bool) (n : ℕ) (word : List ℕ) (unit : TimeUnit) → n < 2 ^ 64 → unit_named names word ≡ Some unit
+    → IsJoin (IsItem names) (number_words negative n word) (part_items negative n unit)
+unfolding number_words
+number_join names negative n word unit small is =
+    cond_two (n == 0) (IsJoin (IsItem names)) _ _ _ _ (λ _. refl)
+    (λ _. IsJoin-one (IsItem names) _ _ (inl (count_of negative (decimal n) [] unit, named names negative n word unit small is, refl)))
 
 part_join : (negative : Bool) (n : ℕ) (name : List ℕ) (unit : TimeUnit) → n < 2 ^ 64 → unit_named postgres_names name ≡ Some unit → unit_named postgres_names (name ++ codes "s") ≡ Some unit
     → IsJoin (IsItem postgres_names) (part_words negative n name) (part_items negative n unit)
-unfolding part_words
 part_join negative n name unit small one more =
-    cond_two (n == 0) (IsJoin (IsItem postgres_names)) _ _ _ _ (λ _. refl)
-    (λ _. IsJoin-one (IsItem postgres_names) _ _ (inl (count_of negative (decimal n) [] unit, named negative n name unit small one more, refl)))
+    number_join postgres_names negative n (counted_name negative n name) unit small (counted_unit postgres_names negative n name unit one more)
 
-all_counts-part : (negative : Bool) (n : ℕ) (unit : TimeUnit) → all_counts (part_items negative n unit) ≡ part_counts negative n unit
+pub all_counts-part : (negative : Bool) (n : ℕ) (unit : TimeUnit) → all_counts (part_items negative n unit) ≡ part_counts negative n unit
 all_counts-part negative n unit =
     cond_two (n == 0) (λ (items : List (List Count)) (counts : List Count). all_counts items ≡ counts) _ _ _ _ (λ _. refl) (λ _. refl)
 
-all_counts-append : (xs ys : List (List Count)) → all_counts (xs ++ ys) ≡ all_counts xs ++ all_counts ys
+pub all_counts-append : (xs ys : List (List Count)) → all_counts (xs ++ ys) ≡ all_counts xs ++ all_counts ys
 all_counts-append [] ys = refl
 all_counts-append (x ∷ xs) ys = rw (all_counts-append xs ys) (sym (append_assoc x (all_counts xs) (all_counts ys)))
 

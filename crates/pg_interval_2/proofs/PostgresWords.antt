@@ -12,43 +12,45 @@ use Rattle.scan_core.specs.Padded.{padded}
 use Rattle.scan_core.proofs.DigitFacts.{digits_decimal}
 use Rattle.scan_core.proofs.WordFacts.{NoBlanks}
 use Rattle.pg_interval_2.specs.Parts.{minus, years_of, months_of, hours_of, minutes_of, seconds_of, subsecond_of}
-use Rattle.pg_interval_2.specs.PostgresText.{counted_name, part_words, clock_words, postgres_words}
+use Rattle.pg_interval_2.specs.PostgresText.{counted_name, number_words, part_words, clock_words, postgres_words}
 use Rattle.pg_interval_2.specs.ClockText.{hours_text, field_text, fraction_text, clock_text}
 use Rattle.pg_interval_2.proofs.WrittenDigits.{AreDigits-padded, length-padded}
 use Rattle.pg_interval_2.proofs.Spaces.{AreWords}
 
-no_blank-append : (xs ys : List ℕ) → NoBlanks xs → NoBlanks ys → NoBlanks (xs ++ ys)
+pub no_blank-append : (xs ys : List ℕ) → NoBlanks xs → NoBlanks ys → NoBlanks (xs ++ ys)
 no_blank-append [] ys left right = right
 no_blank-append (x ∷ xs) ys left right = (left.0, no_blank-append xs ys left.1 right)
 
 digit_no_blank : (c : ℕ) → digit_value c < 10 → is_blank c ≡ false
 digit_no_blank c digit = let range = digit_from_value c digit in grind (arith, nat_tests)
 
-no_blank-digits : (digits : List ℕ) → AreDigits digits → NoBlanks digits
+pub no_blank-digits : (digits : List ℕ) → AreDigits digits → NoBlanks digits
 no_blank-digits [] are = tt
 no_blank-digits (d ∷ ds) are = (digit_no_blank d are.0, no_blank-digits ds are.1)
 
-no_blank-minus : (negative : Bool) → NoBlanks (minus negative)
+pub no_blank-minus : (negative : Bool) → NoBlanks (minus negative)
 no_blank-minus true = (refl, tt)
 no_blank-minus false = tt
 
-counted_name_is : (negative : Bool) (n : ℕ) (name : List ℕ) → 0 < length name → NoBlanks name → (0 < length (counted_name negative n name)) × NoBlanks (counted_name negative n name)
+pub counted_name_is : (negative : Bool) (n : ℕ) (name : List ℕ) → 0 < length name → NoBlanks name → (0 < length (counted_name negative n name)) × NoBlanks (counted_name negative n name)
 unfolding counted_name
 counted_name_is negative n name some clear =
     cond_both (not negative && n == 1) _ _ (λ (word : List ℕ). (0 < length word) × NoBlanks word) (λ _. (some, clear))
     (λ _. (omega (arith, length-append name (codes "s")), no_blank-append name (codes "s") clear (refl, tt)))
 
--- the words of a part
-pub AreWords-part_words : (negative : Bool) (n : ℕ) (name : List ℕ) → n < 2 ^ 64 → 0 < length name → NoBlanks name → AreWords (part_words negative n name)
-unfolding part_words
-AreWords-part_words negative n name small some clear =
-    let behind = counted_name_is negative n name some clear in
+-- the words of a number and a word behind it
+pub AreWords-number_words : (negative : Bool) (n : ℕ) (word : List ℕ) → n < 2 ^ 64 → (0 < length word) × NoBlanks word → AreWords (number_words negative n word)
+unfolding number_words
+AreWords-number_words negative n word small behind =
     cond_both (n == 0) _ _ AreWords (λ _. tt)
     (λ _. (
       omega (arith, length-append (minus negative) (decimal n), decimal_nonempty n small),
       no_blank-append (minus negative) (decimal n) (no_blank-minus negative) (no_blank-digits (decimal n) (digits_decimal n small)),
       (behind.0, behind.1, tt),
     ))
+
+AreWords-part_words : (negative : Bool) (n : ℕ) (name : List ℕ) → n < 2 ^ 64 → 0 < length name → NoBlanks name → AreWords (part_words negative n name)
+AreWords-part_words negative n name small some clear = AreWords-number_words negative n (counted_name negative n name) small (counted_name_is negative n name some clear)
 
 pub year_words : (months : ℤ) → unsigned_abs months ≤ 2 ^ 63 → AreWords (part_words (is_negative months) (years_of months) (codes "year"))
 year_words months small = AreWords-part_words (is_negative months) (years_of months) (codes "year") (omega arith) (omega arith) (refl, (refl, (refl, (refl, tt))))

@@ -12,10 +12,10 @@ use Rattle.scan_core.proofs.DigitFacts.{number_of-decimal}
 use Rattle.scan_core.proofs.RoundingFacts.{rounded-nil}
 use Rattle.pg_interval_2.specs.declared.interval.Interval.{Interval}
 use Rattle.pg_interval_2.specs.Denotes.{Denotes}
-use Rattle.pg_interval_2.specs.Parts.{years_of, months_of}
+use Rattle.pg_interval_2.specs.Parts.{has_negative, years_of, months_of}
 use Rattle.pg_interval_2.specs.Ranges.{IsInRange}
 use Rattle.pg_interval_2.specs.Sql.{IsSql}
-use Rattle.pg_interval_2.specs.SqlText.{has_negative, has_positive, has_all_signs, sql_text}
+use Rattle.pg_interval_2.specs.SqlText.{has_positive, has_all_signs, sql_text}
 use Rattle.pg_interval_2.proofs.AddsUp.{AddsUp-append, AddsUp-same}
 use Rattle.pg_interval_2.proofs.ClockCounts.{field_sum, field_nothing, three_counts, three_counts-sum}
 use Rattle.pg_interval_2.proofs.Signs.{Serves, is_negative-pos, abs_fits, signed-abs, signed_two}

@@ -1,4 +1,4 @@
--- The names of a set of names are letters.
+-- What holds of every name in a set of names holds of every word that names a unit; and the names are letters.
 use Rattle.std.proofs.Common.{◌≡◌, ℕ, Bool, true, false, cond, IsTrue, nat_lt, List, [], ◌∷◌, length, Option, Some, refl, ◌∙◌, ap, ◌||◌}
 use Rattle.std.specs.Char.{is_ascii_alphabetic}
 use Rattle.std.specs.List.{list_all}
@@ -19,28 +19,29 @@ either_case : (x y : Bool) {P : Type 0} → (x || y) ≡ true → (x ≡ true �
 either_case true y h f g = f refl
 either_case false y h f g = g h
 
--- a word among names that are letters is letters
-one_of_names : (names : List (List ℕ)) (word : List ℕ) → IsTrue (list_all is_name names) → is_one_of names word ≡ true → is_name word ≡ true
-one_of_names [] word all h = cc
-one_of_names (name ∷ names) word all h =
-    let split = both (is_name name) (list_all is_name names) all in
+one_of_names : (test : List ℕ → Bool) (names : List (List ℕ)) (word : List ℕ) → IsTrue (list_all test names) → is_one_of names word ≡ true → test word ≡ true
+one_of_names test [] word all h = cc
+one_of_names test (name ∷ names) word all h =
+    let split = both (test name) (list_all test names) all in
     either_case (bytes_eq word name) (is_one_of names word) h
-    (λ same. let equal : word ≡ name = (bytes_eq-Decides word name).0 same in ap is_name equal ∙ split.0)
-    (λ below. one_of_names names word split.1 below)
+    (λ same. let equal : word ≡ name = (bytes_eq-Decides word name).0 same in ap test equal ∙ split.0)
+    (λ below. one_of_names test names word split.1 below)
 
 chosen_unit : (t : Bool) (unit found : TimeUnit) (other : Option TimeUnit) {P : Type 0} → cond t (Some found) other ≡ Some unit → (t ≡ true → P) → (other ≡ Some unit → P) → P
 chosen_unit true unit found other h f g = f refl
 chosen_unit false unit found other h f g = g h
 
-name_word : (names : Names) → ((unit : TimeUnit) → IsTrue (list_all is_name (names unit))) → (word : List ℕ) (unit : TimeUnit) → unit_named names word ≡ Some unit → is_name word ≡ true
+-- a test that all names of a set pass is passed by each word that names a unit
+pub named_passes : (names : Names) (test : List ℕ → Bool) → ((unit : TimeUnit) → IsTrue (list_all test (names unit))) → (word : List ℕ) (unit : TimeUnit)
+    → unit_named names word ≡ Some unit → test word ≡ true
 unfolding unit_named
-name_word names all word unit h =
-    chosen_unit (is_one_of (names Year) word) unit Year _ h (one_of_names (names Year) word (all Year)) (λ h.
-    chosen_unit (is_one_of (names Month) word) unit Month _ h (one_of_names (names Month) word (all Month)) (λ h.
-    chosen_unit (is_one_of (names Day) word) unit Day _ h (one_of_names (names Day) word (all Day)) (λ h.
-    chosen_unit (is_one_of (names Hour) word) unit Hour _ h (one_of_names (names Hour) word (all Hour)) (λ h.
-    chosen_unit (is_one_of (names Minute) word) unit Minute _ h (one_of_names (names Minute) word (all Minute)) (λ h.
-    chosen_unit (is_one_of (names Second) word) unit Second _ h (one_of_names (names Second) word (all Second)) (λ h. cc))))))
+named_passes names test all word unit h =
+    chosen_unit (is_one_of (names Year) word) unit Year _ h (one_of_names test (names Year) word (all Year)) (λ h.
+    chosen_unit (is_one_of (names Month) word) unit Month _ h (one_of_names test (names Month) word (all Month)) (λ h.
+    chosen_unit (is_one_of (names Day) word) unit Day _ h (one_of_names test (names Day) word (all Day)) (λ h.
+    chosen_unit (is_one_of (names Hour) word) unit Hour _ h (one_of_names test (names Hour) word (all Hour)) (λ h.
+    chosen_unit (is_one_of (names Minute) word) unit Minute _ h (one_of_names test (names Minute) word (all Minute)) (λ h.
+    chosen_unit (is_one_of (names Second) word) unit Second _ h (one_of_names test (names Second) word (all Second)) (λ h. cc))))))
 
 set_letters : (set : NameSet) (unit : TimeUnit) → IsTrue (list_all is_name (names_in set unit))
 set_letters Postgres Year = refl
@@ -59,4 +60,4 @@ set_letters Verbose Second = refl
 -- the names of a set are letters
 pub set_names : (set : NameSet) → AreNames (names_in set)
 set_names set word unit h =
-    let split = both (nat_lt 0 (length word)) (list_all is_ascii_alphabetic word) (name_word (names_in set) (set_letters set) word unit h) in (above_zero _ split.0, split.1)
+    let split = both (nat_lt 0 (length word)) (list_all is_ascii_alphabetic word) (named_passes (names_in set) is_name (set_letters set) word unit h) in (above_zero _ split.0, split.1)

@@ -71,10 +71,13 @@ abbrev pub date_counts : ℤ → ℤ → List Count
 date_counts months days =
     part_counts (is_negative months) (years_of months) Year ++ (part_counts (is_negative months) (months_of months) Month ++ part_counts (is_negative days) (unsigned_abs days) Day)
 
--- the counts of hours, minutes and seconds
+-- the counts of hours and minutes, and those of seconds behind them
+abbrev pub time_with : ℤ → List Count → List Count
+time_with micros seconds =
+    part_counts (is_negative micros) (hours_of micros) Hour ++ (part_counts (is_negative micros) (minutes_of micros) Minute ++ seconds)
+
 abbrev pub time_counts : ℤ → List Count
-time_counts micros =
-    part_counts (is_negative micros) (hours_of micros) Hour ++ (part_counts (is_negative micros) (minutes_of micros) Minute ++ seconds_counts (is_negative micros) (seconds_of micros) (subsecond_of micros))
+time_counts micros = time_with micros (seconds_counts (is_negative micros) (seconds_of micros) (subsecond_of micros))
 
 -- the count of a number that is part of z
 counted : (part : Part) (z : ℤ) (n : ℕ) (unit : TimeUnit) → n < 2 ^ 64 → magnitude part unit n 0 ≤ unsigned_abs z → IsTrue (fits_type part z) → AddsUp part (part_counts (is_negative z) n unit) (signed (is_negative z) (magnitude part unit n 0))
@@ -114,28 +117,34 @@ date_counts-micros months days fit_months fit_days =
 pub time_parts : (micros : ℤ) → hours_of micros * 3_600_000_000 + (minutes_of micros * 60_000_000 + (seconds_of micros * 1_000_000 + subsecond_of micros)) ≡ unsigned_abs micros
 time_parts micros = omega arith
 
-time_counts-micros : (micros : ℤ) → IsTrue (fits_type Micros micros) → AddsUp Micros (time_counts micros) micros
-time_counts-micros micros fits =
+-- one part of the seconds of a number of microseconds, by their counts
+abbrev pub HasSeconds : ℤ → List Count → Type 0
+HasSeconds micros seconds =
+    (part : Part) → IsTrue (fits_type part (signed (is_negative micros) (magnitude part Second (seconds_of micros) (subsecond_of micros))))
+    → AddsUp part seconds (signed (is_negative micros) (magnitude part Second (seconds_of micros) (subsecond_of micros)))
+
+time_with-micros : (micros : ℤ) (seconds : List Count) → HasSeconds micros seconds → IsTrue (fits_type Micros micros) → AddsUp Micros (time_with micros seconds) micros
+time_with-micros micros seconds sum fits =
     let small : unsigned_abs micros ≤ 2 ^ 63 = abs_fits Micros micros fits in
     AddsUp-same Micros _ _ _
     (AddsUp-append Micros _ _ _ _ (counted Micros micros (hours_of micros) Hour (omega arith) (omega arith) fits)
     (AddsUp-append Micros _ _ _ _ (counted Micros micros (minutes_of micros) Minute (omega arith) (omega arith) fits)
-    (seconds_counts-sum Micros (is_negative micros) (seconds_of micros) (subsecond_of micros) (omega arith) (omega arith) (fits_type-smaller Micros micros _ (omega arith) fits))))
+    (sum Micros (fits_type-smaller Micros micros _ (omega arith) fits))))
     (signed_three (is_negative micros) micros _ _ _ (signed-abs micros) (omega (arith, time_parts micros)))
 
-time_counts-months : (micros : ℤ) → IsTrue (fits_type Micros micros) → AddsUp Months (time_counts micros) (pos 0)
-time_counts-months micros fits =
+time_with-months : (micros : ℤ) (seconds : List Count) → HasSeconds micros seconds → IsTrue (fits_type Micros micros) → AddsUp Months (time_with micros seconds) (pos 0)
+time_with-months micros seconds sum fits =
     let small : unsigned_abs micros ≤ 2 ^ 63 = abs_fits Micros micros fits in
     AddsUp-append Months _ _ _ _ (uncounted Months (is_negative micros) (hours_of micros) Hour (omega arith) refl)
     (AddsUp-append Months _ _ _ _ (uncounted Months (is_negative micros) (minutes_of micros) Minute (omega arith) refl)
-    (AddsUp-same Months _ _ _ (seconds_counts-sum Months (is_negative micros) (seconds_of micros) (subsecond_of micros) (omega arith) (omega arith) (fits_type-signed_zero Months (is_negative micros))) (signed-zero (is_negative micros))))
+    (AddsUp-same Months _ _ _ (sum Months (fits_type-signed_zero Months (is_negative micros))) (signed-zero (is_negative micros))))
 
-time_counts-days : (micros : ℤ) → IsTrue (fits_type Micros micros) → AddsUp Days (time_counts micros) (pos 0)
-time_counts-days micros fits =
+time_with-days : (micros : ℤ) (seconds : List Count) → HasSeconds micros seconds → IsTrue (fits_type Micros micros) → AddsUp Days (time_with micros seconds) (pos 0)
+time_with-days micros seconds sum fits =
     let small : unsigned_abs micros ≤ 2 ^ 63 = abs_fits Micros micros fits in
     AddsUp-append Days _ _ _ _ (uncounted Days (is_negative micros) (hours_of micros) Hour (omega arith) refl)
     (AddsUp-append Days _ _ _ _ (uncounted Days (is_negative micros) (minutes_of micros) Minute (omega arith) refl)
-    (AddsUp-same Days _ _ _ (seconds_counts-sum Days (is_negative micros) (seconds_of micros) (subsecond_of micros) (omega arith) (omega arith) (fits_type-signed_zero Days (is_negative micros))) (signed-zero (is_negative micros))))
+    (AddsUp-same Days _ _ _ (sum Days (fits_type-signed_zero Days (is_negative micros))) (signed-zero (is_negative micros))))
 
 pub date_counts-sum : (t : Interval) → IsInRange t → SumsTo (date_counts t.months t.days) (date_of t)
 date_counts-sum t range =
@@ -143,7 +152,16 @@ date_counts-sum t range =
     let days : IsTrue (fits_type Days t.days) = fits_months t.days range.days in
     record { months = date_counts-months t.months t.days months days; days = date_counts-days t.months t.days months days; micros = date_counts-micros t.months t.days months days }
 
+pub time_with-sum : (t : Interval) (seconds : List Count) → IsInRange t → HasSeconds t.microseconds seconds → SumsTo (time_with t.microseconds seconds) (time_of t)
+time_with-sum t seconds range sum =
+    let fits : IsTrue (fits_type Micros t.microseconds) = fits_micros t.microseconds range.microseconds in
+    record {
+      months = time_with-months t.microseconds seconds sum fits;
+      days = time_with-days t.microseconds seconds sum fits;
+      micros = time_with-micros t.microseconds seconds sum fits;
+    }
+
 pub time_counts-sum : (t : Interval) → IsInRange t → SumsTo (time_counts t.microseconds) (time_of t)
 time_counts-sum t range =
-    let micros : IsTrue (fits_type Micros t.microseconds) = fits_micros t.microseconds range.microseconds in
-    record { months = time_counts-months t.microseconds micros; days = time_counts-days t.microseconds micros; micros = time_counts-micros t.microseconds micros }
+    let small : unsigned_abs t.microseconds ≤ 2 ^ 63 = abs_fits Micros t.microseconds (fits_micros t.microseconds range.microseconds) in
+    time_with-sum t _ range (λ part. seconds_counts-sum part (is_negative t.microseconds) (seconds_of t.microseconds) (subsecond_of t.microseconds) (omega arith) (omega arith))

@@ -13,4 +13,6 @@ pub mod Postgres
 pub mod Turned
 pub mod Sql
 pub mod SqlText
+pub mod Verbose
+pub mod VerboseText
 pub mod inside

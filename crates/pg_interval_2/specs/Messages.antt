@@ -7,6 +7,9 @@ not_iso = codes "not an iso interval"
 abbrev pub not_postgres : List ℕ
 not_postgres = codes "not a postgres interval"
 
+abbrev pub not_verbose : List ℕ
+not_verbose = codes "not a verbose interval"
+
 abbrev pub not_sql : List ℕ
 not_sql = codes "not a sql interval"
 

@@ -1,9 +1,14 @@
 -- The parts of an interval's numbers, by magnitude: all parts of one number have its sign.
-use Rattle.std.specs.Prelude.{ℕ, ◌/◌, ◌%◌, ℤ, unsigned_abs, Bool, List, [], codes, if◌then◌else◌}
+use Rattle.std.specs.Prelude.{ℕ, ◌/◌, ◌%◌, ℤ, unsigned_abs, Bool, ◌||◌, List, [], codes, if◌then◌else◌}
+use Rattle.std.specs.Int.{is_negative}
 
 -- the minus of a negative number
 abbrev pub minus : Bool → List ℕ
 minus negative = if negative then codes "-" else []
+
+-- one of the three numbers is negative
+abbrev pub has_negative : ℤ → ℤ → ℤ → Bool
+has_negative months days micros = is_negative months || (is_negative days || is_negative micros)
 
 -- years and months of a number of months
 abbrev pub years_of : ℤ → ℕ

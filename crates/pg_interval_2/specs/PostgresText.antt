@@ -11,9 +11,13 @@ use Rattle.pg_interval_2.specs.ClockText.{clock_text}
 unfoldable pub counted_name : Bool → ℕ → List ℕ → List ℕ
 counted_name negative n name = if not negative && n == 1 then name else (name ++ codes "s")
 
+-- a number with its minus, and a word behind it, or no words where it is 0
+unfoldable pub number_words : Bool → ℕ → List ℕ → List (List ℕ)
+number_words negative n word = if n == 0 then [] else ((minus negative ++ decimal n) ∷ word ∷ [])
+
 -- a number with its minus, and its name, or no words where it is 0
-unfoldable pub part_words : Bool → ℕ → List ℕ → List (List ℕ)
-part_words negative n name = if n == 0 then [] else ((minus negative ++ decimal n) ∷ counted_name negative n name ∷ [])
+abbrev pub part_words : Bool → ℕ → List ℕ → List (List ℕ)
+part_words negative n name = number_words negative n (counted_name negative n name)
 
 -- the time with its minus, or no word where it is 0
 unfoldable pub clock_words : ℤ → List (List ℕ)

@@ -3,17 +3,14 @@
 use Rattle.std.specs.Prelude.{ℕ, ℤ, pos, unsigned_abs, int_lt, Bool, not, List, ◌++◌, codes, decimal, ◌&&◌, ◌||◌, if◌then◌else◌}
 use Rattle.std.specs.Ordering.{int_eq}
 use Rattle.std.specs.Int.{is_negative}
-use Rattle.pg_interval_2.specs.Parts.{minus, years_of, months_of}
+use Rattle.pg_interval_2.specs.Parts.{minus, has_negative, years_of, months_of}
 use Rattle.pg_interval_2.specs.ClockText.{clock_text}
 
 -- the sign of a number, a plus also of 0
 abbrev pub minus_or_plus : Bool → List ℕ
 minus_or_plus negative = if negative then codes "-" else codes "+"
 
--- one of the three numbers is negative, one is positive
-abbrev pub has_negative : ℤ → ℤ → ℤ → Bool
-has_negative months days micros = is_negative months || (is_negative days || is_negative micros)
-
+-- one of the three numbers is positive
 abbrev pub has_positive : ℤ → ℤ → ℤ → Bool
 has_positive months days micros = int_lt (pos 0) months || (int_lt (pos 0) days || int_lt (pos 0) micros)
 

@@ -27,6 +27,7 @@ mod tally;
 mod text;
 mod unit_names;
 mod units;
+mod verbose_text;
 mod words;
 
 pub use error::ParseError;

@@ -1,7 +1,7 @@
 ghost use Rattle.std.specs.Prelude.{◌≡◌, ◌+◌, ◌≤◌, ◌<◌, ◌++◌, decimal, codes};
 ghost use Rattle.arrayvec.specs.ArrayString.{array_string_len};
 ghost use Rattle.scan_core.specs.Padded.{padded};
-ghost use Rattle.pg_interval_2.specs.Parts.{minus, years_of, months_of, hours_of, minutes_of, seconds_of, subsecond_of};
+ghost use Rattle.pg_interval_2.specs.Parts.{minus, has_negative, years_of, months_of, hours_of, minutes_of, seconds_of, subsecond_of};
 
 use scan_core::{Short, push_num, push_padded, push_text};
 
@@ -47,6 +47,13 @@ pub fn subsecond_of(micros: i64) -> u32
     (micros.unsigned_abs() % 1_000_000) as u32
 }
 
+/// Whether one of the numbers is negative.
+pub fn has_negative(months: i32, days: i32, micros: i64) -> bool
+    ensures { result ≡ has_negative months days micros }
+{
+    months.is_negative() || days.is_negative() || micros.is_negative()
+}
+
 /// Appends the minus of a negative number.
 pub fn push_minus(out: &mut Short, negative: bool)
     requires { array_string_len out.old + 1 ≤ 128 }
@@ -59,11 +66,12 @@ pub fn push_minus(out: &mut Short, negative: bool)
 }
 
 /// Appends the digits of a number.
-#[tactic(auto, using(crate::proofs::Widths::length_decimal_u32))]
+#[tactic(auto, using(crate::proofs::Widths::length_decimal_u32, crate::proofs::Widths::length_decimal_two))]
 pub fn push_digits(out: &mut Short, value: u32)
     requires { array_string_len out.old + 10 ≤ 128 }
     ensures bytes { out.new.bytes ≡ out.old.bytes ++ decimal value }
     ensures len { array_string_len out.new ≤ array_string_len out.old + 10 }
+    ensures two { value < 100 → array_string_len out.new ≤ array_string_len out.old + 2 }
 {
     push_num(out, u64::from(value));
 }

@@ -21,7 +21,7 @@ fn push_space(out: &mut Short)
 
 /// Appends the name that stands behind a number: singular at 1 alone.
 #[tactic(auto, unfolding(crate::specs::PostgresText::counted_name))]
-fn push_name(out: &mut Short, negative: bool, value: u32, name: &str)
+pub fn push_name(out: &mut Short, negative: bool, value: u32, name: &str)
     requires name { length name.now ≤ 4 }
     requires room { array_string_len out.old + 5 ≤ 128 }
     ensures bytes { out.new.bytes ≡ out.old.bytes ++ counted_name negative value name.now }
@@ -34,7 +34,7 @@ fn push_name(out: &mut Short, negative: bool, value: u32, name: &str)
 }
 
 /// Appends a number with its minus and its name, or nothing where it is 0.
-#[tactic(auto, unfolding(crate::specs::PostgresText::part_words))]
+#[tactic(auto, unfolding(crate::specs::PostgresText::number_words))]
 fn push_part(out: &mut Short, negative: bool, value: u32, name: &str)
     requires name { length name.now ≤ 4 }
     requires room { array_string_len out.old + 18 ≤ 128 }

@@ -2,10 +2,10 @@
 ghost use Rattle.std.specs.Prelude.{◌≡◌, ◌+◌, ◌≤◌, ◌++◌, decimal, codes, unsigned_abs};
 ghost use Rattle.std.specs.Int.{is_negative};
 ghost use Rattle.arrayvec.specs.ArrayString.{array_string_len};
-ghost use Rattle.pg_interval_2.specs.SqlText.{minus_or_plus, has_negative, has_positive, has_all_signs, year_month_text, signed_text, months_text, days_text, time_text, plain_text, sql_text};
+ghost use Rattle.pg_interval_2.specs.SqlText.{minus_or_plus, has_positive, has_all_signs, year_month_text, signed_text, months_text, days_text, time_text, plain_text, sql_text};
 
 use crate::clock_text::push_clock;
-use crate::parts::{months_of, push_digits, push_minus, years_of};
+use crate::parts::{has_negative, months_of, push_digits, push_minus, years_of};
 use scan_core::{Short, push_text};
 
 /// Appends the sign of a number, a plus also of 0.
@@ -31,13 +31,6 @@ fn push_year_month(out: &mut Short, months: i32)
     push_digits(out, years_of(months));
     push_text(out, "-");
     push_digits(out, months_of(months));
-}
-
-/// Whether one of the numbers is negative.
-fn has_negative(months: i32, days: i32, micros: i64) -> bool
-    ensures { result ≡ has_negative months days micros }
-{
-    months.is_negative() || days.is_negative() || micros.is_negative()
 }
 
 /// Whether one of the numbers is positive.

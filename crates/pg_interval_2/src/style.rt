@@ -5,6 +5,8 @@ pub enum Style {
     Iso,
     /// `postgres`, the server's own default: `1 year 2 mons 3 days 04:05:06`.
     Postgres,
+    /// `postgres_verbose`: `@ 1 year 2 mons 3 days 4 hours 5 mins 6 secs`.
+    Verbose,
     /// `sql_standard`: `+1-2 +3 +4:05:06`.
     Sql,
 }

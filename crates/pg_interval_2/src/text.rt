@@ -3,6 +3,7 @@ use crate::iso_text::iso_text;
 use crate::postgres_text::postgres_text;
 use crate::sql_text::sql_text;
 use crate::style::Style;
+use crate::verbose_text::verbose_text;
 use scan_core::Short;
 
 impl Interval {
@@ -20,6 +21,7 @@ impl Interval {
         match style {
             Style::Iso => iso_text(self.months, self.days, self.microseconds),
             Style::Postgres => postgres_text(self.months, self.days, self.microseconds),
+            Style::Verbose => verbose_text(self.months, self.days, self.microseconds),
             Style::Sql => sql_text(self.months, self.days, self.microseconds),
         }
     }

@@ -4,7 +4,7 @@ use Rattle.std.proofs.lemmas.Bool.Decides.{nat_tests}
 use Rattle.std.proofs.lemmas.Fmt.{length-decimal-le}
 use Rattle.std.proofs.lemmas.List.{take_at, length-replicate, replicate-append-replicate}
 use Rattle.scan_core.specs.Digits.{AreDigits, number_of}
-use Rattle.scan_core.specs.Padded.{padded}
+use Rattle.scan_core.specs.Padded.{padded, trimmed}
 use Rattle.scan_core.proofs.DigitFacts.{digits-append, digits-zeros, digits_left, digits_decimal, number_of-zeros, number_of-decimal}
 use Rattle.port_toml_datetime.specs.declared.date.Date.{Date}
 use Rattle.port_toml_datetime.specs.declared.time.Time.{Time}
@@ -16,7 +16,8 @@ use Rattle.port_toml_datetime.specs.Dates.{IsDate, is_leap_year, days_in_month}
 use Rattle.port_toml_datetime.specs.Times.{nanoseconds, IsSecondFraction, IsPerhapsSeconds, IsTime}
 use Rattle.port_toml_datetime.specs.Offsets.{IsOffset}
 use Rattle.port_toml_datetime.specs.Datetimes.{IsDatetime, datetime_of}
-use Rattle.port_toml_datetime.specs.Texts.{onto_trimmed, trimmed, or_zero, fraction_text, date_text, second_text, time_text, offset_text, part_text, delimiter_text, text_of}
+use Rattle.scan_core.proofs.TrimmedFacts.{Fills, trimmed_fills}
+use Rattle.port_toml_datetime.specs.Texts.{or_zero, fraction_text, date_text, second_text, time_text, offset_text, part_text, delimiter_text, text_of}
 use Rattle.port_toml_datetime.specs.WellFormed.{IsRealDay, AreRealSeconds, IsRealTime, IsOffsetInRange, AreWellFormed, IsWellFormed}
 
 -- ---- fields
@@ -38,25 +39,6 @@ two_field : (lo hi n : ℕ) → hi < 100 → lo ≤ n → n ≤ hi → IsField 2
 two_field lo hi n small least most = padded_field 2 lo hi n (omega arith) (omega arith) (omega arith) least most
 
 -- ---- fractions
-
--- a text that zeros fill up to the digits
-abbrev Fills : List ℕ → List ℕ → Type 0
-Fills text digits = (k : ℕ) × (digits ≡ text ++ replicate k 48)
-
-is_zero : (b : ℕ) → (b == 48) ≡ true → b ≡ 48
-is_zero b h = grind (arith, nat_tests)
-
-alone_if : (t : Bool) (b k : ℕ) (bs : List ℕ) → (t ≡ true → b ≡ 48) → bs ≡ replicate k 48 → Fills (cond {A = List ℕ} t [] (b ∷ [])) (b ∷ bs)
-alone_if true b k bs is e = (suc k, rw (is refl, e) refl)
-alone_if false b k bs is e = (k, rw e refl)
-
-onto_fills : (b k : ℕ) (front bs : List ℕ) → bs ≡ front ++ replicate k 48 → Fills (onto_trimmed b front) (b ∷ bs)
-onto_fills b k [] bs e = alone_if (b == 48) b k bs (is_zero b) e
-onto_fills b k (c ∷ cs) bs e = (k, ap (λ (l : List ℕ). b ∷ l) e)
-
-trimmed_fills : (ds : List ℕ) → Fills (trimmed ds) ds
-trimmed_fills [] = (0, refl)
-trimmed_fills (b ∷ bs) = let r = trimmed_fills bs in onto_fills b r.0 (trimmed bs) bs r.1
 
 zero_fills : (text ds : List ℕ) → 0 < length ds → Fills text ds → Fills (or_zero text) ds
 zero_fills [] ds some (zero, e) = let l = ap length e in absurd (omega (arith, l, some))

@@ -1,23 +1,13 @@
 -- Written texts, by the same sections of the TOML specification 1.1: `1979-05-27T07:32:00.5-07:00`. Each width is a least width: a number
 -- with more digits is written whole.
 use Rattle.std.specs.Prelude.{ℕ, ◌+◌, ◌/◌, ◌%◌, ◌==◌, true, false, ℤ, pos, negsuc, List, [], ◌∷◌, ◌++◌, codes, Option, Some, None, if◌then◌else◌}
-use Rattle.scan_core.specs.Padded.{padded}
+use Rattle.scan_core.specs.Padded.{padded, trimmed}
 use Rattle.port_toml_datetime.specs.Offsets.{sign_text}
 use Rattle.port_toml_datetime.specs.declared.date.Date.{Date}
 use Rattle.port_toml_datetime.specs.declared.time.Time.{Time}
 use Rattle.port_toml_datetime.specs.declared.offset.Offset.{Offset}
 use Rattle.port_toml_datetime.specs.declared.offset.Offset.TheVariants.{Z, Custom}
 use Rattle.port_toml_datetime.specs.declared.datetime.Datetime.{Datetime}
-
--- a byte in front of digits whose zeros at the end are dropped, but for a zero with nothing behind it
-abbrev pub onto_trimmed : ℕ → List ℕ → List ℕ
-onto_trimmed b [] = if b == 48 then [] else (b ∷ [])
-onto_trimmed b (c ∷ cs) = b ∷ (c ∷ cs)
-
--- without the zeros at the end
-abbrev pub trimmed : List ℕ → List ℕ
-trimmed [] = []
-trimmed (b ∷ bs) = onto_trimmed b (trimmed bs)
 
 -- at least one digit
 abbrev pub or_zero : List ℕ → List ℕ

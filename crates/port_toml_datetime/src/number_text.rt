@@ -2,9 +2,9 @@
 ghost use Rattle.std.specs.Prelude.{◌≡◌, ◌+◌, ◌<◌, ◌≤◌, ◌++◌, [], ◌∷◌, length};
 ghost use Rattle.arrayvec.specs.ArrayString.{array_string_len};
 ghost use Rattle.scan_core.specs.Padded.{padded};
-ghost use Rattle.port_toml_datetime.specs.Texts.{fraction_text, trimmed};
+ghost use Rattle.port_toml_datetime.specs.Texts.{fraction_text};
 
-use scan_core::{Short, push_padded};
+use scan_core::{Short, push_padded, push_trimmed};
 
 fn push_digit(out: &mut Short, digit: u16)
     requires digit { digit < 10 }
@@ -47,25 +47,8 @@ pub(crate) fn push_four(out: &mut Short, value: u16)
     }
 }
 
-/// The number without the zeros at its end, and how many of nine digits are left.
-fn without_zeros(nanosecond: u32) -> (u32, usize)
-    requires { 0 < nanosecond }
-    ensures trimmed { padded result.1 result.0 ≡ trimmed (padded 9 nanosecond) }
-    ensures short { length (padded result.1 result.0) ≤ 10 }
-    ensures width { result.1 ≤ 9 }
-    ensures some { 0 < length (padded result.1 result.0) }
-{
-    let mut value = nanosecond;
-    let mut width = 9;
-    while value % 10 == 0 {
-        value /= 10;
-        width -= 1;
-    }
-    (value, width)
-}
-
 /// The digits of a nanosecond without the zeros at the end, at least one.
-#[tactic(auto, unfolding(crate::specs::Texts::fraction_text))]
+#[tactic(auto, using(crate::proofs::TextFacts::short_nanos))]
 pub(crate) fn push_fraction(out: &mut Short, nanosecond: u32)
     requires { array_string_len out.old + 10 ≤ 128 }
     ensures bytes { out.new.bytes ≡ out.old.bytes ++ fraction_text nanosecond }
@@ -74,7 +57,6 @@ pub(crate) fn push_fraction(out: &mut Short, nanosecond: u32)
     if nanosecond == 0 {
         out.push('0');
     } else {
-        let (value, width) = without_zeros(nanosecond);
-        push_padded(out, u64::from(value), width);
+        push_trimmed(out, u64::from(nanosecond), 9);
     }
 }

@@ -10,3 +10,4 @@ pub mod ShareFacts
 pub mod SumFacts
 pub mod WordFacts
 pub mod PaddedFacts
+pub mod TrimmedFacts

@@ -1,10 +1,11 @@
--- Digits with leading zeros: how many they are, and the number that they write.
-use Rattle.std.proofs.Common.{◌≡◌, ℕ, zero, suc, ◌-◌, ◌^◌, ◌<◌, List, ◌++◌, length, decimal, replicate, max, arith, refl, ap, ◌∙◌, length-append}
+-- Digits with leading zeros: how many they are, the number that they write, and their last digit.
+use Rattle.std.proofs.Common.{◌≡◌, ℕ, zero, suc, ◌+◌, ◌-◌, ◌/◌, ◌%◌, ◌^◌, ◌<◌, ◌≤◌, List, [], ◌∷◌, ◌++◌, length, decimal, replicate, max, append_assoc, length-append, arith, refl, sym, ap, ◌∙◌}
+use Rattle.std.proofs.lemmas.Fmt.{decimal_digit, decimal_step, decimal_nonempty}
 use Rattle.scan_core.specs.Digits.{AreDigits, number_of}
 use Rattle.scan_core.specs.Padded.{padded}
 use Rattle.scan_core.proofs.DigitFacts.{digits-append, digits-zeros, number_of-zeros, digits_decimal, number_of-decimal}
 
-length-zeros : (n : ℕ) → length {A = ℕ} (replicate n 48) ≡ n
+pub length-zeros : (n : ℕ) → length {A = ℕ} (replicate n 48) ≡ n
 length-zeros zero = refl
 length-zeros (suc n) = ap suc (length-zeros n)
 
@@ -17,3 +18,23 @@ digits-padded width n small = digits-append (replicate (width - length (decimal 
 
 pub number_of-padded : (width n : ℕ) → n < 2 ^ 64 → number_of (padded width n) ≡ n
 number_of-padded width n small = number_of-zeros (width - length (decimal n)) (decimal n) ∙ number_of-decimal n small
+
+pub padded_some : (width n : ℕ) → n < 2 ^ 64 → 0 < length (padded width n)
+padded_some width n fits = let some = decimal_nonempty n fits in omega (arith, length-padded width n, some)
+
+-- ---- the last digit
+
+pub length_one_more : (xs : List ℕ) (c : ℕ) → length (xs ++ (c ∷ [])) ≡ length xs + 1
+length_one_more xs c = rw length-append refl
+
+-- a number from 10 on: its last digit, behind all others in a width less by one
+pub padded_more : (width n : ℕ) → 10 ≤ n → n < 2 ^ 64 → padded width n ≡ padded (width - 1) (n / 10) ++ ((48 + n % 10) ∷ [])
+padded_more width n ten fits =
+    let step = decimal_step n ten fits in
+    let long = ap length step ∙ length_one_more (decimal (n / 10)) (48 + n % 10) in
+    let zeros : width - length (decimal n) ≡ (width - 1) - length (decimal (n / 10)) = omega (arith, long) in
+    rw (zeros, step) (sym (append_assoc (replicate ((width - 1) - length (decimal (n / 10))) 48) (decimal (n / 10)) ((48 + n % 10) ∷ [])))
+
+-- a digit alone stands behind zeros
+pub padded_digit : (width n : ℕ) → n < 10 → padded width n ≡ replicate (width - 1) 48 ++ ((48 + n) ∷ [])
+padded_digit width n h = rw (decimal_digit n h) refl

@@ -1,5 +1,6 @@
-ghost use Rattle.std.specs.Prelude.{◌≡◌, ◌+◌, ◌-◌, ◌≤◌, ◌++◌, length, decimal, replicate, max};
+ghost use Rattle.std.specs.Prelude.{◌≡◌, ◌+◌, ◌-◌, ◌<◌, ◌≤◌, ◌++◌, length, decimal, replicate, max};
 ghost use Rattle.arrayvec.specs.ArrayString.{array_string_len};
+ghost use Rattle.scan_core.specs.Padded.{padded, trimmed};
 
 use arrayvec::ArrayString;
 use itoa::Buffer;
@@ -40,6 +41,36 @@ pub fn push_padded(out: &mut Short, value: u64, width: usize)
     out.push_str(digits);
 }
 
+/// The number without the zeros at its end, and how many digits of so many are left.
+fn without_zeros(value: u64, width: usize) -> (u64, usize)
+    requires { 0 < value }
+    ensures trimmed { padded result.1 result.0 ≡ trimmed (padded width value) }
+    ensures width { result.1 ≤ width }
+    ensures len { max result.1 (length (decimal result.0)) ≤ max width (length (decimal value)) }
+{
+    let mut left = value;
+    let mut places = width;
+    while left % 10 == 0 {
+        left /= 10;
+        places = places.saturating_sub(1);
+    }
+    (left, places)
+}
+
+/// Appends the decimal digits of the value as `push_padded` does, without the zeros at their end: 250 in width 6 is `00025`, and
+/// of 0 nothing is left.
+pub fn push_trimmed(out: &mut Short, value: u64, width: usize)
+    requires width { width ≤ 20 }
+    requires room { array_string_len out.old + max width (length (decimal value)) ≤ 128 }
+    ensures bytes { out.new.bytes ≡ out.old.bytes ++ trimmed (padded width value) }
+    ensures len { array_string_len out.new ≤ array_string_len out.old + max width (length (decimal value)) }
+{
+    if value != 0 {
+        let (left, places) = without_zeros(value, width);
+        push_padded(out, left, places);
+    }
+}
+
 #[cfg(test)]
 mod tests {
     use super::*;
@@ -62,6 +93,27 @@ mod tests {
             push_num(&mut out, value);
             push_text(&mut out, " ");
             push_padded(&mut out, value, width);
+            assert_eq!(rt; out.as_str(), want, "at {value} in {width}");
+        }
+        Ok(())
+    }
+
+    #[test]
+    #[tactic(auto, using(crate::proofs::DigitFacts::decimal_short))]
+    fn zeros_at_the_end_are_left_out(rt: HostRuntime) -> Result<(), Fail> {
+        for (value, width, want) in [
+            (500_000, 6, ".5"),
+            (7, 6, ".000007"),
+            (250, 6, ".00025"),
+            (123_456, 6, ".123456"),
+            (0, 6, "."),
+            (1_234_567_890, 9, ".123456789"),
+            (10, 0, ".1"),
+        ] {
+            assert!(rt; width <= 20);
+            let mut out = Short::new();
+            push_text(&mut out, ".");
+            push_trimmed(&mut out, value, width);
             assert_eq!(rt; out.as_str(), want, "at {value} in {width}");
         }
         Ok(())

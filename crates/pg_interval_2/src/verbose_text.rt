@@ -1,0 +1,190 @@
+//! Texts in `postgres_verbose` style: `@ 1 year 2 mons -3 days 4 hours 5 mins 6.5 secs ago`.
+ghost use Rattle.std.specs.Prelude.{◌≡◌, ◌+◌, ◌<◌, ◌≤◌, ◌++◌, codes, length};
+ghost use Rattle.arrayvec.specs.ArrayString.{array_string_len};
+ghost use Rattle.pg_interval_2.specs.Turned.{turned_sign};
+ghost use Rattle.pg_interval_2.specs.VerboseText.{behind_spaces, has_ago, unit_words, second_digits, second_words, verbose_date, verbose_time, parts_text, verbose_text};
+
+use crate::parts::{
+    has_negative, hours_of, minutes_of, months_of, push_digits, push_minus, seconds_of, subsecond_of, years_of,
+};
+use crate::postgres_text::push_name;
+use scan_core::{Short, push_text, push_trimmed};
+
+/// Whether ` ago` ends the text, and the sign of each part is turned.
+#[tactic(auto, unfolding(crate::specs::VerboseText::has_ago))]
+fn has_ago(months: i32, days: i32, micros: i64) -> bool
+    ensures { result ≡ has_ago months days micros }
+{
+    micros <= 0 && has_negative(months, days, micros)
+}
+
+/// A sign, turned where `turned`.
+fn turn(turned: bool, negative: bool) -> bool
+    ensures { result ≡ turned_sign turned negative }
+{
+    if turned { !negative } else { negative }
+}
+
+/// Appends a part's number and its name, each behind a space, or nothing where it is 0.
+#[tactic(auto, unfolding(crate::specs::PostgresText::number_words))]
+fn push_unit(out: &mut Short, negative: bool, value: u32, name: &str)
+    requires name { length name.now ≤ 4 }
+    requires room { array_string_len out.old + 18 ≤ 128 }
+    ensures bytes { out.new.bytes ≡ out.old.bytes ++ behind_spaces (unit_words negative value name.now) }
+    ensures len { array_string_len out.new ≤ array_string_len out.old + 18 }
+    ensures two { value < 100 → array_string_len out.new ≤ array_string_len out.old + 10 }
+{
+    if value != 0 {
+        push_text(out, " ");
+        push_minus(out, negative);
+        push_digits(out, value);
+        push_text(out, " ");
+        push_name(out, false, value, name);
+    }
+}
+
+/// Appends seconds with microseconds as one exact decimal.
+#[tactic(auto, using(crate::proofs::Widths::length_decimal_micros), unfolding(crate::specs::VerboseText::second_digits))]
+fn push_decimal(out: &mut Short, seconds: u32, micros: u32)
+    requires seconds { seconds < 60 }
+    requires micros { micros < 1_000_000 }
+    requires room { array_string_len out.old + 17 ≤ 128 }
+    ensures bytes { out.new.bytes ≡ out.old.bytes ++ second_digits seconds micros }
+    ensures len { array_string_len out.new ≤ array_string_len out.old + 9 }
+{
+    push_digits(out, seconds);
+    push_text(out, ".");
+    push_trimmed(out, u64::from(micros), 6);
+}
+
+/// Appends the seconds with their microseconds, or nothing where they are 0.
+#[tactic(auto, unfolding(crate::specs::VerboseText::second_words))]
+fn push_seconds(out: &mut Short, negative: bool, seconds: u32, micros: u32)
+    requires seconds { seconds < 60 }
+    requires micros { micros < 1_000_000 }
+    requires room { array_string_len out.old + 24 ≤ 128 }
+    ensures bytes { out.new.bytes ≡ out.old.bytes ++ behind_spaces (second_words negative seconds micros) }
+    ensures len { array_string_len out.new ≤ array_string_len out.old + 16 }
+{
+    if micros == 0 {
+        push_unit(out, negative, seconds, "sec");
+    } else {
+        push_text(out, " ");
+        push_minus(out, negative);
+        push_decimal(out, seconds, micros);
+        push_text(out, " secs");
+    }
+}
+
+/// The text of zero.
+fn zero_text() -> Short
+    ensures bytes { result.bytes ≡ codes "@ 0" }
+    ensures len { array_string_len result ≤ 96 }
+{
+    let mut out = Short::new();
+    push_text(&mut out, "@ 0");
+    out
+}
+
+/// Appends the years, months and days, each with its sign, turned or not.
+#[tactic(auto, unfolding(crate::specs::VerboseText::verbose_date))]
+fn push_date(out: &mut Short, ago: bool, months: i32, days: i32)
+    requires { array_string_len out.old + 46 ≤ 128 }
+    ensures bytes { out.new.bytes ≡ out.old.bytes ++ verbose_date ago months days }
+    ensures len { array_string_len out.new ≤ array_string_len out.old + 46 }
+{
+    let sign = turn(ago, months.is_negative());
+    push_unit(out, sign, years_of(months), "year");
+    push_unit(out, sign, months_of(months), "mon");
+    push_unit(out, turn(ago, days.is_negative()), days.unsigned_abs(), "day");
+}
+
+/// Appends the hours, minutes and seconds, with their sign, turned or not.
+#[tactic(auto, unfolding(crate::specs::VerboseText::verbose_time))]
+fn push_time(out: &mut Short, ago: bool, micros: i64)
+    requires { array_string_len out.old + 52 ≤ 128 }
+    ensures bytes { out.new.bytes ≡ out.old.bytes ++ verbose_time ago micros }
+    ensures len { array_string_len out.new ≤ array_string_len out.old + 44 }
+{
+    let sign = turn(ago, micros.is_negative());
+    push_unit(out, sign, hours_of(micros), "hour");
+    push_unit(out, sign, minutes_of(micros), "min");
+    push_seconds(out, sign, seconds_of(micros), subsecond_of(micros));
+}
+
+/// The text of an interval that isn't zero.
+#[tactic(auto, unfolding(crate::specs::VerboseText::parts_text))]
+fn parts_text(ago: bool, months: i32, days: i32, micros: i64) -> Short
+    ensures bytes { result.bytes ≡ parts_text ago months days micros }
+    ensures len { array_string_len result ≤ 96 }
+{
+    let mut out = Short::new();
+    push_text(&mut out, "@");
+    push_date(&mut out, ago, months, days);
+    push_time(&mut out, ago, micros);
+    if ago {
+        push_text(&mut out, " ago");
+    }
+    out
+}
+
+/// The written text of an interval of these parts: `@ 1 year 1 mon 1 day 1 hour` of 13, 1 and 3_600_000_000.
+#[tactic(auto, unfolding(crate::specs::VerboseText::verbose_text))]
+pub fn verbose_text(months: i32, days: i32, micros: i64) -> Short
+    ensures bytes { result.bytes ≡ verbose_text months days micros }
+    ensures len { array_string_len result ≤ 96 }
+{
+    if months == 0 && days == 0 && micros == 0 {
+        zero_text()
+    } else {
+        parts_text(has_ago(months, days, micros), months, days, micros)
+    }
+}
+
+#[cfg(test)]
+mod tests {
+    use super::*;
+    use std::test::Fail;
+
+    #[test]
+    fn written_texts(rt: HostRuntime) -> Result<(), Fail> {
+        for (months, days, micros, want) in [
+            (0, 0, 0, "@ 0"),
+            (13, 1, 3_600_000_000, "@ 1 year 1 mon 1 day 1 hour"),
+            (14, -3, 14_706_000_000, "@ 1 year 2 mons -3 days 4 hours 5 mins 6 secs"),
+            (-14, 3, -14_706_000_000, "@ 1 year 2 mons -3 days 4 hours 5 mins 6 secs ago"),
+            // seconds without zeros at the end, and singular at exactly 1
+            (0, 0, 1_500_000, "@ 1.5 secs"),
+            (0, 0, 1_000_000, "@ 1 sec"),
+            (0, 0, -1_000_000, "@ 1 sec ago"),
+            (0, 0, -250_000, "@ 0.25 secs ago"),
+            (0, 0, 6_000_007, "@ 6.000007 secs"),
+            (0, 0, 61_000_000, "@ 1 min 1 sec"),
+            // `ago` where the time isn't positive and a number is negative: the other signs are turned
+            (0, -1, 3_600_000_000, "@ -1 day 1 hour"),
+            (0, 1, -7_200_000_000, "@ -1 day 2 hours ago"),
+            (-1, 2, 0, "@ 1 mon -2 days ago"),
+            (1, -2, 0, "@ -1 mon 2 days ago"),
+            (-1, 0, 1, "@ -1 mon 0.000001 secs"),
+            // the ends of the types
+            (0, i32::MIN, 0, "@ 2147483648 days ago"),
+            (0, 0, i64::MIN, "@ 2562047788 hours 54.775808 secs ago"),
+            (
+                i32::MAX,
+                i32::MIN,
+                i64::MAX,
+                "@ 178956970 years 7 mons -2147483648 days 2562047788 hours 54.775807 secs",
+            ),
+            (
+                i32::MIN,
+                i32::MAX,
+                i64::MIN,
+                "@ 178956970 years 8 mons -2147483647 days 2562047788 hours 54.775808 secs ago",
+            ),
+        ] {
+            let text = verbose_text(months, days, micros);
+            assert_eq!(rt; text.as_str(), want, "at {months}, {days}, {micros}");
+        }
+        Ok(())
+    }
+}

@@ -1,0 +1,14 @@
+use Rattle.std.proofs.Common.{◌≡◌, ◌<◌, ◌≤◌, decimal, length, max}
+use Rattle.scan_core.specs.Padded.{padded, trimmed}
+use Rattle.scan_core.proofs.text.without_zeros.Given as goal
+
+abbrev pub invariant-loop-left : goal.invariant-loop-left
+invariant-loop-left l = record {
+  some : 0 < l.left;
+  width : l.places ≤ l.width;
+  trimmed : trimmed (padded l.width l.value) ≡ trimmed (padded l.places l.left);
+  len : max l.places (length (decimal l.left)) ≤ max l.width (length (decimal l.value));
+}
+
+abbrev pub decreases-loop-left : goal.decreases-loop-left
+decreases-loop-left l = l.left
