@@ -18,3 +18,5 @@ mod pieces;
 mod postgres;
 #[cfg(test)]
 mod program;
+#[cfg(test)]
+mod sql;
