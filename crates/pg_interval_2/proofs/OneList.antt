@@ -1,11 +1,14 @@
 -- A text has one list of counts, in each style.
-use Rattle.std.proofs.Common.{◌≡◌, ℕ, List}
+use Rattle.std.proofs.Common.{◌≡◌, ◌≢◌, ℕ, List, refl}
 use Rattle.scan_core.specs.Count.{Count}
 use Rattle.pg_interval_2.specs.declared.style.Style.{Style}
 use Rattle.pg_interval_2.specs.declared.style.Style.TheVariants.{Iso, Postgres, Verbose, Sql}
-use Rattle.pg_interval_2.specs.Styles.{Shape}
+use Rattle.pg_interval_2.specs.Styles.{IsBadPlace, Shape}
+use Rattle.pg_interval_2.specs.UnitNames.{postgres_names}
+use Rattle.pg_interval_2.proofs.Answering.{IsPlaces}
+use Rattle.pg_interval_2.proofs.BadNames.{no_shape_at_bad_name, one_bad_name}
 use Rattle.pg_interval_2.proofs.IsoCounts.{one_list as iso}
-use Rattle.pg_interval_2.proofs.PostgresCounts.{one_list as postgres}
+use Rattle.pg_interval_2.proofs.PostgresCounts.{are_names, one_list as postgres}
 use Rattle.pg_interval_2.proofs.SqlCounts.{one_list as sql}
 use Rattle.pg_interval_2.proofs.VerboseCounts.{one_list as verbose}
 
@@ -14,3 +17,10 @@ one_list Iso = iso
 one_list Postgres = postgres
 one_list Verbose = verbose
 one_list Sql = sql
+
+-- in each style a bad place leaves a text without a shape, and it has one at most
+pub places : (style : Style) → style ≢ Verbose → IsPlaces (Shape style) (IsBadPlace style)
+places Iso other = record { none = λ text start end counts bad shape. bad; one = λ text s e t f bad other. absurd bad }
+places Postgres other = record { none = no_shape_at_bad_name postgres_names are_names; one = one_bad_name postgres_names are_names }
+places Sql other = record { none = λ text start end counts bad shape. bad; one = λ text s e t f bad other. absurd bad }
+places Verbose other = absurd (other refl)

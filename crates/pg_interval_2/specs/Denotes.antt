@@ -44,3 +44,10 @@ IsRange (BadUnit start end) = ⊥
 IsRange (InvalidYearMonth m) = Unit {0}
 IsRange (InvalidDay m) = Unit {0}
 IsRange (InvalidTime m) = Unit {0}
+
+-- the refusal says that this part doesn't fit
+abbrev pub IsRangeOf : Part → ParseError → Type 0
+IsRangeOf Months (InvalidYearMonth m) = m.now ≡ year_month_overflow
+IsRangeOf Days (InvalidDay m) = m.now ≡ day_overflow
+IsRangeOf Micros (InvalidTime m) = m.now ≡ time_overflow
+IsRangeOf part e = ⊥

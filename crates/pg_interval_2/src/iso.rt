@@ -10,6 +10,8 @@ ghost use Rattle.pg_interval_2.specs.inside.Reading.{IsDecimal, count_with, nume
 use crate::error::ParseError;
 use crate::interval::Interval;
 use crate::number::{Decimal, number};
+use crate::reading::read_alone;
+use crate::style::Style;
 use crate::tally::Tally;
 use scan_core::{Looked, Scan, Steps, Unit};
 use std::marker::Brand;
@@ -126,7 +128,6 @@ pub(crate) fn read_iso<L: Ledger>(
     steps: &mut Steps<L>,
 ) -> Result<Interval, ParseError>
     ensures ok { IfOk result (λ t. Denotes IsIso text.now t) }
-    ensures all { (t : Interval) → Denotes IsIso text.now t → result ≡ Ok t }
     ensures err { IfErr result (λ e. Refuses IsIso NoPlace not_iso text.now e) }
     ensures most { steps.new ≤ steps.old + 2 * length text.now }
     ensures least { IfOk result (λ _. steps.old + length text.now ≤ steps.new) }
@@ -135,18 +136,6 @@ pub(crate) fn read_iso<L: Ledger>(
         Some(tally) => tally.answer(),
         None => Err(ParseError::InvalidInterval("not an iso interval")),
     }
-}
-
-/// The same with a counter of its own.
-fn read_iso_alone<L: Ledger>(text: &Looked<'_>, blank: Blank) -> Result<Interval, ParseError>
-    requires name { blank.name ≡ L.name }
-    requires parts { blank.parts ≡ L.parts }
-    requires some { 0 < L.parts }
-    ensures ok { IfOk result (λ t. Denotes IsIso text.now t) }
-    ensures all { (t : Interval) → Denotes IsIso text.now t → result ≡ Ok t }
-    ensures err { IfErr result (λ e. Refuses IsIso NoPlace not_iso text.now e) }
-{
-    read_iso(text, &mut Steps::<L>::new(blank))
 }
 
 impl Interval {
@@ -161,7 +150,7 @@ impl Interval {
         ensures all { (t : Interval) → Denotes IsIso text.now t → result ≡ Ok t }
         ensures err { IfErr result (λ e. Refuses IsIso NoPlace not_iso text.now e) }
     {
-        read_iso_alone::<Brand>(&Looked::new(text), Blank::new(1))
+        read_alone::<Brand>(Style::Iso, &Looked::new(text), Blank::new(1))
     }
 }
 

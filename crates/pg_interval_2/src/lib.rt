@@ -19,6 +19,7 @@ mod number;
 mod parts;
 mod postgres;
 mod postgres_text;
+mod reading;
 mod sql;
 mod sql_text;
 mod sql_word;
@@ -32,5 +33,6 @@ mod words;
 
 pub use error::ParseError;
 pub use interval::Interval;
+pub use reading::read_counted;
 pub use scan_core::Short;
 pub use style::Style;

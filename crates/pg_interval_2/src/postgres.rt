@@ -7,6 +7,8 @@ ghost use Rattle.pg_interval_2.specs.Postgres.{IsPostgres, IsPostgresBadName};
 use crate::body::{Misread, tally_items};
 use crate::error::ParseError;
 use crate::interval::Interval;
+use crate::reading::read_alone;
+use crate::style::Style;
 use crate::unit_names::NameSet;
 use scan_core::{Looked, Scan, Steps};
 use std::marker::Brand;
@@ -18,10 +20,7 @@ pub(crate) fn read_postgres<L: Ledger>(
     steps: &mut Steps<L>,
 ) -> Result<Interval, ParseError>
     ensures ok { IfOk result (λ t. Denotes IsPostgres text.now t) }
-    ensures all { (t : Interval) → Denotes IsPostgres text.now t → result ≡ Ok t }
     ensures err { IfErr result (λ e. Refuses IsPostgres IsPostgresBadName not_postgres text.now e) }
-    ensures bad { (start end : ℕ) → IsPostgresBadName text.now start end
-        → result ≡ Err (ParseError.BadUnit start end) }
     ensures most { steps.new ≤ steps.old + 2 * length text.now }
     ensures least { IfOk result (λ _. steps.old + length text.now ≤ steps.new) }
 {
@@ -31,20 +30,6 @@ pub(crate) fn read_postgres<L: Ledger>(
         Err(Misread::BadName { start, end }) => Err(ParseError::BadUnit { start, end }),
         Err(Misread::NoItems) => Err(ParseError::InvalidInterval("not a postgres interval")),
     }
-}
-
-/// The same with a counter of its own.
-fn read_postgres_alone<L: Ledger>(text: &Looked<'_>, blank: Blank) -> Result<Interval, ParseError>
-    requires name { blank.name ≡ L.name }
-    requires parts { blank.parts ≡ L.parts }
-    requires some { 0 < L.parts }
-    ensures ok { IfOk result (λ t. Denotes IsPostgres text.now t) }
-    ensures all { (t : Interval) → Denotes IsPostgres text.now t → result ≡ Ok t }
-    ensures err { IfErr result (λ e. Refuses IsPostgres IsPostgresBadName not_postgres text.now e) }
-    ensures bad { (start end : ℕ) → IsPostgresBadName text.now start end
-        → result ≡ Err (ParseError.BadUnit start end) }
-{
-    read_postgres(text, &mut Steps::<L>::new(blank))
 }
 
 impl Interval {
@@ -62,7 +47,7 @@ impl Interval {
         ensures bad { (start end : ℕ) → IsPostgresBadName text.now start end
             → result ≡ Err (ParseError.BadUnit start end) }
     {
-        read_postgres_alone::<Brand>(&Looked::new(text), Blank::new(1))
+        read_alone::<Brand>(Style::Postgres, &Looked::new(text), Blank::new(1))
     }
 }
 

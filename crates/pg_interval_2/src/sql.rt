@@ -14,7 +14,9 @@ ghost use Rattle.pg_interval_2.specs.declared.sql_word.Days.{Days as DayRuns};
 use crate::error::ParseError;
 use crate::interval::Interval;
 use crate::number::Decimal;
+use crate::reading::read_alone;
 use crate::sql_word::{Days, Seconds, Time, Word, YearMonth, next_word};
+use crate::style::Style;
 use crate::tally::Tally;
 use scan_core::{Looked, Scan, Steps, Unit};
 use std::marker::Brand;
@@ -277,7 +279,6 @@ pub(crate) fn read_sql<L: Ledger>(
     steps: &mut Steps<L>,
 ) -> Result<Interval, ParseError>
     ensures ok { IfOk result (λ t. Denotes IsSql text.now t) }
-    ensures all { (t : Interval) → Denotes IsSql text.now t → result ≡ Ok t }
     ensures err { IfErr result (λ e. Refuses IsSql NoPlace not_sql text.now e) }
     ensures most { steps.new ≤ steps.old + 2 * length text.now }
     ensures least { IfOk result (λ _. steps.old + length text.now ≤ steps.new) }
@@ -286,18 +287,6 @@ pub(crate) fn read_sql<L: Ledger>(
         Some(tally) => tally.answer(),
         None => Err(ParseError::InvalidInterval("not a sql interval")),
     }
-}
-
-/// The same with a counter of its own.
-fn read_sql_alone<L: Ledger>(text: &Looked<'_>, blank: Blank) -> Result<Interval, ParseError>
-    requires name { blank.name ≡ L.name }
-    requires parts { blank.parts ≡ L.parts }
-    requires some { 0 < L.parts }
-    ensures ok { IfOk result (λ t. Denotes IsSql text.now t) }
-    ensures all { (t : Interval) → Denotes IsSql text.now t → result ≡ Ok t }
-    ensures err { IfErr result (λ e. Refuses IsSql NoPlace not_sql text.now e) }
-{
-    read_sql(text, &mut Steps::<L>::new(blank))
 }
 
 impl Interval {
@@ -312,7 +301,7 @@ impl Interval {
         ensures all { (t : Interval) → Denotes IsSql text.now t → result ≡ Ok t }
         ensures err { IfErr result (λ e. Refuses IsSql NoPlace not_sql text.now e) }
     {
-        read_sql_alone::<Brand>(&Looked::new(text), Blank::new(1))
+        read_alone::<Brand>(Style::Sql, &Looked::new(text), Blank::new(1))
     }
 }
 

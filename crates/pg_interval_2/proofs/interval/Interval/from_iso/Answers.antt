@@ -6,4 +6,4 @@ use Rattle.pg_interval_2.proofs.interval.Interval.from_iso.Goals as goal
 
 pub returns-clause-all : goal.returns-clause-all
 returns-clause-all c =
-    subst (λ (text : List ℕ). (t : Interval) → Denotes IsIso text t → c.read_iso_alone.result ≡ Ok t) c.new.ensures c.read_iso_alone.ensures.all
+    subst (λ (text : List ℕ). (t : Interval) → Denotes IsIso text t → c.read_alone.result ≡ Ok t) c.new.ensures c.read_alone.ensures.all

@@ -7,8 +7,8 @@ use Rattle.pg_interval_2.proofs.interval.Interval.from_postgres.Goals as goal
 
 pub returns-clause-all : goal.returns-clause-all
 returns-clause-all c =
-    subst (λ (text : List ℕ). (t : Interval) → Denotes IsPostgres text t → c.read_postgres_alone.result ≡ Ok t) c.new.ensures c.read_postgres_alone.ensures.all
+    subst (λ (text : List ℕ). (t : Interval) → Denotes IsPostgres text t → c.read_alone.result ≡ Ok t) c.new.ensures c.read_alone.ensures.all
 
 pub returns-clause-bad : goal.returns-clause-bad
 returns-clause-bad c =
-    subst (λ (text : List ℕ). (start end : ℕ) → IsPostgresBadName text start end → c.read_postgres_alone.result ≡ Err (BadUnit start end)) c.new.ensures c.read_postgres_alone.ensures.bad
+    subst (λ (text : List ℕ). (start end : ℕ) → IsPostgresBadName text start end → c.read_alone.result ≡ Err (BadUnit start end)) c.new.ensures c.read_alone.ensures.bad

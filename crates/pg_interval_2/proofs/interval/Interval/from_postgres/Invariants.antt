@@ -1,4 +1,4 @@
 use Rattle.pg_interval_2.proofs.interval.Interval.from_postgres.Given as goal
 
-abbrev pub ghosts-read_postgres_alone : goal.ghosts-read_postgres_alone
-ghosts-read_postgres_alone a = record { name = a.blank.name; parts = a.blank.parts }
+abbrev pub ghosts-read_alone : goal.ghosts-read_alone
+ghosts-read_alone a = record { name = a.blank.name; parts = a.blank.parts }

@@ -6,4 +6,4 @@ use Rattle.pg_interval_2.proofs.interval.Interval.from_sql.Goals as goal
 
 pub returns-clause-all : goal.returns-clause-all
 returns-clause-all c =
-    subst (λ (text : List ℕ). (t : Interval) → Denotes IsSql text t → c.read_sql_alone.result ≡ Ok t) c.new.ensures c.read_sql_alone.ensures.all
+    subst (λ (text : List ℕ). (t : Interval) → Denotes IsSql text t → c.read_alone.result ≡ Ok t) c.new.ensures c.read_alone.ensures.all

@@ -1,4 +1,4 @@
 use Rattle.pg_interval_2.proofs.interval.Interval.from_sql.Given as goal
 
-abbrev pub ghosts-read_sql_alone : goal.ghosts-read_sql_alone
-ghosts-read_sql_alone a = record { name = a.blank.name; parts = a.blank.parts }
+abbrev pub ghosts-read_alone : goal.ghosts-read_alone
+ghosts-read_alone a = record { name = a.blank.name; parts = a.blank.parts }

@@ -1,0 +1,82 @@
+//! The readers of all styles over counted texts.
+ghost use Rattle.std.specs.Prelude.{◌≡◌, ◌≢◌, ◌+◌, ◌*◌, ◌<◌, ◌≤◌, ℕ, IfOk, IfErr, IsErrAnd, length};
+ghost use Rattle.scan_core.specs.declared.share.Part.{Part};
+ghost use Rattle.pg_interval_2.specs.Denotes.{Denotes, HasNoShape, IsRange, IsRangeOf, Misfits, Refuses};
+ghost use Rattle.pg_interval_2.specs.Styles.{IsBadPlace, Shape, not_in};
+
+use crate::error::ParseError;
+use crate::interval::Interval;
+use crate::iso::read_iso;
+use crate::postgres::read_postgres;
+use crate::sql::read_sql;
+use crate::style::Style;
+use scan_core::{Looked, Steps};
+use std::sync::ledger::{Blank, Ledger};
+
+/// The interval that the text denotes in the style, as the style's own reader answers it: `Interval::from_iso` of
+/// `Style::Iso` and so on. Every byte that it reads is a look that `steps` counts. It takes no memory.
+///
+/// Of a text of n bytes it looks at most 2n + 4 times: once at each byte, once more at the digits of a fraction of more than
+/// twelve, and four times at the end. Where it answers an interval, it has looked at each byte.
+pub fn read_counted<L: Ledger>(
+    style: Style,
+    text: &Looked<'_>,
+    steps: &mut Steps<L>,
+) -> Result<Interval, ParseError>
+    requires { style ≢ Style.Verbose }
+    ensures ok { IfOk result (λ t. Denotes (Shape style) text.now t) }
+    ensures all { (t : Interval) → Denotes (Shape style) text.now t → result ≡ Ok t }
+    ensures err { IfErr result
+        (λ e. Refuses (Shape style) (IsBadPlace style) (not_in style) text.now e) }
+    ensures bad { (start end : ℕ) → IsBadPlace style text.now start end
+        → result ≡ Err (ParseError.BadUnit start end) }
+    ensures range { (part : Part) → Misfits (Shape style) text.now part
+        → IsErrAnd result (IsRangeOf part) }
+    ensures none { HasNoShape (Shape style) text.now → IsErrAnd result (λ e. ¬ (IsRange e)) }
+    ensures most { steps.new ≤ steps.old + (2 * length text.now + 4) }
+    ensures least { IfOk result (λ _. steps.old + length text.now ≤ steps.new) }
+{
+    read_style(style, text, steps)
+}
+
+/// The answer of the style's reader.
+#[inline(always)]
+fn read_style<L: Ledger>(
+    style: Style,
+    text: &Looked<'_>,
+    steps: &mut Steps<L>,
+) -> Result<Interval, ParseError>
+    requires { style ≢ Style.Verbose }
+    ensures ok { IfOk result (λ t. Denotes (Shape style) text.now t) }
+    ensures err { IfErr result
+        (λ e. Refuses (Shape style) (IsBadPlace style) (not_in style) text.now e) }
+    ensures most { steps.new ≤ steps.old + (2 * length text.now + 4) }
+    ensures least { IfOk result (λ _. steps.old + length text.now ≤ steps.new) }
+{
+    match style {
+        Style::Iso => read_iso(text, steps),
+        Style::Postgres => read_postgres(text, steps),
+        Style::Verbose => unreachable!(),
+        Style::Sql => read_sql(text, steps),
+    }
+}
+
+/// The same with a counter of its own.
+pub(crate) fn read_alone<L: Ledger>(
+    style: Style,
+    text: &Looked<'_>,
+    blank: Blank,
+) -> Result<Interval, ParseError>
+    requires name { blank.name ≡ L.name }
+    requires parts { blank.parts ≡ L.parts }
+    requires some { 0 < L.parts }
+    requires read { style ≢ Style.Verbose }
+    ensures ok { IfOk result (λ t. Denotes (Shape style) text.now t) }
+    ensures all { (t : Interval) → Denotes (Shape style) text.now t → result ≡ Ok t }
+    ensures err { IfErr result
+        (λ e. Refuses (Shape style) (IsBadPlace style) (not_in style) text.now e) }
+    ensures bad { (start end : ℕ) → IsBadPlace style text.now start end
+        → result ≡ Err (ParseError.BadUnit start end) }
+{
+    read_counted(style, text, &mut Steps::<L>::new(blank))
+}
