@@ -80,3 +80,19 @@ token_found text found empty front e f = front_token text (rw front at (some_are
 
 pub no_token_found : (text found : List ℕ) (empty : Bool) → found ≡ front_digits text → empty ≡ (length found == 0) → empty ≡ true → is_digits (first_token text) ≡ false
 no_token_found text found empty front e f = no_front_token text (rw front at (none_are (length found) empty e f))
+
+some_front : (t : Bool) (b : ℕ) (bs : List ℕ) → is_ascii_digit b ≡ t → t ≡ true → 0 < length (cond {A = List ℕ} t (b ∷ front_digits bs) [])
+some_front true b bs e h = omega arith
+some_front false b bs e h = absurd (cc)
+
+pub digits_first : (text : List ℕ) → is_digits text ≡ true → IsFrontToken text
+digits_first [] h = absurd (let no : false ≡ true = h in cc)
+digits_first (b ∷ bs) h = front_token (b ∷ bs) (some_front (is_ascii_digit b) b bs refl h)
+
+still_none : (m : Bool) (b : ℕ) (bs : List ℕ) → is_ascii_digit b ≡ false → is_digits (cond {A = List ℕ} m (b ∷ []) (b ∷ bs)) ≡ false
+still_none true b bs h = h
+still_none false b bs h = h
+
+pub no_digits_first : (text : List ℕ) → is_digits text ≡ false → is_digits (first_token text) ≡ false
+no_digits_first [] h = refl
+no_digits_first (b ∷ bs) h = rw h (still_none (is_mark b) b bs h)

@@ -22,9 +22,9 @@ use std::str::FromStr;
 /// | there | none | none | local date |
 /// | none | there | none | local time |
 ///
-/// What is read is one of these. The fields may hold any parts and numbers; the written text is exact
-/// for each. Date-times are ordered by date, then time, then offset, and a part that isn't there comes
-/// before each that is: that is no order of instants.
+/// What is read is one of these. The fields may hold any parts and numbers; the written text is
+/// exact for each. Date-times are ordered by date, then time, then offset, and a part that isn't
+/// there comes before each that is. That is no order of instants.
 #[derive(Clone, Copy, Debug, PartialEq, Eq, PartialOrd, Ord)]
 pub struct Datetime {
     /// The date, where there is one.
@@ -38,8 +38,8 @@ pub struct Datetime {
 impl Datetime {
     /// The written text, at most 43 bytes: `1979-05-27T07:32:00.5-07:00`. It takes no memory.
     ///
-    /// The parts that are there, with `T` between a date and a time. The text of a value that was read
-    /// is read back as that value.
+    /// The parts that are there, with `T` between a date and a time. The text of a value that was
+    /// read is read back as that value.
     pub fn text(&self) -> Short
         ensures bytes { result.bytes ≡ text_of self.now }
         ensures short { array_string_len result ≤ 43 }
@@ -51,8 +51,8 @@ impl Datetime {
 /// Reads the whole text: a date, a time, or both with `T`, `t` or a space between, and then perhaps
 /// `Z`, `z` or a signed offset.
 ///
-/// Of a fraction's digits the first nine are kept and the rest is cut. The error names the first check
-/// that fails: `1979-02-30` is `invalid date, expected day between 01 and 28`.
+/// Of a fraction's digits the first nine are kept and the rest is cut. The error names the first
+/// check that fails: `1979-02-30` is `invalid date, expected day between 01 and 28`.
 impl FromStr for Datetime {
     type Err = DatetimeParseError;
 

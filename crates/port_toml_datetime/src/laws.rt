@@ -1,5 +1,5 @@
-//! Laws of the grammar, the table, the written texts and the order, each for every value: functions that
-//! do nothing.
+//! Laws of the grammar, the table, the written texts and the order, each for every value: functions
+//! that do nothing.
 ghost use Rattle.std.specs.Prelude.{◌≡◌, ◌↔◌, ℕ, List, None, IsTrue};
 ghost use Rattle.std.specs.Ordering.{ordering_then};
 ghost use Rattle.port_toml_datetime.specs.Checks.{checks, first_failing};
@@ -24,7 +24,8 @@ pub fn checks_are_the_grammar()
 
 /// A text has one value at most.
 pub fn one_value()
-    ensures { (text : List ℕ) (a b : DatetimeValue) → IsDatetime text a → IsDatetime text b → a ≡ b }
+    ensures { (text : List ℕ) (a b : DatetimeValue)
+        → IsDatetime text a → IsDatetime text b → a ≡ b }
 {}
 
 /// What a text spells is well-formed: one of the four kinds, each part in its range.
@@ -42,7 +43,8 @@ pub fn equality_is_by_parts()
     ensures dates { (a b : DateValue) → IsTrue (⟦<Date as PartialEq>⟧.eq a b) ↔ (a ≡ b) }
     ensures times { (a b : TimeValue) → IsTrue (⟦<Time as PartialEq>⟧.eq a b) ↔ (a ≡ b) }
     ensures offsets { (a b : OffsetValue) → IsTrue (⟦<Offset as PartialEq>⟧.eq a b) ↔ (a ≡ b) }
-    ensures datetimes { (a b : DatetimeValue) → IsTrue (⟦<Datetime as PartialEq>⟧.eq a b) ↔ (a ≡ b) }
+    ensures datetimes { (a b : DatetimeValue)
+        → IsTrue (⟦<Datetime as PartialEq>⟧.eq a b) ↔ (a ≡ b) }
 {}
 
 /// Errors are equal exactly where they say the same.
@@ -59,5 +61,6 @@ pub fn order_is_by_parts()
     ensures offsets { (a b : OffsetValue) → ⟦<Offset as Ord>⟧.cmp a b ≡ offset_cmp a b }
     ensures datetimes { (a b : DatetimeValue) → ⟦<Datetime as Ord>⟧.cmp a b
         ≡ ordering_then (none_first date_cmp a.date b.date)
-        (ordering_then (none_first time_cmp a.time b.time) (none_first offset_cmp a.offset b.offset)) }
+        (ordering_then (none_first time_cmp a.time b.time)
+        (none_first offset_cmp a.offset b.offset)) }
 {}

@@ -1,8 +1,8 @@
 //! TOML date-times: offset date-times, local date-times, local dates and local times.
 //!
-//! [`Datetime`] reads and writes them as the TOML specification, version 1.1, defines them. A text that
-//! is none is refused with the part that is wrong and what was expected there, in words for the user
-//! of a configuration file.
+//! [`Datetime`] reads and writes them as the TOML specification, version 1.1, defines them. A text
+//! that is none is refused with the part that is wrong and what was expected there, in words for
+//! the user of a configuration file.
 #![tactic(auto)]
 
 mod date;

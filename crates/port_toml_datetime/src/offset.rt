@@ -15,7 +15,8 @@ pub enum Offset {
     Z,
     /// A signed offset, such as `-07:00`.
     Custom {
-        /// The minutes, negative for west of Greenwich: -1439 to 1439 where they were read. `-00:00` is 0.
+        /// The minutes, negative for west of Greenwich: -1439 to 1439 where they were read.
+        /// `-00:00` is 0.
         minutes: i16,
     },
 }

@@ -61,8 +61,10 @@ fn read_tail(date: Date, bytes: &[u8]) -> Result<Datetime, DatetimeParseError>
 fn read_local_time(hour: &[u8], bytes: &[u8]) -> Result<Datetime, DatetimeParseError>
     requires { AreDigits hour.now }
     ensures pass { IfOk result (λ r. first_failing (local_time_rows hour.now bytes.now) ≡ None) }
-    ensures value { IfOk result (λ r. r ≡ datetime_of None (Some (time_of hour.now bytes.now)) None) }
-    ensures err { IfErr result (λ e. first_failing (local_time_rows hour.now bytes.now) ≡ Some (fault_of e)) }
+    ensures value { IfOk result (λ r.
+        r ≡ datetime_of None (Some (time_of hour.now bytes.now)) None) }
+    ensures err { IfErr result (λ e.
+        first_failing (local_time_rows hour.now bytes.now) ≡ Some (fault_of e)) }
 {
     let (time, rest) = read_time(hour, bytes)?;
     end(rest)?;
@@ -78,8 +80,10 @@ fn read_local_time(hour: &[u8], bytes: &[u8]) -> Result<Datetime, DatetimeParseE
 fn read_dated(year: &[u8], bytes: &[u8]) -> Result<Datetime, DatetimeParseError>
     requires { AreDigits year.now }
     ensures pass { IfOk result (λ r. first_failing (dated_rows year.now bytes.now) ≡ None) }
-    ensures value { IfOk result (λ r. r ≡ tail_of (date_of year.now bytes.now) (after_date bytes.now)) }
-    ensures err { IfErr result (λ e. first_failing (dated_rows year.now bytes.now) ≡ Some (fault_of e)) }
+    ensures value { IfOk result (λ r.
+        r ≡ tail_of (date_of year.now bytes.now) (after_date bytes.now)) }
+    ensures err { IfErr result (λ e.
+        first_failing (dated_rows year.now bytes.now) ≡ Some (fault_of e)) }
 {
     let (date, rest) = read_date(year, bytes)?;
     read_tail(date, rest)

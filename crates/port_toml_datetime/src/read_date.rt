@@ -52,7 +52,8 @@ pub(crate) fn read_date<'a>(
     ensures pass { IfOk result (λ r. first_failing (date_rows year.now bytes.now) ≡ None) }
     ensures date { IfOk result (λ r. r.0 ≡ date_of year.now bytes.now) }
     ensures rest { IfOk result (λ r. r.1.now ≡ after_date bytes.now) }
-    ensures err { IfErr result (λ e. first_failing (date_rows year.now bytes.now) ≡ Some (fault_of e)) }
+    ensures err { IfErr result (λ e.
+        first_failing (date_rows year.now bytes.now) ≡ Some (fault_of e)) }
 {
     let (month, bytes) = read_field(bytes, Check::Month)?;
     let bytes = mark(b'-', bytes, Check::MonthMark)?;

@@ -22,7 +22,8 @@ fn with_sign(negative: bool, minutes: u16) -> i16
 fn read_numeric_offset(negative: bool, bytes: &[u8]) -> Result<Offset, DatetimeParseError>
     ensures pass { IfOk result (λ r. first_failing (numeric_offset_rows bytes.now) ≡ None) }
     ensures offset { IfOk result (λ r. r ≡ numeric_offset_of negative bytes.now) }
-    ensures err { IfErr result (λ e. first_failing (numeric_offset_rows bytes.now) ≡ Some (fault_of e)) }
+    ensures err { IfErr result (λ e.
+        first_failing (numeric_offset_rows bytes.now) ≡ Some (fault_of e)) }
 {
     let (hours, bytes) = read_field(bytes, Check::OffsetHour)?;
     let bytes = mark(b':', bytes, Check::OffsetHourMark)?;

@@ -9,8 +9,8 @@ ghost use Rattle.port_toml_datetime.specs.inside.Values.{time_of};
 
 use crate::Time;
 use crate::error::{Check, DatetimeParseError};
-use crate::numbers::{nanoseconds, two_digits};
-use crate::scan::{Field, check, digits, read_field};
+use crate::numbers::{split_nanoseconds, two_digits};
+use crate::scan::{Field, begins_with_digit, check, read_field};
 
 /// The field behind a `:`, where one follows, and what follows both.
 fn read_second(bytes: &[u8]) -> Result<(Option<Field>, &[u8]), DatetimeParseError>
@@ -21,7 +21,8 @@ fn read_second(bytes: &[u8]) -> Result<(Option<Field>, &[u8]), DatetimeParseErro
     ensures number { IfOk result (λ r. where_there (has_length 2) (marked (codes ":") bytes.now) ≡ true
         → option_map (λ f. f.number) r.0 ≡ option_map number_of (marked (codes ":") bytes.now)) }
     ensures rest { IfOk result (λ r. r.1.now ≡ after_marked (codes ":") bytes.now) }
-    ensures isnt { IfErr result (λ e. where_there is_digits (marked (codes ":") bytes.now) ≡ false) }
+    ensures isnt { IfErr result (λ e.
+        where_there is_digits (marked (codes ":") bytes.now) ≡ false) }
     ensures err { IfErr result (λ e. fault_of e ≡ words_of Check.Second) }
 {
     match bytes {
@@ -34,17 +35,21 @@ fn read_second(bytes: &[u8]) -> Result<(Option<Field>, &[u8]), DatetimeParseErro
 }
 
 /// The nanoseconds of the digits behind a `.`, where one follows a second, and what follows both.
+#[tactic(auto, using(crate::proofs::TokenFacts::digits_first, crate::proofs::TokenFacts::no_digits_first))]
 fn read_fraction(has_second: bool, bytes: &[u8]) -> Result<(Option<u32>, &[u8]), DatetimeParseError>
     ensures is { IfOk result (λ r. where_there is_digits (fraction has_second bytes.now) ≡ true) }
-    ensures value { IfOk result (λ r. r.0 ≡ option_map nanoseconds (fraction has_second bytes.now)) }
+    ensures value { IfOk result (λ r.
+        r.0 ≡ option_map nanoseconds (fraction has_second bytes.now)) }
     ensures rest { IfOk result (λ r. r.1.now ≡ after_fraction has_second bytes.now) }
-    ensures isnt { IfErr result (λ e. where_there is_digits (fraction has_second bytes.now) ≡ false) }
+    ensures isnt { IfErr result (λ e.
+        where_there is_digits (fraction has_second bytes.now) ≡ false) }
     ensures err { IfErr result (λ e. fault_of e ≡ words_of Check.Nanosecond) }
 {
     match bytes {
         [b'.', rest @ ..] if has_second => {
-            let (digits, rest) = digits(rest, Check::Nanosecond)?;
-            Ok((Some(nanoseconds(digits)), rest))
+            check(begins_with_digit(rest), Check::Nanosecond)?;
+            let (nanosecond, rest) = split_nanoseconds(rest);
+            Ok((Some(nanosecond), rest))
         }
         _ => Ok((None, bytes)),
     }
@@ -80,7 +85,7 @@ fn is_second(second: Option<u8>) -> bool
 
 /// A time, from behind the `:` that follows the hour.
 #[tactic(auto, unfolding(crate::specs::Checks::time_rows, crate::specs::Checks::after_time, crate::specs::inside::Values::time_of))]
-#[inline(always)]
+#[inline(always)] // else its two callers take the time out of memory
 pub(crate) fn read_time<'a>(
     hour: &[u8],
     bytes: &'a [u8],
@@ -89,7 +94,8 @@ pub(crate) fn read_time<'a>(
     ensures pass { IfOk result (λ r. first_failing (time_rows hour.now bytes.now) ≡ None) }
     ensures time { IfOk result (λ r. r.0 ≡ time_of hour.now bytes.now) }
     ensures rest { IfOk result (λ r. r.1.now ≡ after_time bytes.now) }
-    ensures err { IfErr result (λ e. first_failing (time_rows hour.now bytes.now) ≡ Some (fault_of e)) }
+    ensures err { IfErr result (λ e.
+        first_failing (time_rows hour.now bytes.now) ≡ Some (fault_of e)) }
 {
     let (minute, bytes) = read_field(bytes, Check::Minute)?;
     let (second, bytes) = read_second(bytes)?;

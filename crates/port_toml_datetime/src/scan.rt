@@ -1,4 +1,5 @@
-//! Tokens in front of bytes, each with the check that asks for it. All access to bytes goes through these.
+//! Tokens in front of bytes, each with the check that asks for it. Nearly all access to bytes goes
+//! through these.
 ghost use Rattle.std.specs.Prelude.{◌≡◌, true, false, [], ◌∷◌, IfOk, IfErr};
 ghost use Rattle.scan_core.specs.Digits.{AreDigits, number_of};
 ghost use Rattle.port_toml_datetime.specs.Faults.{fault_of, words_of};
@@ -52,7 +53,7 @@ fn field_of(digits: &[u8]) -> Field
     }
 }
 
-fn begins_with_digit(bytes: &[u8]) -> bool
+pub(crate) fn begins_with_digit(bytes: &[u8]) -> bool
     ensures { result ≡ is_digits bytes.now }
 {
     match bytes {

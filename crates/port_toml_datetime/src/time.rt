@@ -8,9 +8,9 @@ use std::fmt::Display;
 
 /// A time of day, without any relation to a day, an offset or a zone.
 ///
-/// What is read has a second wherever it has nanoseconds. The fields may hold any number; the written
-/// text is exact for each. Times are ordered by hour, then minute, then second, then nanosecond, and a
-/// part that isn't there comes before each that is.
+/// What is read has a second wherever it has nanoseconds. The fields may hold any number; the
+/// written text is exact for each. Times are ordered by hour, then minute, then second, then
+/// nanosecond, and a part that isn't there comes before each that is.
 #[derive(Clone, Copy, Debug, PartialEq, Eq, PartialOrd, Ord)]
 pub struct Time {
     /// The hour: 0 to 23 where it was read.
@@ -26,7 +26,8 @@ pub struct Time {
 /// `HH:MM`, then `:SS` where a second or a nanosecond is there, then `.` and the fraction where a
 /// nanosecond is: `07:32`, `07:32:00`, `07:32:00.5`, `07:32:00.0` for a nanosecond of 0.
 ///
-/// A nanosecond without a second stands behind `:00`. A number that has more digits is written whole.
+/// A nanosecond without a second stands behind `:00`. A number that has more digits is written
+/// whole.
 impl Display for Time {
     ghost output = { λ time. Some (time_text time) };
 
