@@ -1,20 +1,23 @@
 -- The forms, a row each: what reading a text answers, and what writing a value does.
 use Rattle.std.specs.Prelude.{ℕ, List, decimal, Result}
 use Rattle.fancy_duration.specs.Written.{written as short_text}
+use Rattle.port_toml_datetime.specs.Texts.{text_of}
 use Rattle.pg_interval_2.specs.Styles.{Shape, written}
 use Rattle.pg_interval_2.specs.declared.style.Style.TheVariants as style
 use Rattle.forms.specs.declared.cause.Cause.{Cause}
 use Rattle.forms.specs.declared.form.Form.{Form}
-use Rattle.forms.specs.declared.form.Form.TheVariants.{FileTime, Fancy, PgIso, Postgres, PgSql}
+use Rattle.forms.specs.declared.form.Form.TheVariants.{FileTime, Toml, Fancy, PgIso, Postgres, PgSql}
 use Rattle.forms.specs.declared.value.Value.{Value}
 use Rattle.forms.specs.Answers.{Is, ReadsBy, WritesBy}
 use Rattle.forms.specs.form.FileTime as file_time
+use Rattle.forms.specs.form.Toml as toml
 use Rattle.forms.specs.form.Fancy as fancy
 use Rattle.forms.specs.form.Intervals as interval
 
 -- what a text stands for in the form: a value, or the cause why it is none
 abbrev pub Reads : Form → List ℕ → Result Value Cause → Type 0
 Reads FileTime = ReadsBy file_time.Spells (Is file_time.worth)
+Reads Toml = ReadsBy toml.Spells (Is toml.worth)
 Reads Fancy = ReadsBy fancy.Spells (Is fancy.worth)
 Reads PgIso = ReadsBy (Shape style.Iso) (Is interval.worth)
 Reads Postgres = ReadsBy (Shape style.Postgres) (Is interval.worth)
@@ -23,6 +26,7 @@ Reads PgSql = ReadsBy (Shape style.Sql) (Is interval.worth)
 -- the written text of a value in the form, or the cause why there is none
 abbrev pub Writes : Form → Value → Result (List ℕ) Cause → Type 0
 Writes FileTime = WritesBy (Is file_time.held) decimal
+Writes Toml = WritesBy toml.Holds text_of
 Writes Fancy = WritesBy (Is fancy.held) short_text
 Writes PgIso = WritesBy (Is interval.held) (written style.Iso)
 Writes Postgres = WritesBy (Is interval.held) (written style.Postgres)

@@ -1,3 +1,4 @@
 pub mod FileTime
+pub mod Toml
 pub mod Fancy
 pub mod Intervals

@@ -6,12 +6,15 @@ ghost use Rattle.forms.specs.declared.form.Form.{Form as AnyForm};
 pub mod fancy;
 pub mod file_time;
 pub mod intervals;
+pub mod toml;
 
 /// A written form of moments, days, times of day, intervals or lengths.
 #[derive(Clone, Copy, Debug, PartialEq, Eq)]
 pub enum Form {
     /// Windows file times, the ticks of 100 nanoseconds since 1601: `116444736000000000`.
     FileTime,
+    /// Date-times of TOML: `1979-05-27T07:32:00Z`, `1979-05-27T07:32:00`, `1979-05-27` and `07:32:00`.
+    Toml,
     /// Short durations, as configuration files have them: `1h 20m 30s`.
     Fancy,
     /// PostgreSQL's intervals in style `iso_8601`: `P1Y2M3DT4H5M6S`.
@@ -29,6 +32,7 @@ impl Form {
     {
         match name {
             "FileTime" => Some(Form::FileTime),
+            "Toml" => Some(Form::Toml),
             "Fancy" => Some(Form::Fancy),
             "PgIso" => Some(Form::PgIso),
             "Postgres" => Some(Form::Postgres),
@@ -43,6 +47,7 @@ impl Form {
     {
         match self {
             Form::FileTime => "FileTime",
+            Form::Toml => "Toml",
             Form::Fancy => "Fancy",
             Form::PgIso => "PgIso",
             Form::Postgres => "Postgres",

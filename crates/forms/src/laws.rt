@@ -15,13 +15,14 @@ ghost use Rattle.forms.specs.Values.{IsWithinBounds};
 ghost use Rattle.forms.specs.inside.Lawful.{Lawful};
 
 use crate::answer::line_reply;
-use crate::form::{fancy, file_time, intervals};
+use crate::form::{fancy, file_time, intervals, toml};
 
 /// Each form is lawful.
 pub(crate) fn all_lawful()
     ensures { (form : AnyForm) → Lawful form }
 {
     file_time::lawful();
+    toml::lawful();
     fancy::lawful();
     intervals::lawful();
 }

@@ -8,7 +8,7 @@ ghost use Rattle.forms.specs.Forms.{Reads, Writes};
 ghost use Rattle.forms.specs.Values.{IsWithinBounds};
 
 use crate::cause::Cause;
-use crate::form::{Form, fancy, file_time, intervals};
+use crate::form::{Form, fancy, file_time, intervals, toml};
 use crate::laws::all_lawful;
 use pg_interval_2::{Short, Style};
 
@@ -62,6 +62,7 @@ fn read(form: Form, text: &str) -> Result<Value, Cause>
 {
     match form {
         Form::FileTime => file_time::read(text),
+        Form::Toml => toml::read(text),
         Form::Fancy => fancy::read(text),
         Form::PgIso => intervals::read(Style::Iso, text),
         Form::Postgres => intervals::read(Style::Postgres, text),
@@ -77,6 +78,7 @@ fn write(form: Form, value: Value) -> Result<Short, Cause>
 {
     match form {
         Form::FileTime => file_time::write(value),
+        Form::Toml => toml::write(value),
         Form::Fancy => fancy::write(value),
         Form::PgIso => intervals::write(Style::Iso, value),
         Form::Postgres => intervals::write(Style::Postgres, value),

@@ -1,0 +1,88 @@
+-- Date-times of TOML 1.1: a date-time with an offset is a moment, one without is local, and a date or a time may stand alone.
+use Rattle.std.specs.Prelude.{◌≡◌, ◌⊎◌, ℕ, ◌+◌, ◌*◌, ◌/◌, ◌%◌, ◌==◌, List, ℤ, pos, ◌+ℤ◌, ◌-ℤ◌, ◌*ℤ◌, unsigned_abs, Option, Some, None, unwrap_or, Result, Ok, Err, if◌then◌else◌}
+use Rattle.std.specs.Int.{int_div_euclid, int_rem_euclid}
+use Rattle.jiff_core.specs.Calendar.{days_from_civil}
+use Rattle.port_toml_datetime.specs.Datetimes.{IsDatetime, datetime_of}
+use Rattle.port_toml_datetime.specs.WellFormed.{IsRealDay}
+use Rattle.port_toml_datetime.specs.declared.date.Date.{Date}
+use Rattle.port_toml_datetime.specs.declared.time.Time.{Time}
+use Rattle.port_toml_datetime.specs.declared.offset.Offset.{Offset}
+use Rattle.port_toml_datetime.specs.declared.offset.Offset.TheVariants.{Z, Custom}
+use Rattle.port_toml_datetime.specs.declared.datetime.Datetime.{Datetime}
+use Rattle.forms.specs.declared.cause.Cause.{Cause}
+use Rattle.forms.specs.declared.cause.Cause.TheVariants.{Syntax, NoSuchMoment, Range, Kind}
+use Rattle.forms.specs.declared.value.Value.{Value}
+use Rattle.forms.specs.declared.value.Value.TheVariants.{Instant, Day, Local, Clock}
+use Rattle.forms.specs.Answers.{result_map}
+
+abbrev pub Spells : List ℕ → Datetime → Type 0
+Spells = IsDatetime
+
+-- ---- reading
+
+-- the number of a date's day
+abbrev pub day_of : Date → ℤ
+day_of d = days_from_civil (pos d.year) d.month d.day
+
+-- nanoseconds since midnight, where seconds and nanoseconds that aren't written are 0
+abbrev pub clock_of : Time → ℕ
+clock_of t = ((t.hour * 60 + t.minute) * 60 + unwrap_or t.second 0) * 1_000_000_000 + unwrap_or t.nanosecond 0
+
+-- the same, unless it is a leap second, which POSIX counts nowhere
+unfoldable pub clock : Time → Result ℤ Cause
+clock t = if (unwrap_or t.second 0 == 60) then Err NoSuchMoment else Ok (pos (clock_of t))
+
+-- how many minutes ahead of UTC
+abbrev pub minutes_of : Offset → ℤ
+minutes_of Z = pos 0
+minutes_of (Custom minutes) = minutes
+
+-- the moment, or the local date-time, so many nanoseconds into a day
+abbrev pub moment_of : ℤ → Option Offset → ℤ → Value
+moment_of day (Some offset) nanos = Instant ((day *ℤ pos 86_400_000_000_000 +ℤ nanos) -ℤ minutes_of offset *ℤ pos 60_000_000_000)
+moment_of day None nanos = Local day nanos
+
+-- the value of a day, and of a time of it where there is one
+abbrev pub dated_worth : ℤ → Option Time → Option Offset → Result Value Cause
+dated_worth day (Some time) offset = result_map (moment_of day offset) (clock time)
+dated_worth day None offset = Ok (Day day)
+
+-- the value of the parts that are there; no text has neither a date nor a time
+abbrev pub worth_of : Option Date → Option Time → Option Offset → Result Value Cause
+worth_of (Some date) time offset = dated_worth (day_of date) time offset
+worth_of None (Some time) offset = result_map Clock (clock time)
+worth_of None None offset = Err Syntax
+
+abbrev pub worth : Datetime → Result Value Cause
+worth d = worth_of d.date d.time d.offset
+
+-- ---- writing
+
+-- the nanoseconds of a second, where they aren't 0
+unfoldable pub fraction_of : ℕ → Option ℕ
+fraction_of nanos = if (nanos % 1_000_000_000 == 0) then None else Some (nanos % 1_000_000_000)
+
+-- the time so many nanoseconds after midnight, with seconds, and with a fraction where it isn't 0
+abbrev pub time_of : ℕ → Time
+time_of nanos = record {
+      hour = nanos / 3_600_000_000_000;
+      minute = nanos / 60_000_000_000 % 60;
+      second = Some (nanos / 1_000_000_000 % 60);
+      nanosecond = fraction_of nanos;
+    }
+
+-- the date with this day, or `Range` where no date of the years 0 to 9999 has it
+abbrev pub HoldsDay : ℤ → Result Date Cause → Type 0
+HoldsDay day held = ((date : Date) × IsRealDay date × (day_of date ≡ day) × (held ≡ Ok date)) ⊎ (((date : Date) → IsRealDay date → day_of date ≡ day → ⊥) × (held ≡ Err Range))
+
+-- that date with a time or without, and an offset or none
+abbrev pub HoldsDated : ℤ → Option Time → Option Offset → Result Datetime Cause → Type 0
+HoldsDated day time offset held = (date : Result Date Cause) × HoldsDay day date × (held ≡ result_map (λ d. datetime_of (Some d) time offset) date)
+
+-- a moment is written in UTC
+abbrev pub Holds : Value → Result Datetime Cause → Type 0
+Holds (Instant nanos) = HoldsDated (int_div_euclid nanos (pos 86_400_000_000_000)) (Some (time_of (unsigned_abs (int_rem_euclid nanos (pos 86_400_000_000_000))))) (Some Z)
+Holds (Day day) = HoldsDated day None None
+Holds (Local day nanos) = HoldsDated day (Some (time_of (unsigned_abs nanos))) None
+Holds (Clock nanos) = λ held. held ≡ Ok (datetime_of None (Some (time_of (unsigned_abs nanos))) None)
+Holds _ = λ held. held ≡ Err Kind
