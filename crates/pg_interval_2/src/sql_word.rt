@@ -1,13 +1,13 @@
 //! The words of texts in `sql_standard` style, at the front of a scan: `+1-2`, `-3` and `+4:05:06`.
-ghost use Rattle.std.specs.Prelude.{◌≡◌, ◌+◌, ◌≤◌, true, None, Some, IfSome, IfNone, length};
+ghost use Rattle.std.specs.Prelude.{◌≡◌, ◌+◌, ◌≤◌, None, Some, IfSome, IfNone, length};
 ghost use Rattle.scan_core.specs.Runs.{IsRun, digits_of};
 ghost use Rattle.scan_core.specs.Scanning.{ahead, unseen};
-ghost use Rattle.pg_interval_2.specs.inside.ItemReading.{after_blanks, ends_word};
 ghost use Rattle.pg_interval_2.specs.inside.SqlReading.{closed_word, read_behind, read_field, read_months, read_seconds, read_sign_or, read_time, read_word};
 ghost use Rattle.pg_interval_2.specs.inside.SqlViews.{AreRuns, AreSecondRuns, seen_seconds, seen_word};
 
 use crate::number::fraction;
-use scan_core::{Run, Scan, Steps, is_blank};
+use crate::words::ends_word;
+use scan_core::{Run, Scan, Steps};
 use std::sync::ledger::Ledger;
 
 /// Years and months that a scan has passed.
@@ -83,10 +83,7 @@ fn field<L: Ledger>(scan: &mut Scan<'_>, steps: &mut Steps<L>) -> Option<Run>
     ensures ticks { steps.new + unseen (ahead scan.new) ≡ steps.old + unseen (ahead scan.old) }
 {
     let run = scan.digits(steps);
-    if run.start == run.end {
-        return None;
-    }
-    Some(run)
+    if run.is_empty() { None } else { Some(run) }
 }
 
 /// The seconds behind their colon, which are passed; None exactly where they aren't there.
@@ -200,25 +197,6 @@ fn word_behind_digits<L: Ledger>(
     }
 }
 
-/// Whether a word ends here; the blanks behind it are passed then.
-#[inline(always)]
-fn ends_word<L: Ledger>(scan: &mut Scan<'_>, steps: &mut Steps<L>) -> bool
-    ensures ends { result ≡ ends_word (ahead scan.old) }
-    ensures rest { result ≡ true → ahead scan.new ≡ after_blanks (ahead scan.old) }
-    ensures same { scan.new.text ≡ scan.old.text }
-    ensures onward { length (ahead scan.new) ≤ length (ahead scan.old) }
-    ensures ticks { steps.new + unseen (ahead scan.new) ≡ steps.old + unseen (ahead scan.old) }
-{
-    match scan.peek() {
-        None => true,
-        Some(byte) if is_blank(byte) => {
-            scan.blanks(steps);
-            true
-        }
-        Some(_) => false,
-    }
-}
-
 /// The word in front, which is passed with the blanks behind it; None exactly where none is there. Without a sign it is
 /// negative where the default is.
 #[inline(always)]
@@ -239,8 +217,9 @@ pub(crate) fn next_word<L: Ledger>(
     let negative = sign_or(default, scan, steps);
     let digits = field(scan, steps)?;
     let word = word_behind_digits(negative, digits, scan, steps)?;
-    if !ends_word(scan, steps) {
+    if !ends_word(scan) {
         return None;
     }
+    scan.blanks(steps);
     Some(word)
 }
