@@ -1,12 +1,12 @@
 -- A name is one form's.
 use Rattle.std.proofs.Common.{◌≡◌, ◌==◌, ◌&&◌, ℕ, Bool, true, false, cond, List, [], ◌∷◌, Option, Some, None, refl, sym, ◌∙◌, ap}
 use Rattle.forms.specs.declared.form.Form.{Form}
-use Rattle.forms.specs.declared.form.Form.TheVariants.{FileTime, Toml, Fancy, PgIso, Postgres, PgSql}
+use Rattle.forms.specs.declared.form.Form.TheVariants.{FileTime, IsoDateTime, IsoDate, IsoDuration, Toml, Fancy, PgIso, Postgres, PgSql}
 use Rattle.forms.specs.Names.{name_of}
 
 -- all forms
 abbrev forms : List Form
-forms = FileTime ∷ Toml ∷ Fancy ∷ PgIso ∷ Postgres ∷ PgSql ∷ []
+forms = FileTime ∷ IsoDateTime ∷ IsoDate ∷ IsoDuration ∷ Toml ∷ Fancy ∷ PgIso ∷ Postgres ∷ PgSql ∷ []
 
 abbrev same_bytes : List ℕ → List ℕ → Bool
 same_bytes [] [] = true
@@ -21,6 +21,9 @@ form_named name (form ∷ more) = cond (same_bytes name (name_of form)) (Some fo
 
 finds_form : (form : Form) → form_named (name_of form) forms ≡ Some form
 finds_form FileTime = refl
+finds_form IsoDateTime = refl
+finds_form IsoDate = refl
+finds_form IsoDuration = refl
 finds_form Toml = refl
 finds_form Fancy = refl
 finds_form PgIso = refl

@@ -3,7 +3,7 @@ use Rattle.std.proofs.Common.{◌≡◌, ◌≢◌, ℕ, suc, ◌<◌, ◌==◌,
 use Rattle.std.specs.Prelude.{unwrap_or}
 use Rattle.std.proofs.lemmas.Bool.Decides.{nat_tests}
 use Rattle.forms.specs.declared.form.Form.{Form}
-use Rattle.forms.specs.declared.form.Form.TheVariants.{FileTime, Toml, Fancy, PgIso, Postgres, PgSql}
+use Rattle.forms.specs.declared.form.Form.TheVariants.{FileTime, IsoDateTime, IsoDate, IsoDuration, Toml, Fancy, PgIso, Postgres, PgSql}
 use Rattle.forms.specs.Names.{name_of}
 use Rattle.forms.specs.Replies.{IsTail}
 use Rattle.forms.specs.Reading.{NoSpace, behind, IsNamed}
@@ -34,6 +34,9 @@ no_space_tested (byte ∷ bytes) h = let both = no_space_if (byte == 32) bytes h
 -- no form's name has a space
 spaceless : (form : Form) → has_no_space (name_of form) ≡ true
 spaceless FileTime = refl
+spaceless IsoDateTime = refl
+spaceless IsoDate = refl
+spaceless IsoDuration = refl
 spaceless Toml = refl
 spaceless Fancy = refl
 spaceless PgIso = refl

@@ -3,7 +3,7 @@
 use Rattle.std.specs.Prelude.{◌≡◌, ◌⊎◌, ℕ, List, Result, Ok, Err}
 use Rattle.arrayvec.specs.ArrayString.{ArrayString}
 use Rattle.forms.specs.declared.cause.Cause.{Cause}
-use Rattle.forms.specs.declared.cause.Cause.TheVariants.{Syntax}
+use Rattle.forms.specs.declared.cause.Cause.TheVariants.{Syntax, NoSuchMoment, Range}
 use Rattle.forms.specs.declared.value.Value.{Value}
 
 -- a result, or the cause why there is none, of a function
@@ -13,6 +13,10 @@ Is function x y = y ≡ function x
 -- the text spells something, and the answer is what that is worth; or it spells nothing, and the answer is `Syntax`
 abbrev pub ReadsBy : {X : Type 0} → (List ℕ → X → Type 0) → (X → Result Value Cause → Type 0) → List ℕ → Result Value Cause → Type 0
 ReadsBy {X} Spells Worth text answer = ((x : X) × Spells text x × Worth x answer) ⊎ (((x : X) → Spells text x → ⊥) × (answer ≡ Err Syntax))
+
+-- what is real and in range has this value; what isn't real is `NoSuchMoment`, and what is real and out of range is `Range`
+abbrev pub Judged : Type 0 → Type 0 → Value → Result Value Cause → Type 0
+Judged Real InRange value answer = (Real × InRange × (answer ≡ Ok value)) ⊎ (((Real → ⊥) × (answer ≡ Err NoSuchMoment)) ⊎ (Real × (InRange → ⊥) × (answer ≡ Err Range)))
 
 -- what is made of a result, or its cause
 abbrev pub result_map : {X Y : Type 0} → (X → Y) → Result X Cause → Result Y Cause

@@ -1,15 +1,20 @@
 -- The forms, a row each: what reading a text answers, and what writing a value does.
 use Rattle.std.specs.Prelude.{ℕ, List, decimal, Result}
 use Rattle.fancy_duration.specs.Written.{written as short_text}
+use Rattle.iso8601.specs.Written.{date_text, date_time_text}
+use Rattle.iso8601.specs.WrittenDurations.{duration_text}
 use Rattle.port_toml_datetime.specs.Texts.{text_of}
 use Rattle.pg_interval_2.specs.Styles.{Shape, written}
 use Rattle.pg_interval_2.specs.declared.style.Style.TheVariants as style
 use Rattle.forms.specs.declared.cause.Cause.{Cause}
 use Rattle.forms.specs.declared.form.Form.{Form}
-use Rattle.forms.specs.declared.form.Form.TheVariants.{FileTime, Toml, Fancy, PgIso, Postgres, PgSql}
+use Rattle.forms.specs.declared.form.Form.TheVariants.{FileTime, IsoDateTime, IsoDate, IsoDuration, Toml, Fancy, PgIso, Postgres, PgSql}
 use Rattle.forms.specs.declared.value.Value.{Value}
 use Rattle.forms.specs.Answers.{Is, ReadsBy, WritesBy}
 use Rattle.forms.specs.form.FileTime as file_time
+use Rattle.forms.specs.form.IsoDateTime as iso_date_time
+use Rattle.forms.specs.form.IsoDate as iso_date
+use Rattle.forms.specs.form.IsoDuration as iso_duration
 use Rattle.forms.specs.form.Toml as toml
 use Rattle.forms.specs.form.Fancy as fancy
 use Rattle.forms.specs.form.Intervals as interval
@@ -17,6 +22,9 @@ use Rattle.forms.specs.form.Intervals as interval
 -- what a text stands for in the form: a value, or the cause why it is none
 abbrev pub Reads : Form → List ℕ → Result Value Cause → Type 0
 Reads FileTime = ReadsBy file_time.Spells (Is file_time.worth)
+Reads IsoDateTime = ReadsBy iso_date_time.Spells iso_date_time.Worth
+Reads IsoDate = ReadsBy iso_date.Spells iso_date.Worth
+Reads IsoDuration = ReadsBy iso_duration.Spells (Is iso_duration.worth)
 Reads Toml = ReadsBy toml.Spells (Is toml.worth)
 Reads Fancy = ReadsBy fancy.Spells (Is fancy.worth)
 Reads PgIso = ReadsBy (Shape style.Iso) (Is interval.worth)
@@ -26,6 +34,9 @@ Reads PgSql = ReadsBy (Shape style.Sql) (Is interval.worth)
 -- the written text of a value in the form, or the cause why there is none
 abbrev pub Writes : Form → Value → Result (List ℕ) Cause → Type 0
 Writes FileTime = WritesBy (Is file_time.held) decimal
+Writes IsoDateTime = WritesBy iso_date_time.Holds date_time_text
+Writes IsoDate = WritesBy iso_date.Holds date_text
+Writes IsoDuration = WritesBy (Is iso_duration.held) duration_text
 Writes Toml = WritesBy toml.Holds text_of
 Writes Fancy = WritesBy (Is fancy.held) short_text
 Writes PgIso = WritesBy (Is interval.held) (written style.Iso)

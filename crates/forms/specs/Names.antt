@@ -3,13 +3,16 @@ use Rattle.std.specs.Prelude.{ℕ, List, codes, Option, Some, None}
 use Rattle.pg_interval_2.specs.declared.style.Style.{Style}
 use Rattle.pg_interval_2.specs.declared.style.Style.TheVariants as style
 use Rattle.forms.specs.declared.form.Form.{Form}
-use Rattle.forms.specs.declared.form.Form.TheVariants.{FileTime, Toml, Fancy, PgIso, Postgres, PgSql}
+use Rattle.forms.specs.declared.form.Form.TheVariants.{FileTime, IsoDateTime, IsoDate, IsoDuration, Toml, Fancy, PgIso, Postgres, PgSql}
 use Rattle.forms.specs.declared.cause.Cause.{Cause}
 use Rattle.forms.specs.declared.cause.Cause.TheVariants.{Syntax, NoSuchMoment, Range, Kind, Precision, Ambiguous}
 
 -- a form's name
 abbrev pub name_of : Form → List ℕ
 name_of FileTime = codes "FileTime"
+name_of IsoDateTime = codes "IsoDateTime"
+name_of IsoDate = codes "IsoDate"
+name_of IsoDuration = codes "IsoDuration"
 name_of Toml = codes "Toml"
 name_of Fancy = codes "Fancy"
 name_of PgIso = codes "PgIso"

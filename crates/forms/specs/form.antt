@@ -1,4 +1,7 @@
 pub mod FileTime
+pub mod IsoDate
+pub mod IsoDateTime
+pub mod IsoDuration
 pub mod Toml
 pub mod Fancy
 pub mod Intervals

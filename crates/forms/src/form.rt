@@ -6,6 +6,9 @@ ghost use Rattle.forms.specs.declared.form.Form.{Form as AnyForm};
 pub mod fancy;
 pub mod file_time;
 pub mod intervals;
+pub mod iso_date;
+pub mod iso_date_time;
+pub mod iso_duration;
 pub mod toml;
 
 /// A written form of moments, days, times of day, intervals or lengths.
@@ -13,6 +16,12 @@ pub mod toml;
 pub enum Form {
     /// Windows file times, the ticks of 100 nanoseconds since 1601: `116444736000000000`.
     FileTime,
+    /// Date-times of ISO 8601: `2015-06-26T16:43:23+02:00`. One without an offset is in UTC.
+    IsoDateTime,
+    /// Dates of ISO 8601: `2015-06-26`, `2015-W26-5` and `2015-177`.
+    IsoDate,
+    /// Durations of ISO 8601: `P1Y2M3DT4H5M6.007S` and `P5W`.
+    IsoDuration,
     /// Date-times of TOML: `1979-05-27T07:32:00Z`, `1979-05-27T07:32:00`, `1979-05-27` and `07:32:00`.
     Toml,
     /// Short durations, as configuration files have them: `1h 20m 30s`.
@@ -32,6 +41,9 @@ impl Form {
     {
         match name {
             "FileTime" => Some(Form::FileTime),
+            "IsoDateTime" => Some(Form::IsoDateTime),
+            "IsoDate" => Some(Form::IsoDate),
+            "IsoDuration" => Some(Form::IsoDuration),
             "Toml" => Some(Form::Toml),
             "Fancy" => Some(Form::Fancy),
             "PgIso" => Some(Form::PgIso),
@@ -47,6 +59,9 @@ impl Form {
     {
         match self {
             Form::FileTime => "FileTime",
+            Form::IsoDateTime => "IsoDateTime",
+            Form::IsoDate => "IsoDate",
+            Form::IsoDuration => "IsoDuration",
             Form::Toml => "Toml",
             Form::Fancy => "Fancy",
             Form::PgIso => "PgIso",

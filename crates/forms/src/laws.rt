@@ -15,13 +15,16 @@ ghost use Rattle.forms.specs.Values.{IsWithinBounds};
 ghost use Rattle.forms.specs.inside.Lawful.{Lawful};
 
 use crate::answer::line_reply;
-use crate::form::{fancy, file_time, intervals, toml};
+use crate::form::{fancy, file_time, intervals, iso_date, iso_date_time, iso_duration, toml};
 
 /// Each form is lawful.
 pub(crate) fn all_lawful()
     ensures { (form : AnyForm) → Lawful form }
 {
     file_time::lawful();
+    iso_date_time::lawful();
+    iso_date::lawful();
+    iso_duration::lawful();
     toml::lawful();
     fancy::lawful();
     intervals::lawful();

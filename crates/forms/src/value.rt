@@ -8,7 +8,7 @@ ghost use Rattle.forms.specs.Forms.{Reads, Writes};
 ghost use Rattle.forms.specs.Values.{IsWithinBounds};
 
 use crate::cause::Cause;
-use crate::form::{Form, fancy, file_time, intervals, toml};
+use crate::form::{Form, fancy, file_time, intervals, iso_date, iso_date_time, iso_duration, toml};
 use crate::laws::all_lawful;
 use pg_interval_2::{Short, Style};
 
@@ -62,6 +62,9 @@ fn read(form: Form, text: &str) -> Result<Value, Cause>
 {
     match form {
         Form::FileTime => file_time::read(text),
+        Form::IsoDateTime => iso_date_time::read(text),
+        Form::IsoDate => iso_date::read(text),
+        Form::IsoDuration => iso_duration::read(text),
         Form::Toml => toml::read(text),
         Form::Fancy => fancy::read(text),
         Form::PgIso => intervals::read(Style::Iso, text),
@@ -78,6 +81,9 @@ fn write(form: Form, value: Value) -> Result<Short, Cause>
 {
     match form {
         Form::FileTime => file_time::write(value),
+        Form::IsoDateTime => iso_date_time::write(value),
+        Form::IsoDate => iso_date::write(value),
+        Form::IsoDuration => iso_duration::write(value),
         Form::Toml => toml::write(value),
         Form::Fancy => fancy::write(value),
         Form::PgIso => intervals::write(Style::Iso, value),

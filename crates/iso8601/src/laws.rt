@@ -1,6 +1,8 @@
 //! Laws of dates, times, date-times and durations, each for every value: functions that do nothing.
 ghost use Rattle.std.specs.Prelude.{◌≡◌, ℕ, List, [], ℤ, pos, neg_ℤ, ◌+ℤ◌, ◌≤ℤ◌, ◌↔◌};
-ghost use Rattle.iso8601.specs.Calendar.{IsCivilDay, after_monday, days_in_year, new_year, week_one};
+ghost use Rattle.jiff_core.specs.Date.{epoch_day};
+ghost use Rattle.jiff_core.specs.declared.civil.date.Date.{Date as CivilDate};
+ghost use Rattle.iso8601.specs.Calendar.{IsCivilDay, after_monday, day_of, days_in_year, Exists, new_year, week_one};
 ghost use Rattle.iso8601.specs.Dates.{IsDate};
 ghost use Rattle.iso8601.specs.DateTimes.{IsDateTime};
 ghost use Rattle.iso8601.specs.Durations.{IsDuration};
@@ -10,6 +12,7 @@ ghost use Rattle.iso8601.specs.Times.{IsTime};
 ghost use Rattle.iso8601.specs.Written.{date_text, date_time_text, time_text};
 ghost use Rattle.iso8601.specs.WrittenDurations.{duration_text};
 ghost use Rattle.iso8601.specs.declared.types.Date.{Date};
+ghost use Rattle.iso8601.specs.declared.types.Date.TheVariants.{YMD};
 ghost use Rattle.iso8601.specs.declared.types.DateTime.{DateTime};
 ghost use Rattle.iso8601.specs.declared.types.Duration.{Duration};
 ghost use Rattle.iso8601.specs.declared.types.Time.{Time};
@@ -56,4 +59,10 @@ pub fn years_and_weeks_follow_each_other()
         × (week_one year ≤ℤ (new_year year +ℤ pos 3)) }
     ensures civil { (day : ℤ) → IsCivilDay day
         ↔ ((neg_ℤ (pos 4_371_587) ≤ℤ day) × (day ≤ℤ pos 2_932_896)) }
+{}
+
+/// Each civil date of `jiff` exists as a calendar date, and its day has the number that `jiff` gives it.
+pub fn civil_dates_are_calendar_dates()
+    ensures exists { (d : CivilDate) → Exists (YMD d.year d.month d.day) }
+    ensures day { (d : CivilDate) → day_of (YMD d.year d.month d.day) ≡ epoch_day d }
 {}

@@ -1,0 +1,29 @@
+-- Dates of ISO 8601: a day of the years -9999 to 9999, by month, by week or by its number in the year.
+use Rattle.std.specs.Prelude.{◌≡◌, ℕ, List, Result, Ok, Err}
+use Rattle.jiff_core.specs.Date.{epoch_day}
+use Rattle.jiff_core.specs.declared.civil.date.Date.{Date as CivilDate}
+use Rattle.iso8601.specs.Calendar.{day_of, Exists, IsCivilDay}
+use Rattle.iso8601.specs.Dates.{IsDate}
+use Rattle.iso8601.specs.declared.types.Date.{Date}
+use Rattle.iso8601.specs.declared.types.Date.TheVariants.{YMD}
+use Rattle.forms.specs.declared.cause.Cause.{Cause}
+use Rattle.forms.specs.declared.cause.Cause.TheVariants.{Kind}
+use Rattle.forms.specs.declared.value.Value.{Value}
+use Rattle.forms.specs.declared.value.Value.TheVariants.{Day}
+use Rattle.forms.specs.Answers.{Judged}
+
+abbrev pub Spells : List ℕ → Date → Type 0
+Spells = IsDate
+
+-- the day of a date, where there is such a day
+abbrev pub Worth : Date → Result Value Cause → Type 0
+Worth date = Judged (Exists date) (IsCivilDay (day_of date)) (Day (day_of date))
+
+-- by year, month and day
+abbrev pub date_of : CivilDate → Date
+date_of d = YMD d.year d.month d.day
+
+-- the civil date with this day
+abbrev pub Holds : Value → Result Date Cause → Type 0
+Holds (Day day) held = (d : CivilDate) × (epoch_day d ≡ day) × (held ≡ Ok (date_of d))
+Holds _ held = held ≡ Err Kind

@@ -1,0 +1,167 @@
+//! Date-times of ISO 8601 as a form.
+ghost use Rattle.std.specs.Prelude.{◌≡◌, ◌↔◌, ◌<◌, ◌≤◌, pos, ◌-ℤ◌, ◌*ℤ◌, length, unsigned_abs, IsTrue, IfOk};
+ghost use Rattle.arrayvec.specs.ArrayString.{array_string_len};
+ghost use Rattle.jiff_core.specs.DateTime.{civil_nanos};
+ghost use Rattle.iso8601.specs.Moments.{offset_of};
+ghost use Rattle.iso8601.specs.Written.{date_time_text};
+ghost use Rattle.forms.specs.declared.form.Form.{Form as AnyForm};
+ghost use Rattle.forms.specs.declared.value.Value.{Value as AnyValue};
+ghost use Rattle.forms.specs.Answers.{bytes_of};
+ghost use Rattle.forms.specs.Forms.{Reads, Writes};
+ghost use Rattle.forms.specs.Values.{IsWithinBounds};
+ghost use Rattle.forms.specs.form.IsoDateTime.{IsReal, Worth, utc, in_millis, Holds};
+ghost use Rattle.forms.specs.inside.Lawful.{Lawful};
+
+use crate::cause::Cause;
+use crate::form::iso_date::date_of;
+use crate::value::Value;
+use iso8601::parsers::parse_datetime;
+use iso8601::{DateTime, FixedMoment, Time};
+use jiff_core::civil;
+use scan_core::Short;
+
+/// The moment of a date-time.
+pub fn read(text: &str) -> Result<Value, Cause>
+    ensures { Reads AnyForm.IsoDateTime text.now result }
+{
+    match parse_datetime(text.as_bytes()) {
+        Ok((rest, datetime)) => {
+            if rest.is_empty() {
+                moment_of(datetime)
+            } else {
+                Err(Cause::Syntax)
+            }
+        }
+        Err(_) => Err(Cause::Syntax),
+    }
+}
+
+/// The moment of a date-time, where there is one.
+fn moment_of(datetime: DateTime) -> Result<Value, Cause>
+    ensures { Worth datetime result }
+{
+    match datetime.into_fixed_offset() {
+        Some(moment) => Ok(Value::Instant(instant_of(moment))),
+        None => {
+            if is_real(datetime) {
+                Err(Cause::Range)
+            } else {
+                Err(Cause::NoSuchMoment)
+            }
+        }
+    }
+}
+
+/// Nanoseconds since 1970 in UTC.
+fn instant_of(moment: FixedMoment) -> i128
+    requires { unsigned_abs moment.offset_seconds < 86_400 }
+    ensures { result ≡ civil_nanos moment.local -ℤ moment.offset_seconds *ℤ pos 1_000_000_000 }
+{
+    let local = moment.local.to_plain().to_nanosecond();
+    local - moment.offset_seconds as i128 * 1_000_000_000
+}
+
+/// Whether there is such a day, a clock shows the time, and the offset is less than a day.
+fn is_real(datetime: DateTime) -> bool
+    ensures { IsTrue result ↔ IsReal datetime }
+{
+    datetime.date.exists()
+        && datetime.time.into_naive().is_some()
+        && is_less_than_a_day(offset_of(datetime.time))
+}
+
+/// Seconds ahead of UTC.
+fn offset_of(time: Time) -> i64
+    ensures { result ≡ offset_of time }
+{
+    3600 * time.tz_offset_hours as i64 + 60 * time.tz_offset_minutes as i64
+}
+
+/// Whether an offset is less than a day.
+fn is_less_than_a_day(seconds: i64) -> bool
+    ensures { IsTrue result ↔ (unsigned_abs seconds < 86_400) }
+{
+    seconds.unsigned_abs() < 86_400
+}
+
+/// The written text of a moment, in UTC.
+pub fn write(value: Value) -> Result<Short, Cause>
+    requires { IsWithinBounds value }
+    ensures answer { Writes AnyForm.IsoDateTime value (bytes_of result) }
+    ensures len { IfOk result (λ out. array_string_len out ≤ 96) }
+{
+    let datetime = datetime_for(value)?;
+    Ok(text_of(datetime))
+}
+
+/// The text of a date-time that is short.
+fn text_of(datetime: DateTime) -> Short
+    requires { length (date_time_text datetime) ≤ 96 }
+    ensures bytes { result.bytes ≡ date_time_text datetime }
+    ensures len { array_string_len result ≤ 96 }
+{
+    datetime.text()
+}
+
+/// The date-time of a value.
+fn datetime_for(value: Value) -> Result<DateTime, Cause>
+    requires { IsWithinBounds value }
+    ensures held { Holds value result }
+    ensures short { IfOk result (λ datetime. length (date_time_text datetime) ≤ 96) }
+{
+    match value {
+        Value::Instant(nanos) => datetime_at(nanos),
+        _ => Err(Cause::Kind),
+    }
+}
+
+/// The date-time of a moment.
+fn datetime_at(nanos: i128) -> Result<DateTime, Cause>
+    ensures held { Holds (AnyValue.Instant nanos) result }
+    ensures short { IfOk result (λ datetime. length (date_time_text datetime) ≤ 96) }
+{
+    match civil::DateTime::from_nanosecond(nanos) {
+        Ok(civil) => in_millis(civil),
+        Err(_) => Err(Cause::Range),
+    }
+}
+
+/// The date-time in UTC, where its milliseconds are whole.
+fn in_millis(civil: civil::DateTime) -> Result<DateTime, Cause>
+    ensures held { result ≡ in_millis civil }
+    ensures short { IfOk result (λ datetime. length (date_time_text datetime) ≤ 96) }
+{
+    if civil.time.subsec_nanosecond % 1_000_000 == 0 {
+        Ok(utc(civil))
+    } else {
+        Err(Cause::Precision)
+    }
+}
+
+/// The date-time in UTC, without what is less than a millisecond.
+fn utc(civil: civil::DateTime) -> DateTime
+    ensures utc { result ≡ utc civil }
+    ensures short { length (date_time_text result) ≤ 96 }
+{
+    DateTime {
+        date: date_of(civil.date),
+        time: Time {
+            hour: civil.time.hour as u32,
+            minute: civil.time.minute as u32,
+            second: civil.time.second as u32,
+            millisecond: civil.time.subsec_nanosecond / 1_000_000,
+            tz_offset_hours: 0,
+            tz_offset_minutes: 0,
+        },
+    }
+}
+
+/// Date-times of ISO 8601 are a lawful form.
+pub fn lawful()
+    ensures { Lawful AnyForm.IsoDateTime }
+{
+    iso8601::laws::a_text_has_one_value();
+    iso8601::laws::a_written_text_spells_its_value();
+    iso8601::laws::civil_dates_are_calendar_dates();
+    iso8601::laws::years_and_weeks_follow_each_other();
+}
