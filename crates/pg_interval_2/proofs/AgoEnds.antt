@@ -97,7 +97,7 @@ behind front bytes h t = ends-append t front bytes ∙ h (ends_in_o t front)
 clock_end : (word : List ℕ) (counts : List Count) → IsClock word counts → Ends word
 clock_end word counts h t =
     let seconds : Ends (h.seconds ++ h.tail) = λ u. ends-append u h.seconds h.tail
-        ∙ ap (λ (v : Bool). ends_in_o v h.tail) (field_end u h.seconds h.second_field.0 h.second_field.1) ∙ tail_end h.fraction h.tail h.point in
+    ∙ ap (λ (v : Bool). ends_in_o v h.tail) (field_end u h.seconds h.second_field.0 h.second_field.1) ∙ tail_end h.fraction h.tail h.point in
     let after_minutes = codes ":" ++ (h.seconds ++ h.tail) in
     let minutes : Ends (h.minutes ++ after_minutes) = behind h.minutes after_minutes (behind (codes ":") (h.seconds ++ h.tail) seconds) in
     let after_hours = codes ":" ++ (h.minutes ++ after_minutes) in
@@ -150,6 +150,6 @@ ago_end text (front, after, blank, split) = ap (ends_in_o false) split ∙ ends-
 pub no_ago : (text before body : List ℕ) (counts : List Count) → IsFramed text before body false → IsBody body counts → EndsInAgo text → ⊥
 no_ago text before body counts framed spelled ends =
     let behind_at : ends_in_o false (body ++ framed.after) ≡ false =
-        ends-append false body framed.after ∙ ap (λ (t : Bool). ends_in_o t framed.after) (body_end body counts spelled) ∙ ends-blanks false framed.after framed.blank_after in
+    ends-append false body framed.after ∙ ap (λ (t : Bool). ends_in_o t framed.after) (body_end body counts spelled) ∙ ends-blanks false framed.after framed.blank_after in
     let none : ends_in_o false text ≡ false = ap (ends_in_o false) framed.joined ∙ ends-append false before (64 ∷ (body ++ framed.after)) ∙ behind_at in
     let clash : true ≡ false = sym (ago_end text ends) ∙ none in cc

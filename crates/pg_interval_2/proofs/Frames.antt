@@ -21,10 +21,10 @@ framed_ago text before body f = (before ++ (64 ∷ body), f.after, f.blank_after
 abbrev pub behind_at : Bool → List ℕ → List ℕ → List ℕ
 behind_at ago body after = body ++ (ago_or_none ago ++ after)
 
-same_before : (x y s t : List ℕ) → AreBlanks x → AreBlanks y → x ++ (64 ∷ s) ≡ y ++ (64 ∷ t) → x ≡ y
+pub same_before : (x y s t : List ℕ) → AreBlanks x → AreBlanks y → x ++ (64 ∷ s) ≡ y ++ (64 ∷ t) → x ≡ y
 same_before x y s t h k e = same_place x y s t 64 64 refl refl (ink_blanks x h ∙ sym (ink_blanks y k)) e
 
-same_behind : (x y s t : List ℕ) → x ≡ y → x ++ (64 ∷ s) ≡ y ++ (64 ∷ t) → s ≡ t
+pub same_behind : (x y s t : List ℕ) → x ≡ y → x ++ (64 ∷ s) ≡ y ++ (64 ∷ t) → s ≡ t
 same_behind x y s t same e =
     let tails : 64 ∷ s ≡ 64 ∷ t = append_cancel_left y (64 ∷ s) (64 ∷ t) (ap (λ (l : List ℕ). l ++ (64 ∷ s)) (sym same) ∙ e) in cc
 
@@ -60,7 +60,7 @@ one_frame text x y u v false true f g h k = absurd (h refl (framed_ago text y v 
 only_blanks : (blanks : List ℕ) → AreBlanks blanks → words blanks ≡ []
 only_blanks blanks h = ap words (sym (append-nil blanks)) ∙ words-blanks blanks [] h
 
-words_before : (body after : List ℕ) → AreBlanks after → words (body ++ after) ≡ words body
+pub words_before : (body after : List ℕ) → AreBlanks after → words (body ++ after) ≡ words body
 words_before body [] h = ap words (append-nil body)
 words_before body (b ∷ bs) h =
     let split = both (is_blank b) (list_all is_blank bs) h in

@@ -31,18 +31,17 @@ rest_unspelled names counts total (b ∷ bs) solid some (inl none) = no_item_ver
 rest_unspelled names counts total (b ∷ bs) solid some (inr (fields, rest, read, again)) =
     clock_again_verdict names counts total (b ∷ bs) rest fields (subst (Stands (b ∷ bs)) read (item_stands (b ∷ bs))) again
 
-text_unspelled : (names : Names) → AreNames names → (turned : Bool) (text rest : List ℕ) (state : Counted) (taken : ItemsTaken names turned text rest state) → rest ≢ [] → IsNoItem rest taken.counts → verdict names [] 0 (words text) ≡ Unspelled
+pub text_unspelled : (names : Names) → AreNames names → (turned : Bool) (text rest : List ℕ) (state : Counted) (taken : ItemsTaken names turned text rest state) → rest ≢ [] → IsNoItem rest taken.counts → verdict names [] 0 (words text) ≡ Unspelled
 text_unspelled names letters_names turned text rest state taken some none =
     ap (λ (l : List ℕ). verdict names [] 0 (words l)) taken.split ∙ behind_items names letters_names taken.consumed rest taken.counts taken.items (closed_now names turned text rest state taken some)
     ∙ rest_unspelled names taken.counts (total_length (words taken.consumed)) rest taken.solid some none
 
-pub nothing_next : (names : Names) → AreNames names → (turned : Bool) (text rest : List ℕ) (state : Counted) (taken : ItemsTaken names turned text rest state) → rest ≢ [] → IsNoItem rest taken.counts
-    → HasNoItems names text × HasNoBadName names text
-nothing_next names letters_names turned text rest state taken some none =
-    let judged = text_unspelled names letters_names turned text rest state taken some none in (
-      λ counts shape. let clash : Unspelled ≡ Spelled counts = sym judged ∙ items_verdict names letters_names (words text) counts shape in cc,
-      λ start end bad. let clash : Unspelled ≡ BadLetters _ bad.letters = sym judged ∙ bad_verdict names letters_names text start end bad in cc,
-    )
+-- a text whose words spell nothing is no items, and has no bad name
+pub nothing_spelled : (names : Names) → AreNames names → (text : List ℕ) → verdict names [] 0 (words text) ≡ Unspelled → HasNoItems names text × HasNoBadName names text
+nothing_spelled names letters_names text judged = (
+  λ counts shape. let clash : Unspelled ≡ Spelled counts = sym judged ∙ items_verdict names letters_names (words text) counts shape in cc,
+  λ start end bad. let clash : Unspelled ≡ BadLetters _ bad.letters = sym judged ∙ bad_verdict names letters_names text start end bad in cc,
+)
 
 -- ---- a bad name
 

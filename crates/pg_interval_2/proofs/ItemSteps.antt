@@ -74,7 +74,7 @@ blanks_end : (front : List ℕ) (b : ℕ) (bs : List ℕ) → AreBlanks (b ∷ b
 blanks_end front b bs all =
     let last = last_blank b bs all in inr (front ++ last.0, last.1, last.2, ap (λ (l : List ℕ). front ++ l) last.3 ∙ sym (append_assoc front last.0 (last.1 ∷ [])))
 
-closed_start : (blanks : List ℕ) → AreBlanks blanks → EndsInBlank blanks
+pub closed_start : (blanks : List ℕ) → AreBlanks blanks → EndsInBlank blanks
 closed_start [] all = inl refl
 closed_start (b ∷ bs) all = blanks_end [] b bs all
 

@@ -48,5 +48,8 @@ pub mod SpacedWords
 pub mod AgoEnds
 pub mod Frames
 pub mod VerboseCounts
+pub mod TextEnds
+pub mod VerboseBadNames
+pub mod VerboseReading
 pub mod VerboseSpelled
 pub mod VerboseReadBack

@@ -1,5 +1,5 @@
 -- A text has one list of counts, in each style.
-use Rattle.std.proofs.Common.{◌≡◌, ◌≢◌, ℕ, List, refl}
+use Rattle.std.proofs.Common.{◌≡◌, ℕ, List}
 use Rattle.scan_core.specs.Count.{Count}
 use Rattle.pg_interval_2.specs.declared.style.Style.{Style}
 use Rattle.pg_interval_2.specs.declared.style.Style.TheVariants.{Iso, Postgres, Verbose, Sql}
@@ -10,6 +10,7 @@ use Rattle.pg_interval_2.proofs.BadNames.{no_shape_at_bad_name, one_bad_name}
 use Rattle.pg_interval_2.proofs.IsoCounts.{one_list as iso}
 use Rattle.pg_interval_2.proofs.PostgresCounts.{are_names, one_list as postgres}
 use Rattle.pg_interval_2.proofs.SqlCounts.{one_list as sql}
+use Rattle.pg_interval_2.proofs.VerboseBadNames.{no_shape_at_bad, one_bad}
 use Rattle.pg_interval_2.proofs.VerboseCounts.{one_list as verbose}
 
 pub one_list : (style : Style) (text : List ℕ) (a b : List Count) → Shape style text a → Shape style text b → a ≡ b
@@ -19,8 +20,8 @@ one_list Verbose = verbose
 one_list Sql = sql
 
 -- in each style a bad place leaves a text without a shape, and it has one at most
-pub places : (style : Style) → style ≢ Verbose → IsPlaces (Shape style) (IsBadPlace style)
-places Iso other = record { none = λ text start end counts bad shape. bad; one = λ text s e t f bad other. absurd bad }
-places Postgres other = record { none = no_shape_at_bad_name postgres_names are_names; one = one_bad_name postgres_names are_names }
-places Sql other = record { none = λ text start end counts bad shape. bad; one = λ text s e t f bad other. absurd bad }
-places Verbose other = absurd (other refl)
+pub places : (style : Style) → IsPlaces (Shape style) (IsBadPlace style)
+places Iso = record { none = λ text start end counts bad shape. bad; one = λ text s e t f bad other. absurd bad }
+places Postgres = record { none = no_shape_at_bad_name postgres_names are_names; one = one_bad_name postgres_names are_names }
+places Verbose = record { none = no_shape_at_bad; one = one_bad }
+places Sql = record { none = λ text start end counts bad shape. bad; one = λ text s e t f bad other. absurd bad }

@@ -48,5 +48,5 @@ pub one_list : HasOneList IsVerbose
 one_list text a b ha hb =
     let same = one_frame text ha.before hb.before ha.body hb.body ha.ago hb.ago ha.framed hb.framed (whole_text text a ha) (whole_text text b hb) in
     let bodies : words ha.body ≡ words hb.body =
-        sym (whole_words ha.ago ha.body ha.framed.after ha.framed.blank_after) ∙ ap words same.whole ∙ whole_words hb.ago hb.body hb.framed.after hb.framed.blank_after in
+    sym (whole_words ha.ago ha.body ha.framed.after ha.framed.blank_after) ∙ ap words same.whole ∙ whole_words hb.ago hb.body hb.framed.after hb.framed.blank_after in
     ha.counted ∙ ap₂ turned_counts same.ago (one_body ha.body hb.body ha.body_counts hb.body_counts bodies ha.spelled hb.spelled) ∙ sym hb.counted

@@ -9,4 +9,5 @@ pub mod UnitSets
 pub mod NameSets
 pub mod CountedItems
 pub mod ItemsTally
+pub mod VerboseReading
 pub mod Writing

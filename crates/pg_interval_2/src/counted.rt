@@ -9,11 +9,12 @@ ghost use Rattle.pg_interval_2.specs.inside.ItemReading.{ClockFields, clock_of};
 ghost use Rattle.pg_interval_2.specs.inside.ItemViews.{AreClockRuns, HasFields};
 ghost use Rattle.pg_interval_2.specs.inside.NameSets.{names_in};
 ghost use Rattle.pg_interval_2.specs.inside.Reading.{IsDecimal, count_with, numeral_in};
-ghost use Rattle.pg_interval_2.specs.Turned.{turned_counts, turned_sign};
+ghost use Rattle.pg_interval_2.specs.Turned.{turned_counts};
 
 use crate::clock::Clock;
 use crate::items::{Item, next_item};
 use crate::number::Decimal;
+use crate::parts::turn;
 use crate::tally::Tally;
 use crate::unit_names::{NameSet, unit_named};
 use crate::units::Units;
@@ -36,14 +37,6 @@ pub(crate) enum Step {
     BadName(Word),
     /// No item.
     NoItem,
-}
-
-/// A sign, turned where `turned`.
-#[inline(always)]
-fn turn(turned: bool, negative: bool) -> bool
-    ensures { result ≡ turned_sign turned negative }
-{
-    if turned { !negative } else { negative }
 }
 
 /// Whether the number is 0.

@@ -5,6 +5,7 @@
 //! Ported from the crate `pg_interval_2` of Rust. Readers and `text` take no memory.
 #![tactic(auto)]
 
+mod ago;
 mod body;
 mod clock;
 mod clock_text;
@@ -28,6 +29,7 @@ mod tally;
 mod text;
 mod unit_names;
 mod units;
+mod verbose;
 mod verbose_text;
 mod words;
 

@@ -1,6 +1,7 @@
 ghost use Rattle.std.specs.Prelude.{◌≡◌, ◌+◌, ◌≤◌, ◌<◌, ◌++◌, decimal, codes};
 ghost use Rattle.arrayvec.specs.ArrayString.{array_string_len};
 ghost use Rattle.scan_core.specs.Padded.{padded};
+ghost use Rattle.pg_interval_2.specs.Turned.{turned_sign};
 ghost use Rattle.pg_interval_2.specs.Parts.{minus, has_negative, years_of, months_of, hours_of, minutes_of, seconds_of, subsecond_of};
 
 use scan_core::{Short, push_num, push_padded, push_text};
@@ -52,6 +53,14 @@ pub fn has_negative(months: i32, days: i32, micros: i64) -> bool
     ensures { result ≡ has_negative months days micros }
 {
     months.is_negative() || days.is_negative() || micros.is_negative()
+}
+
+/// A sign, turned where `turned`.
+#[inline(always)]
+pub fn turn(turned: bool, negative: bool) -> bool
+    ensures { result ≡ turned_sign turned negative }
+{
+    if turned { !negative } else { negative }
 }
 
 /// Appends the minus of a negative number.

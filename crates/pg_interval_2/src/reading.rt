@@ -1,5 +1,5 @@
 //! The readers of all styles over counted texts.
-ghost use Rattle.std.specs.Prelude.{◌≡◌, ◌≢◌, ◌+◌, ◌*◌, ◌<◌, ◌≤◌, ℕ, IfOk, IfErr, IsErrAnd, length};
+ghost use Rattle.std.specs.Prelude.{◌≡◌, ◌+◌, ◌*◌, ◌<◌, ◌≤◌, ℕ, IfOk, IfErr, IsErrAnd, length};
 ghost use Rattle.scan_core.specs.declared.share.Part.{Part};
 ghost use Rattle.pg_interval_2.specs.Denotes.{Denotes, HasNoShape, IsRange, IsRangeOf, Misfits, Refuses};
 ghost use Rattle.pg_interval_2.specs.Styles.{IsBadPlace, Shape, not_in};
@@ -10,6 +10,7 @@ use crate::iso::read_iso;
 use crate::postgres::read_postgres;
 use crate::sql::read_sql;
 use crate::style::Style;
+use crate::verbose::read_verbose;
 use scan_core::{Looked, Steps};
 use std::sync::ledger::{Blank, Ledger};
 
@@ -23,7 +24,6 @@ pub fn read_counted<L: Ledger>(
     text: &Looked<'_>,
     steps: &mut Steps<L>,
 ) -> Result<Interval, ParseError>
-    requires { style ≢ Style.Verbose }
     ensures ok { IfOk result (λ t. Denotes (Shape style) text.now t) }
     ensures all { (t : Interval) → Denotes (Shape style) text.now t → result ≡ Ok t }
     ensures err { IfErr result
@@ -46,7 +46,6 @@ fn read_style<L: Ledger>(
     text: &Looked<'_>,
     steps: &mut Steps<L>,
 ) -> Result<Interval, ParseError>
-    requires { style ≢ Style.Verbose }
     ensures ok { IfOk result (λ t. Denotes (Shape style) text.now t) }
     ensures err { IfErr result
         (λ e. Refuses (Shape style) (IsBadPlace style) (not_in style) text.now e) }
@@ -56,7 +55,7 @@ fn read_style<L: Ledger>(
     match style {
         Style::Iso => read_iso(text, steps),
         Style::Postgres => read_postgres(text, steps),
-        Style::Verbose => unreachable!(),
+        Style::Verbose => read_verbose(text, steps),
         Style::Sql => read_sql(text, steps),
     }
 }
@@ -70,7 +69,6 @@ pub(crate) fn read_alone<L: Ledger>(
     requires name { blank.name ≡ L.name }
     requires parts { blank.parts ≡ L.parts }
     requires some { 0 < L.parts }
-    requires read { style ≢ Style.Verbose }
     ensures ok { IfOk result (λ t. Denotes (Shape style) text.now t) }
     ensures all { (t : Interval) → Denotes (Shape style) text.now t → result ≡ Ok t }
     ensures err { IfErr result

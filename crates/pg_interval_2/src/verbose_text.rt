@@ -1,11 +1,11 @@
 //! Texts in `postgres_verbose` style: `@ 1 year 2 mons -3 days 4 hours 5 mins 6.5 secs ago`.
 ghost use Rattle.std.specs.Prelude.{◌≡◌, ◌+◌, ◌<◌, ◌≤◌, ◌++◌, codes, length};
 ghost use Rattle.arrayvec.specs.ArrayString.{array_string_len};
-ghost use Rattle.pg_interval_2.specs.Turned.{turned_sign};
 ghost use Rattle.pg_interval_2.specs.VerboseText.{behind_spaces, has_ago, unit_words, second_digits, second_words, verbose_date, verbose_time, parts_text, verbose_text};
 
 use crate::parts::{
-    has_negative, hours_of, minutes_of, months_of, push_digits, push_minus, seconds_of, subsecond_of, years_of,
+    has_negative, hours_of, minutes_of, months_of, push_digits, push_minus, seconds_of,
+    subsecond_of, turn, years_of,
 };
 use crate::postgres_text::push_name;
 use scan_core::{Short, push_text, push_trimmed};
@@ -16,13 +16,6 @@ fn has_ago(months: i32, days: i32, micros: i64) -> bool
     ensures { result ≡ has_ago months days micros }
 {
     micros <= 0 && has_negative(months, days, micros)
-}
-
-/// A sign, turned where `turned`.
-fn turn(turned: bool, negative: bool) -> bool
-    ensures { result ≡ turned_sign turned negative }
-{
-    if turned { !negative } else { negative }
 }
 
 /// Appends a part's number and its name, each behind a space, or nothing where it is 0.
@@ -96,7 +89,12 @@ fn push_date(out: &mut Short, ago: bool, months: i32, days: i32)
     let sign = turn(ago, months.is_negative());
     push_unit(out, sign, years_of(months), "year");
     push_unit(out, sign, months_of(months), "mon");
-    push_unit(out, turn(ago, days.is_negative()), days.unsigned_abs(), "day");
+    push_unit(
+        out,
+        turn(ago, days.is_negative()),
+        days.unsigned_abs(),
+        "day",
+    );
 }
 
 /// Appends the hours, minutes and seconds, with their sign, turned or not.
@@ -151,8 +149,18 @@ mod tests {
         for (months, days, micros, want) in [
             (0, 0, 0, "@ 0"),
             (13, 1, 3_600_000_000, "@ 1 year 1 mon 1 day 1 hour"),
-            (14, -3, 14_706_000_000, "@ 1 year 2 mons -3 days 4 hours 5 mins 6 secs"),
-            (-14, 3, -14_706_000_000, "@ 1 year 2 mons -3 days 4 hours 5 mins 6 secs ago"),
+            (
+                14,
+                -3,
+                14_706_000_000,
+                "@ 1 year 2 mons -3 days 4 hours 5 mins 6 secs",
+            ),
+            (
+                -14,
+                3,
+                -14_706_000_000,
+                "@ 1 year 2 mons -3 days 4 hours 5 mins 6 secs ago",
+            ),
             // seconds without zeros at the end, and singular at exactly 1
             (0, 0, 1_500_000, "@ 1.5 secs"),
             (0, 0, 1_000_000, "@ 1 sec"),

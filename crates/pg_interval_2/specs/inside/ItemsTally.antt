@@ -1,5 +1,5 @@
 -- What reading the items of bytes answers: cited by private contracts alone.
-use Rattle.std.specs.Prelude.{◌≡◌, ℕ, ◌+◌, Bool, List}
+use Rattle.std.specs.Prelude.{◌≡◌, ℕ, ◌+◌, Bool, List, []}
 use Rattle.scan_core.specs.Blanks.{words}
 use Rattle.scan_core.specs.Count.{Count}
 use Rattle.scan_core.specs.declared.share.Unit.{Unit as TimeUnit}
@@ -7,6 +7,7 @@ use Rattle.pg_interval_2.specs.declared.body.Misread.{Misread}
 use Rattle.pg_interval_2.specs.declared.body.Misread.TheVariants as misread
 use Rattle.pg_interval_2.specs.declared.tally.Tally.{Tally}
 use Rattle.pg_interval_2.specs.Postgres.{AreItems, IsBadName}
+use Rattle.pg_interval_2.specs.inside.ItemReading.{verdict, Unspelled}
 use Rattle.pg_interval_2.specs.inside.Tallies.{Tallies}
 use Rattle.pg_interval_2.specs.Turned.{turned_counts}
 
@@ -24,5 +25,5 @@ HasNoBadName names bytes = (start end : ℕ) → IsBadName names bytes start end
 
 -- why bytes from a place of the text on are no items
 abbrev pub IsMisread : (TimeUnit → List (List ℕ)) → ℕ → List ℕ → Misread → Type 0
-IsMisread names at bytes misread.NoItems = HasNoItems names bytes × HasNoBadName names bytes
+IsMisread names at bytes misread.NoItems = verdict names [] 0 (words bytes) ≡ Unspelled
 IsMisread names at bytes (misread.BadName start end) = (s : ℕ) × (e : ℕ) × IsBadName names bytes s e × (start ≡ at + s) × (end ≡ at + e)

@@ -3,7 +3,7 @@ use Rattle.std.proofs.lemmas.Bool.{false≢true}
 use Rattle.scan_core.specs.Scanning.{ahead}
 use Rattle.scan_core.proofs.Spending.{spends_more, spends_scan}
 use Rattle.pg_interval_2.specs.inside.NameSets.{names_in}
-use Rattle.pg_interval_2.proofs.ItemEnds.{bad_next, name_within, nothing_next}
+use Rattle.pg_interval_2.proofs.ItemEnds.{bad_next, name_within, text_unspelled}
 use Rattle.pg_interval_2.proofs.ItemSteps.{after-le, none_taken, one_taken, taken_shorter}
 use Rattle.pg_interval_2.proofs.UnitNameFacts.{set_names}
 use Rattle.pg_interval_2.proofs.body.tally_items.Goals as goal
@@ -62,5 +62,5 @@ returns-in-BadName-clause-err g c =
 pub returns-in-NoItem-clause-err : goal.returns-in-NoItem-clause-err
 returns-in-NoItem-clause-err g c =
     let before = c.loop-names.invariant.taken in
-    nothing_next (names_in c.args.names) (set_names c.args.names) c.args.turned (ahead c.args.scan.now) (ahead c.loop-names.scan) c.loop-names.counted before
+    text_unspelled (names_in c.args.names) (set_names c.args.names) c.args.turned (ahead c.args.scan.now) (ahead c.loop-names.scan) c.loop-names.counted before
     (λ none. false≢true (c.loop-names-test.ensures.1 none)) (c.in-NoItem.ensures.step before.counts before.counted)

@@ -11,7 +11,7 @@ returns-clause-all g c =
 pub returns-clause-bad : goal.returns-clause-bad
 returns-clause-bad g c =
     let style = c.args.style in
-    bad_from (Shape style) (IsBadPlace style) (not_in style) (places style c.requires) c.args.text.now c.read_style.result c.read_style.ensures.ok c.read_style.ensures.err
+    bad_from (Shape style) (IsBadPlace style) (not_in style) (places style) c.args.text.now c.read_style.result c.read_style.ensures.ok c.read_style.ensures.err
 
 pub returns-clause-range : goal.returns-clause-range
 returns-clause-range g c =
