@@ -1,8 +1,9 @@
 //! The interval forms, each a style of PostgreSQL.
-ghost use Rattle.std.specs.Prelude.{◌≡◌, ◌*◌, ◌^◌, ◌<◌, ◌≤◌, IfOk, IfErr};
+ghost use Rattle.std.specs.Prelude.{◌≡◌, ◌≢◌, ◌*◌, ◌^◌, ◌<◌, ◌≤◌, IfOk, IfErr};
 ghost use Rattle.arrayvec.specs.ArrayString.{array_string_len};
 ghost use Rattle.pg_interval_2.specs.Denotes.{Denotes};
 ghost use Rattle.pg_interval_2.specs.Styles.{Shape, written};
+ghost use Rattle.pg_interval_2.specs.declared.style.Style.{Style as AnyStyle};
 ghost use Rattle.forms.specs.Answers.{Is, ReadsBy, WritesBy, bytes_of};
 ghost use Rattle.forms.specs.Values.{IsWithinBounds};
 ghost use Rattle.forms.specs.form.Intervals.{worth, held, interval_of, interval_of_length};
@@ -18,6 +19,7 @@ const NANOSECONDS_A_DAY: u128 = 86_400_000_000_000;
 
 /// The triple that a text denotes in the style.
 pub fn read(style: Style, text: &str) -> Result<Value, Cause>
+    requires { style ≢ AnyStyle.Verbose }
     ensures { ReadsBy (Shape style) (Is worth) text.now result }
 {
     match interval_in(style, text) {
@@ -33,6 +35,7 @@ pub fn read(style: Style, text: &str) -> Result<Value, Cause>
 
 /// What the style's reader answers.
 fn interval_in(style: Style, text: &str) -> Result<Interval, ParseError>
+    requires { style ≢ AnyStyle.Verbose }
     ensures ok { IfOk result (Denotes (Shape style) text.now) }
     ensures err { IfErr result (IsRefusedBy style text.now) }
 {
@@ -40,6 +43,7 @@ fn interval_in(style: Style, text: &str) -> Result<Interval, ParseError>
         Style::Iso => Interval::from_iso(text),
         Style::Postgres => Interval::from_postgres(text),
         Style::Sql => Interval::from_sql(text),
+        Style::Verbose => unreachable!(),
     }
 }
 
