@@ -90,7 +90,7 @@ less_from a b h = grind (arith, nat_tests)
 less_test : (a b : ℕ) → a < b → nat_lt a b ≡ true
 less_test a b h = grind (arith, nat_tests)
 
-not_less : (a : ℕ) → nat_lt a a ≡ false
+pub not_less : (a : ℕ) → nat_lt a a ≡ false
 not_less a = grind (arith, nat_tests)
 
 -- bytes of which less is left were not all left
@@ -139,10 +139,10 @@ weeks_sound bytes rest d h =
     let parts = some_pair_parts _ _ _ _ made in
     (count.0, (c.0, count.1, sym parts.0), count.2 ∙ ap (λ (l : List ℕ). count.0 ++ l) parts.1))
 
-some_none : {A : Type 0} (x : A) → Some x ≡ None → ⊥
+pub some_none : {A : Type 0} (x : A) → Some x ≡ None → ⊥
 some_none x h = cc
 
-clock_missing : (bytes : List ℕ) → NotFirst 84 bytes → read_clock bytes ≡ ((0, (0, (0, 0))), bytes)
+pub clock_missing : (bytes : List ℕ) → NotFirst 84 bytes → read_clock bytes ≡ ((0, (0, (0, 0))), bytes)
 clock_missing [] n = refl
 clock_missing (b ∷ bs) n = rw n refl
 
@@ -157,7 +157,7 @@ no_clock p bytes h =
 abbrev pub IsNoUnit : ℕ → Type 0
 IsNoUnit letter = ((letter == 89) ≡ false) × ((letter == 77) ≡ false) × ((letter == 68) ≡ false)
 
-perhaps_none : (unit : ℕ) (rest : List ℕ) → read_count unit rest ≡ None → read_perhaps unit rest ≡ (0, rest)
+pub perhaps_none : (unit : ℕ) (rest : List ℕ) → read_count unit rest ≡ None → read_perhaps unit rest ≡ (0, rest)
 unfolding read_perhaps
 perhaps_none unit rest none = rw none refl
 
@@ -247,7 +247,7 @@ dated_sound bytes rest d h =
 abbrev IsDateByte : ℕ → Type 0
 IsDateByte b = (b ≡ 45) ⊎ (b ≡ 84)
 
-abbrev PeeksDate : List ℕ → Type 0
+abbrev pub PeeksDate : List ℕ → Type 0
 PeeksDate bytes = (p : Peeked) × (peek bytes ≡ Some p) × IsNoUnit p.letter × ((p.letter == 87) ≡ false)
 
 run_is_number : (digits : List ℕ) → 0 < length digits → length digits ≤ 8 → AreDigits digits → IsNumber digits (number_of digits)
@@ -290,7 +290,7 @@ dated_peek text rest d is =
 
 -- ---- the three kinds exclude each other
 
-not_dated : (bytes : List ℕ) (x : Duration × List ℕ) → read_dated bytes ≡ Some x → PeeksDate bytes
+pub not_dated : (bytes : List ℕ) (x : Duration × List ℕ) → read_dated bytes ≡ Some x → PeeksDate bytes
 not_dated bytes x h = let s = dated_sound bytes x.1 x.0 h in rw s.2 (dated_peek s.0 x.1 x.0 s.1)
 
 never_both : {A : Type 0} (o : Option A) (x : A) → o ≡ Some x → o ≡ None → ⊥
@@ -316,7 +316,7 @@ weeks_alone bytes x y found_x found_y =
 
 -- ---- durations
 
-body_sound : Sound IsBody read_body
+pub body_sound : Sound IsBody read_body
 unfolding read_body
 body_sound bytes rest d h = either_sound IsWeeks _ read_weeks _ weeks_sound (either_sound IsCounted IsDated read_counted read_dated counted_sound dated_sound) bytes rest d h
 
@@ -326,7 +326,7 @@ body_reach text rest d is =
     let later = either_reach IsCounted IsDated read_counted read_dated counted_reach dated_reach counted_alone in
     either_reach IsWeeks _ read_weeks _ (reach_from_exact IsWeeks read_weeks weeks_exact) later weeks_alone text rest d is
 
-body_whole : (body : List ℕ) (d : Duration) → IsBody body d → read_body (body ++ []) ≡ Some (d, [])
+pub body_whole : (body : List ℕ) (d : Duration) → IsBody body d → read_body (body ++ []) ≡ Some (d, [])
 unfolding read_body
 body_whole body d (inl w) = rw (weeks_exact body [] d w) refl
 body_whole body d (inr (inl c)) =

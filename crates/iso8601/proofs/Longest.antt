@@ -90,7 +90,7 @@ none_of Is same none = let P : List ℕ → Type 0 = λ b. NoneBegins Is b in su
 
 -- ---- a whole text
 
-nothing : (rest : List ℕ) → length rest ≤ 0 → rest ≡ []
+pub nothing : (rest : List ℕ) → length rest ≤ 0 → rest ≡ []
 nothing [] h = refl
 nothing (b ∷ bs) h = absurd (omega arith)
 

@@ -22,7 +22,7 @@ abbrev pub StopsField : List ℕ → Type 0
 StopsField [] = Unit {0}
 StopsField (b ∷ bs) = (is_ascii_digit b ≡ false) × ((b == 58) ≡ false)
 
-stops_later : (hi : ℕ) (rest : List ℕ) → StopsField rest → read_marked 58 2 0 hi rest ≡ None
+pub stops_later : (hi : ℕ) (rest : List ℕ) → StopsField rest → read_marked 58 2 0 hi rest ≡ None
 stops_later hi [] s = marked_none 58 0 hi [] tt tt
 stops_later hi (b ∷ bs) s = marked_none 58 0 hi (b ∷ bs) s.1 s.0
 
@@ -38,7 +38,7 @@ abbrev pub StopsFraction : List ℕ → Type 0
 StopsFraction [] = Unit {0}
 StopsFraction (b ∷ bs) = (is_ascii_digit b ≡ false) × ((b == 46) ≡ false) × ((b == 44) ≡ false)
 
-is_digit : (c : ℕ) → digit_value c < 10 → is_ascii_digit c ≡ true
+pub is_digit : (c : ℕ) → digit_value c < 10 → is_ascii_digit c ≡ true
 is_digit c h = let r = digit_from_value c h in grind (arith, nat_tests)
 
 -- digits in front of more, which may begin with digits

@@ -9,6 +9,7 @@
 #![tactic(auto)]
 
 mod civil;
+mod counted;
 mod duration_text;
 pub mod laws;
 pub mod parsers;
@@ -19,5 +20,6 @@ mod types;
 mod values;
 mod written;
 
+pub use counted::duration_counted;
 pub use texts::{date, datetime, duration, time};
 pub use types::{Date, DateTime, Duration, FixedMoment, ParseFailed, Time};

@@ -8,4 +8,5 @@ mod time;
 pub use date::parse_date;
 pub use datetime::parse_datetime;
 pub use duration::parse_duration;
+pub(crate) use front::with_sign;
 pub use time::parse_time;

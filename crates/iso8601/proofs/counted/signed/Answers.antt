@@ -1,0 +1,7 @@
+use Rattle.std.proofs.Common.{◌≡◌, ℕ, List}
+use Rattle.iso8601.proofs.CountedFacts.{signed_stuck}
+use Rattle.iso8601.proofs.counted.signed.Goals as goal
+
+pub returns-in_err-minutes-clause-none : goal.returns-in_err-minutes-clause-none
+returns-in_err-minutes-clause-none g c =
+    rw c.from_residual-in_err-minutes.ensures (λ bytes some. signed_stuck c.args.negative bytes _ _ c.in_ok-hours.hours c.in_ok-hours.ensures.read c.in_err-minutes.ensures.none)

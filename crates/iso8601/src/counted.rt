@@ -1,0 +1,555 @@
+//! Durations of a whole text whose looks are counted. Each byte is looked at once, when the scan comes to it, and once more
+//! where digits turn out to begin a date.
+ghost use Rattle.std.specs.Prelude.{◌≡◌, ◌≢◌, ◌+◌, ◌<◌, ◌≤◌, ◌↔◌, ℕ, List, [], Some, None, ◌*◌, ◌∷◌, IfSome, IfNone, IfOk, IfErr, IsTrue, length};
+ghost use Rattle.scan_core.specs.Runs.{IsRun, digits_of};
+ghost use Rattle.scan_core.specs.Scanning.{ahead, unseen};
+ghost use Rattle.scan_core.specs.Fronts.{front_digits, after_digits};
+ghost use Rattle.iso8601.specs.inside.CountedReading.{BeginsField, BeginsNoPoint, BeginsUnit, IsBehind, IsPointed, IsStuck, from_run, number_in, read_clock_counts};
+ghost use Rattle.iso8601.specs.inside.DurationReading.{read_body, read_clock, read_counted, read_dated, read_perhaps, read_seconds};
+ghost use Rattle.iso8601.specs.inside.Reading.{read_field, read_marked};
+ghost use Rattle.iso8601.specs.inside.TimeReading.{millis_of, read_fraction, read_later, read_offset, read_signed, read_time};
+ghost use Rattle.iso8601.specs.declared.types.Duration.{Duration};
+ghost use Rattle.iso8601.specs.declared.types.Duration.TheVariants.{Weeks};
+ghost use Rattle.iso8601.specs.declared.types.Time.{Time};
+ghost use Rattle.iso8601.specs.Durations.{IsDuration};
+
+use crate::parsers::with_sign;
+use crate::types::{Duration, ParseFailed, Time};
+use scan_core::{Looked, Run, Scan, Steps};
+use std::sync::ledger::Ledger;
+
+/// The field in front, which is passed; `None` exactly where none is there.
+#[inline(always)]
+fn field<L: Ledger>(
+    count: usize,
+    lo: u32,
+    hi: u32,
+    scan: &mut Scan<'_>,
+    steps: &mut Steps<L>,
+) -> Option<u32>
+    requires least { 1 ≤ count }
+    requires most { count ≤ 9 }
+    ensures read { IfSome result (λ value. Some (value, ahead scan.new) ≡ read_field count lo hi (ahead scan.old)) }
+    ensures none { IfNone result (None ≡ read_field count lo hi (ahead scan.old)) }
+    ensures bound { IfSome result (λ value. value ≤ hi) }
+    ensures same { scan.new.text ≡ scan.old.text }
+    ensures ticks { steps.new + unseen (ahead scan.new) ≡ steps.old + unseen (ahead scan.old) }
+{
+    let run = scan.digits_up_to(count, steps);
+    if run.end - run.start != count {
+        return None;
+    }
+    if run.value < u64::from(lo) {
+        return None;
+    }
+    if run.value > u64::from(hi) {
+        return None;
+    }
+    Some(run.value as u32)
+}
+
+/// The field in front behind a mark that may be left out; `None` exactly where none is there.
+#[inline(always)]
+#[tactic(auto, unfolding(crate::specs::inside::Reading::read_marked))]
+fn marked<L: Ledger>(
+    mark: u8,
+    count: usize,
+    lo: u32,
+    hi: u32,
+    scan: &mut Scan<'_>,
+    steps: &mut Steps<L>,
+) -> Option<u32>
+    requires least { 1 ≤ count }
+    requires most { count ≤ 9 }
+    ensures read { IfSome result (λ value. Some (value, ahead scan.new) ≡ read_marked mark count lo hi (ahead scan.old)) }
+    ensures none { IfNone result (None ≡ read_marked mark count lo hi (ahead scan.old)) }
+    ensures bound { IfSome result (λ value. value ≤ hi) }
+    ensures same { scan.new.text ≡ scan.old.text }
+    ensures ticks { steps.new + unseen (ahead scan.new) ≡ steps.old + unseen (ahead scan.old) }
+{
+    scan.next_if(mark, steps);
+    field(count, lo, hi, scan, steps)
+}
+
+/// The first three of the digits in front as milliseconds; all are passed.
+#[inline(always)]
+fn millis<L: Ledger>(scan: &mut Scan<'_>, steps: &mut Steps<L>) -> u32
+    ensures millis { result ≡ millis_of (front_digits (ahead scan.old)) }
+    ensures rest { ahead scan.new ≡ after_digits (ahead scan.old) }
+    ensures same { scan.new.text ≡ scan.old.text }
+    ensures ticks { steps.new + unseen (ahead scan.new) ≡ steps.old + unseen (ahead scan.old) }
+{
+    let first = scan.digits_up_to(3, steps);
+    scan.digits(steps);
+    let len = first.end - first.start;
+    if len == 0 {
+        0
+    } else if len == 1 {
+        100 * first.value as u32
+    } else if len == 2 {
+        10 * first.value as u32
+    } else {
+        first.value as u32
+    }
+}
+
+/// The number of 32 bits that the digits of a run are, if they are one.
+#[inline(always)]
+fn number_in(run: Run) -> Option<u32>
+    ensures { (text : List ℕ) → IsRun text run → result ≡ number_in (digits_of text run) }
+{
+    if run.start == run.end {
+        return None;
+    }
+    if run.value < 4_294_967_296 {
+        Some(run.value as u32)
+    } else {
+        None
+    }
+}
+
+/// Takes the count of a unit whose digits were passed, and passes the digits behind it; 0 where it isn't there.
+#[inline(always)]
+#[tactic(auto, unfolding(crate::specs::inside::DurationReading::read_perhaps, crate::specs::inside::DurationReading::read_count))]
+fn take<L: Ledger>(unit: u8, run: Run, scan: &mut Scan<'_>, steps: &mut Steps<L>) -> (u32, Run)
+    requires { IsBehind run scan.old }
+    ensures taken { (result.0, from_run scan.new.text result.1) ≡ read_perhaps unit (from_run scan.old.text run) }
+    ensures behind { IsBehind result.1 scan.new }
+    ensures same { scan.new.text ≡ scan.old.text }
+    ensures ticks { steps.new + unseen (ahead scan.new) ≡ steps.old + unseen (ahead scan.old) }
+{
+    match number_in(run) {
+        None => (0, run),
+        Some(number) => {
+            if scan.next_if(unit, steps) {
+                (number, scan.digits(steps))
+            } else {
+                (0, run)
+            }
+        }
+    }
+}
+
+/// Whether a colon or a digit is in front.
+#[inline(always)]
+fn begins_field(scan: &Scan<'_>) -> bool
+    ensures { IsTrue result ↔ BeginsField (ahead scan.now) }
+{
+    match scan.peek() {
+        Some(byte) => byte == b':' || byte.is_ascii_digit(),
+        None => false,
+    }
+}
+
+/// A field up to `hi` in front, behind a colon that may be left out, and 0 where neither a colon nor a digit is in front;
+/// `None` exactly where one of them is and no field is.
+#[inline(always)]
+#[tactic(auto, unfolding(crate::specs::inside::TimeReading::read_later))]
+fn later<L: Ledger>(hi: u32, scan: &mut Scan<'_>, steps: &mut Steps<L>) -> Option<u32>
+    ensures read { IfSome result (λ value. (value, ahead scan.new) ≡ read_later hi (ahead scan.old)) }
+    ensures none { IfNone result (IsStuck hi (ahead scan.old)) }
+    ensures bound { IfSome result (λ value. value ≤ hi) }
+    ensures same { scan.new.text ≡ scan.old.text }
+    ensures ticks { steps.new + unseen (ahead scan.new) ≡ steps.old + unseen (ahead scan.old) }
+{
+    if begins_field(scan) {
+        marked(b':', 2, 0, hi, scan, steps)
+    } else {
+        Some(0)
+    }
+}
+
+/// A fraction of a second, 0 where no point or comma is in front.
+#[inline(always)]
+fn fraction<L: Ledger>(scan: &mut Scan<'_>, steps: &mut Steps<L>) -> u32
+    ensures read { (result, ahead scan.new) ≡ read_fraction (ahead scan.old) }
+    ensures same { scan.new.text ≡ scan.old.text }
+    ensures ticks { steps.new + unseen (ahead scan.new) ≡ steps.old + unseen (ahead scan.old) }
+{
+    if scan.next_if(b'.', steps) {
+        return millis(scan, steps);
+    }
+    if scan.next_if(b',', steps) {
+        return millis(scan, steps);
+    }
+    0
+}
+
+/// The offset behind a sign that was passed; `None` where it isn't one, or more is left that no offset has.
+#[inline(always)]
+#[tactic(auto, unfolding(crate::specs::inside::TimeReading::read_signed))]
+fn signed<L: Ledger>(
+    negative: bool,
+    scan: &mut Scan<'_>,
+    steps: &mut Steps<L>,
+) -> Option<(i32, i32)>
+    ensures read { IfSome result (λ offset. (bytes : List ℕ) → (offset, ahead scan.new) ≡ read_signed negative bytes (ahead scan.old)) }
+    ensures none { IfNone result ((bytes : List ℕ) → bytes ≢ [] → (read_signed negative bytes (ahead scan.old)).1 ≢ []) }
+    ensures same { scan.new.text ≡ scan.old.text }
+    ensures ticks { steps.new + unseen (ahead scan.new) ≡ steps.old + unseen (ahead scan.old) }
+{
+    let hours = field(2, 0, 24, scan, steps)?;
+    let minutes = later(59, scan, steps)?;
+    Some((with_sign(negative, hours), with_sign(negative, minutes)))
+}
+
+/// An offset, zeros where no byte that begins one is in front; `None` where something is left that no offset has.
+#[inline(always)]
+fn offset<L: Ledger>(scan: &mut Scan<'_>, steps: &mut Steps<L>) -> Option<(i32, i32)>
+    ensures read { IfSome result (λ offset. (offset, ahead scan.new) ≡ read_offset (ahead scan.old)) }
+    ensures none { IfNone result ((read_offset (ahead scan.old)).1 ≢ []) }
+    ensures same { scan.new.text ≡ scan.old.text }
+    ensures ticks { steps.new + unseen (ahead scan.new) ≡ steps.old + unseen (ahead scan.old) }
+{
+    if scan.next_if(b'Z', steps) {
+        return Some((0, 0));
+    }
+    if scan.next_if(b'-', steps) {
+        return signed(true, scan, steps);
+    }
+    if scan.next_if(b'+', steps) {
+        return signed(false, scan, steps);
+    }
+    Some((0, 0))
+}
+
+/// The time in front; `None` where no time is the whole of what is left.
+#[inline(always)]
+#[tactic(auto, unfolding(crate::specs::inside::TimeReading::read_time, crate::specs::inside::TimeReading::read_tail))]
+fn time<L: Ledger>(scan: &mut Scan<'_>, steps: &mut Steps<L>) -> Option<Time>
+    ensures read { IfSome result (λ time. Some (time, ahead scan.new) ≡ read_time (ahead scan.old)) }
+    ensures none { IfNone result ((time : Time) → read_time (ahead scan.old) ≢ Some (time, [])) }
+    ensures same { scan.new.text ≡ scan.old.text }
+    ensures ticks { steps.new + unseen (ahead scan.new) ≡ steps.old + unseen (ahead scan.old) }
+{
+    let hour = field(2, 0, 24, scan, steps)?;
+    let minute = marked(b':', 2, 0, 59, scan, steps)?;
+    let second = later(60, scan, steps)?;
+    let millisecond = fraction(scan, steps);
+    let (tz_offset_hours, tz_offset_minutes) = offset(scan, steps)?;
+    Some(Time {
+        hour,
+        minute,
+        second,
+        millisecond,
+        tz_offset_hours,
+        tz_offset_minutes,
+    })
+}
+
+/// The seconds and milliseconds whose digits were passed, zeros where none were; `None` where digits are left that are no
+/// seconds.
+#[inline(always)]
+#[tactic(auto, unfolding(crate::specs::inside::DurationReading::read_seconds))]
+fn seconds<L: Ledger>(run: Run, scan: &mut Scan<'_>, steps: &mut Steps<L>) -> Option<(u32, u32)>
+    requires { IsBehind run scan.old }
+    ensures read { IfSome result (λ value. (value, ahead scan.new) ≡ read_seconds (from_run scan.old.text run)) }
+    ensures none { IfNone result ((read_seconds (from_run scan.old.text run)).1 ≢ []) }
+    ensures same { scan.new.text ≡ scan.old.text }
+    ensures ticks { steps.new + unseen (ahead scan.new) ≡ steps.old + unseen (ahead scan.old) }
+{
+    if run.start == run.end {
+        return Some((0, 0));
+    }
+    let second = number_in(run)?;
+    if scan.next_if(b'S', steps) {
+        return Some((second, 0));
+    }
+    let millisecond = point_millis(scan, steps)?;
+    if scan.next_if(b'S', steps) {
+        Some((second, millisecond))
+    } else {
+        None
+    }
+}
+
+/// The milliseconds behind a point or a comma, which is passed; `None` exactly where neither is in front.
+#[inline(always)]
+fn point_millis<L: Ledger>(scan: &mut Scan<'_>, steps: &mut Steps<L>) -> Option<u32>
+    ensures some { IfSome result (λ millisecond. IsPointed (ahead scan.old) millisecond (ahead scan.new)) }
+    ensures none { IfNone result (BeginsNoPoint (ahead scan.old)) }
+    ensures same { scan.new.text ≡ scan.old.text }
+    ensures ticks { steps.new + unseen (ahead scan.new) ≡ steps.old + unseen (ahead scan.old) }
+{
+    if scan.next_if(b'.', steps) {
+        return Some(millis(scan, steps));
+    }
+    if scan.next_if(b',', steps) {
+        return Some(millis(scan, steps));
+    }
+    None
+}
+
+/// The hours, minutes and seconds behind a `T` that was passed; `None` where digits are left that are none of them.
+#[inline(always)]
+fn clock<L: Ledger>(scan: &mut Scan<'_>, steps: &mut Steps<L>) -> Option<(u32, u32, (u32, u32))>
+    ensures read { IfSome result (λ v. ((v.0, (v.1, v.2)), ahead scan.new) ≡ read_clock_counts (ahead scan.old)) }
+    ensures none { IfNone result ((read_clock_counts (ahead scan.old)).1 ≢ []) }
+    ensures same { scan.new.text ≡ scan.old.text }
+    ensures ticks { steps.new + unseen (ahead scan.new) ≡ steps.old + unseen (ahead scan.old) }
+{
+    let run = scan.digits(steps);
+    let (hour, run) = take(b'H', run, scan, steps);
+    let (minute, run) = take(b'M', run, scan, steps);
+    let seconds = seconds(run, scan, steps)?;
+    Some((hour, minute, seconds))
+}
+
+/// A `T` and its clock, zeros where nothing is left; `None` where digits were passed, or a byte that is no `T` is in front.
+#[inline(always)]
+fn perhaps_clock<L: Ledger>(
+    run: Run,
+    scan: &mut Scan<'_>,
+    steps: &mut Steps<L>,
+) -> Option<(u32, u32, (u32, u32))>
+    requires { IsBehind run scan.old }
+    ensures read { IfSome result (λ v. ((v.0, (v.1, v.2)), ahead scan.new) ≡ read_clock (from_run scan.old.text run)) }
+    ensures none { IfNone result ((read_clock (from_run scan.old.text run)).1 ≢ []) }
+    ensures same { scan.new.text ≡ scan.old.text }
+    ensures ticks { steps.new + unseen (ahead scan.new) ≡ steps.old + unseen (ahead scan.old) }
+{
+    if run.start != run.end {
+        return None;
+    }
+    if scan.next_if(b'T', steps) {
+        return clock(scan, steps);
+    }
+    Some((0, 0, (0, 0)))
+}
+
+/// The counts that are the whole of what is left from a run on; `None` exactly where it is no counts.
+#[inline(always)]
+#[tactic(auto, unfolding(crate::specs::inside::DurationReading::read_counted, crate::specs::inside::DurationReading::read_counts))]
+fn counts<L: Ledger>(run: Run, scan: &mut Scan<'_>, steps: &mut Steps<L>) -> Option<Duration>
+    requires { IsBehind run scan.old }
+    ensures some { IfSome result (λ d. read_counted (from_run scan.old.text run) ≡ Some (d, [])) }
+    ensures none { IfNone result ((d : Duration) → read_counted (from_run scan.old.text run) ≢ Some (d, [])) }
+    ensures done { IfSome result (λ d. ahead scan.new ≡ []) }
+    ensures same { scan.new.text ≡ scan.old.text }
+    ensures ticks { steps.new + unseen (ahead scan.new) ≡ steps.old + unseen (ahead scan.old) }
+{
+    if run.start == run.end && scan.is_done() {
+        return None;
+    }
+    let (year, run) = take(b'Y', run, scan, steps);
+    let (month, run) = take(b'M', run, scan, steps);
+    let (day, run) = take(b'D', run, scan, steps);
+    let (hour, minute, (second, millisecond)) = perhaps_clock(run, scan, steps)?;
+    if !scan.is_done() {
+        return None;
+    }
+    Some(Duration::YMDHMS {
+        year,
+        month,
+        day,
+        hour,
+        minute,
+        second,
+        millisecond,
+    })
+}
+
+/// A date without a sign, `T` and a time, in front; `None` where they aren't the whole of what is left.
+#[inline(always)]
+#[tactic(auto, unfolding(crate::specs::inside::DurationReading::read_dated))]
+fn date_and_time<L: Ledger>(scan: &mut Scan<'_>, steps: &mut Steps<L>) -> Option<Duration>
+    ensures read { IfSome result (λ d. Some (d, ahead scan.new) ≡ read_dated (ahead scan.old)) }
+    ensures none { IfNone result ((d : Duration) → read_dated (ahead scan.old) ≢ Some (d, [])) }
+    ensures same { scan.new.text ≡ scan.old.text }
+    ensures ticks { steps.new + unseen (ahead scan.new) ≡ steps.old + unseen (ahead scan.old) }
+{
+    let year = field(4, 0, 9999, scan, steps)?;
+    let month = marked(b'-', 2, 1, 12, scan, steps)?;
+    let day = marked(b'-', 2, 1, 31, scan, steps)?;
+    if !scan.next_if(b'T', steps) {
+        return None;
+    }
+    let time = time(scan, steps)?;
+    Some(Duration::YMDHMS {
+        year,
+        month,
+        day,
+        hour: time.hour,
+        minute: time.minute,
+        second: time.second,
+        millisecond: time.millisecond,
+    })
+}
+
+/// The date and time that are the whole text behind its first byte; `None` exactly where it is none.
+fn dated<L: Ledger>(text: &Looked<'_>, steps: &mut Steps<L>) -> Option<Duration>
+    ensures some { IfSome result (λ d. (body : List ℕ) → text.now ≡ 80 ∷ body → read_dated body ≡ Some (d, [])) }
+    ensures none { IfNone result ((body : List ℕ) (d : Duration) → text.now ≡ 80 ∷ body → read_dated body ≢ Some (d, [])) }
+    ensures most { steps.new ≤ steps.old + length text.now }
+    ensures least { IfSome result (λ d. steps.old + length text.now ≤ steps.new) }
+{
+    let mut scan = Scan::new(text, steps);
+    scan.next(steps);
+    let duration = date_and_time(&mut scan, steps)?;
+    if scan.is_done() { Some(duration) } else { None }
+}
+
+/// Whether the letter of years, months or days is in front.
+#[inline(always)]
+fn begins_unit(scan: &Scan<'_>) -> bool
+    ensures { IsTrue result ↔ BeginsUnit (ahead scan.now) }
+{
+    match scan.peek() {
+        Some(b'Y') | Some(b'M') | Some(b'D') => true,
+        _ => false,
+    }
+}
+
+/// The duration that the text is behind its `P` and the digits behind that; `None` exactly where it is none.
+#[inline(always)]
+fn body<L: Ledger>(run: Run, scan: &mut Scan<'_>, steps: &mut Steps<L>) -> Option<Duration>
+    requires behind { IsBehind run scan.old }
+    requires start { scan.old.text ≡ 80 ∷ from_run scan.old.text run }
+    ensures some { IfSome result (λ d. read_body (from_run scan.old.text run) ≡ Some (d, [])) }
+    ensures none { IfNone result ((d : Duration) → read_body (from_run scan.old.text run) ≢ Some (d, [])) }
+    ensures most { steps.new ≤ steps.old + unseen (ahead scan.old) + length scan.old.text }
+    ensures least { IfSome result (λ d. steps.old + unseen (ahead scan.old) ≤ steps.new) }
+{
+    match number_in(run) {
+        None => counts(run, scan, steps),
+        Some(number) => {
+            if scan.next_if(b'W', steps) {
+                return weeks(number, scan);
+            }
+            if begins_unit(scan) {
+                return counts(run, scan, steps);
+            }
+            dated(scan.text(), steps)
+        }
+    }
+}
+
+/// So many weeks where nothing is left.
+#[inline(always)]
+fn weeks(number: u32, scan: &Scan<'_>) -> Option<Duration>
+    ensures some { IfSome result (λ d. (d ≡ Weeks number) × (ahead scan.now ≡ [])) }
+    ensures none { IfNone result (ahead scan.now ≢ []) }
+{
+    if scan.is_done() {
+        Some(Duration::Weeks(number))
+    } else {
+        None
+    }
+}
+
+/// The duration that the whole text is, as [`parse_duration`](crate::parsers::parse_duration) reads it, with its looks
+/// counted: at most two for each byte, and at least one where the answer is Ok.
+///
+/// `ParseFailed` exactly where the whole text is no duration. `P1M1Y` is none, though its prefix `P1M` is one.
+pub fn duration_counted<L: Ledger>(
+    text: &Looked<'_>,
+    steps: &mut Steps<L>,
+) -> Result<Duration, ParseFailed>
+    ensures value { IfOk result (IsDuration text.now) }
+    ensures none { IfErr result (λ e. (d : Duration) → IsDuration text.now d → ⊥) }
+    ensures most { steps.new ≤ steps.old + 2 * length text.now }
+    ensures least { IfOk result (λ d. steps.old + length text.now ≤ steps.new) }
+{
+    let mut scan = Scan::new(text, steps);
+    if !scan.next_if(b'P', steps) {
+        return Err(ParseFailed);
+    }
+    let run = scan.digits(steps);
+    match body(run, &mut scan, steps) {
+        Some(duration) => Ok(duration),
+        None => Err(ParseFailed),
+    }
+}
+
+#[cfg(test)]
+mod tests {
+    use super::*;
+    use std::marker::Brand;
+    use std::sync::ledger::Blank;
+    use std::test::Fail;
+
+    fn read<L: Ledger>(text: &str, blank: Blank) -> Result<Duration, ParseFailed>
+        requires name { blank.name ≡ L.name }
+        requires parts { blank.parts ≡ L.parts }
+        requires some { 0 < L.parts }
+    {
+        duration_counted(&Looked::new(text), &mut Steps::<L>::new(blank))
+    }
+
+    #[test]
+    fn reads_whole_texts(rt: HostRuntime) -> Result<(), Fail> {
+        for (text, want) in [
+            ("P2021Y11M16DT23H26M59.123S", "P2021Y11M16DT23H26M59.123S"),
+            ("PT", "P0D"),
+            ("P0D", "P0D"),
+            ("P1Y99D", "P1Y99D"),
+            ("P1YT2M", "P1YT2M"),
+            ("PT1.S", "PT1S"),
+            ("PT1,2399S", "PT1.239S"),
+            ("PT1.05S", "PT1.050S"),
+            ("P0000000000001D", "P1D"),
+            ("P4294967295YT4294967295.9S", "P4294967295YT4294967295.900S"),
+            ("P26W", "P26W"),
+            ("P007W", "P7W"),
+            ("P4294967295W", "P4294967295W"),
+            ("P2015-11-03T21:56", "P2015Y11M3DT21H56M"),
+            ("P20151103T215642,5Z", "P2015Y11M3DT21H56M42.500S"),
+            ("P2015-1103T2156:42.-05:30", "P2015Y11M3DT21H56M42S"),
+            ("P201511-03T24:59:60+24", "P2015Y11M3DT24H59M60S"),
+            ("P0000-01-01T00:00-0059", "P1M1D"),
+        ] {
+            let duration = read::<Brand>(text, Blank::new(1));
+            assert_eq!(rt;
+                duration.map(|d| d.text().as_str() == want),
+                Ok(true),
+                "at {text}"
+            );
+        }
+        Ok(())
+    }
+
+    #[test]
+    fn refuses_what_is_no_duration_whole(rt: HostRuntime) -> Result<(), Fail> {
+        for text in [
+            "",
+            "P",
+            "P1",
+            "p1D",
+            "1D",
+            "P1D ",
+            "P1M1Y",
+            "P1D1D",
+            "P1W1D",
+            "P1WT",
+            "PT5",
+            "PT5,",
+            "PT5.25",
+            "PT.5S",
+            "PT1M1H",
+            "P1.5D",
+            "P1Y99999999999M",
+            "P4294967296Y",
+            "P4294967296W",
+            "PT4294967296S",
+            "P2015-11-03",
+            "P2015-11-03T",
+            "P2015-11-03T21:56:",
+            "P2015-11-03T21:56:61",
+            "P2015-11-03T21:56+1",
+            "P2015-11-03T21:56+01:6",
+            "P2015-11-03T21:56+25",
+            "P2015-11-03T21:56ZZ",
+            "P2015-13-03T21:56",
+            "P02015-11-03T21:56",
+            "P4294967296-11-03T21:56",
+            "P-2015-11-03T21:56",
+        ] {
+            assert_eq!(rt;
+                read::<Brand>(text, Blank::new(1)),
+                Err(ParseFailed),
+                "at {text}"
+            );
+        }
+        Ok(())
+    }
+}
