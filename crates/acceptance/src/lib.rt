@@ -20,3 +20,5 @@ mod postgres;
 mod program;
 #[cfg(test)]
 mod sql;
+#[cfg(test)]
+mod verbose;

@@ -1,12 +1,12 @@
 -- A name is one form's.
 use Rattle.std.proofs.Common.{◌≡◌, ◌==◌, ◌&&◌, ℕ, Bool, true, false, cond, List, [], ◌∷◌, Option, Some, None, refl, sym, ◌∙◌, ap}
 use Rattle.forms.specs.declared.form.Form.{Form}
-use Rattle.forms.specs.declared.form.Form.TheVariants.{FileTime, IsoDateTime, IsoDate, IsoDuration, Toml, Fancy, PgIso, Postgres, PgSql}
+use Rattle.forms.specs.declared.form.Form.TheVariants.{FileTime, IsoDateTime, IsoDate, IsoDuration, Toml, Fancy, PgIso, Postgres, PgVerbose, PgSql}
 use Rattle.forms.specs.Names.{name_of}
 
 -- all forms
 abbrev forms : List Form
-forms = FileTime ∷ IsoDateTime ∷ IsoDate ∷ IsoDuration ∷ Toml ∷ Fancy ∷ PgIso ∷ Postgres ∷ PgSql ∷ []
+forms = FileTime ∷ IsoDateTime ∷ IsoDate ∷ IsoDuration ∷ Toml ∷ Fancy ∷ PgIso ∷ Postgres ∷ PgVerbose ∷ PgSql ∷ []
 
 abbrev same_bytes : List ℕ → List ℕ → Bool
 same_bytes [] [] = true
@@ -28,6 +28,7 @@ finds_form Toml = refl
 finds_form Fancy = refl
 finds_form PgIso = refl
 finds_form Postgres = refl
+finds_form PgVerbose = refl
 finds_form PgSql = refl
 
 pub one_form : (f g : Form) → name_of f ≡ name_of g → f ≡ g

@@ -3,7 +3,7 @@ use Rattle.std.specs.Prelude.{ℕ, List, codes, Option, Some, None}
 use Rattle.pg_interval_2.specs.declared.style.Style.{Style}
 use Rattle.pg_interval_2.specs.declared.style.Style.TheVariants as style
 use Rattle.forms.specs.declared.form.Form.{Form}
-use Rattle.forms.specs.declared.form.Form.TheVariants.{FileTime, IsoDateTime, IsoDate, IsoDuration, Toml, Fancy, PgIso, Postgres, PgSql}
+use Rattle.forms.specs.declared.form.Form.TheVariants.{FileTime, IsoDateTime, IsoDate, IsoDuration, Toml, Fancy, PgIso, Postgres, PgVerbose, PgSql}
 use Rattle.forms.specs.declared.cause.Cause.{Cause}
 use Rattle.forms.specs.declared.cause.Cause.TheVariants.{Syntax, NoSuchMoment, Range, Kind, Precision, Ambiguous}
 
@@ -17,12 +17,14 @@ name_of Toml = codes "Toml"
 name_of Fancy = codes "Fancy"
 name_of PgIso = codes "PgIso"
 name_of Postgres = codes "Postgres"
+name_of PgVerbose = codes "PgVerbose"
 name_of PgSql = codes "PgSql"
 
 -- the style of an interval form
 abbrev pub style_of : Form → Option Style
 style_of PgIso = Some style.Iso
 style_of Postgres = Some style.Postgres
+style_of PgVerbose = Some style.Verbose
 style_of PgSql = Some style.Sql
 style_of _ = None
 

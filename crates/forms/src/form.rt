@@ -30,6 +30,8 @@ pub enum Form {
     PgIso,
     /// PostgreSQL's intervals in style `postgres`: `1 year 2 mons 3 days 04:05:06`.
     Postgres,
+    /// PostgreSQL's intervals in style `postgres_verbose`: `@ 1 year 2 mons 3 days 4 hours 5 mins 6 secs`.
+    PgVerbose,
     /// PostgreSQL's intervals in style `sql_standard`: `+1-2 +3 +4:05:06`.
     PgSql,
 }
@@ -48,6 +50,7 @@ impl Form {
             "Fancy" => Some(Form::Fancy),
             "PgIso" => Some(Form::PgIso),
             "Postgres" => Some(Form::Postgres),
+            "PgVerbose" => Some(Form::PgVerbose),
             "PgSql" => Some(Form::PgSql),
             _ => None,
         }
@@ -66,6 +69,7 @@ impl Form {
             Form::Fancy => "Fancy",
             Form::PgIso => "PgIso",
             Form::Postgres => "Postgres",
+            Form::PgVerbose => "PgVerbose",
             Form::PgSql => "PgSql",
         }
     }

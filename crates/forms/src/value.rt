@@ -69,6 +69,7 @@ fn read(form: Form, text: &str) -> Result<Value, Cause>
         Form::Fancy => fancy::read(text),
         Form::PgIso => intervals::read(Style::Iso, text),
         Form::Postgres => intervals::read(Style::Postgres, text),
+        Form::PgVerbose => intervals::read(Style::Verbose, text),
         Form::PgSql => intervals::read(Style::Sql, text),
     }
 }
@@ -88,6 +89,7 @@ fn write(form: Form, value: Value) -> Result<Short, Cause>
         Form::Fancy => fancy::write(value),
         Form::PgIso => intervals::write(Style::Iso, value),
         Form::Postgres => intervals::write(Style::Postgres, value),
+        Form::PgVerbose => intervals::write(Style::Verbose, value),
         Form::PgSql => intervals::write(Style::Sql, value),
     }
 }

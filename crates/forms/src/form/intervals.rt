@@ -1,9 +1,8 @@
 //! The interval forms, each a style of PostgreSQL.
-ghost use Rattle.std.specs.Prelude.{◌≡◌, ◌≢◌, ◌*◌, ◌^◌, ◌<◌, ◌≤◌, IfOk, IfErr};
+ghost use Rattle.std.specs.Prelude.{◌≡◌, ◌*◌, ◌^◌, ◌<◌, ◌≤◌, IfOk, IfErr};
 ghost use Rattle.arrayvec.specs.ArrayString.{array_string_len};
 ghost use Rattle.pg_interval_2.specs.Denotes.{Denotes};
 ghost use Rattle.pg_interval_2.specs.Styles.{Shape, written};
-ghost use Rattle.pg_interval_2.specs.declared.style.Style.{Style as AnyStyle};
 ghost use Rattle.forms.specs.Answers.{Is, ReadsBy, WritesBy, bytes_of};
 ghost use Rattle.forms.specs.Values.{IsWithinBounds};
 ghost use Rattle.forms.specs.form.Intervals.{worth, held, interval_of, interval_of_length};
@@ -19,7 +18,6 @@ const NANOSECONDS_A_DAY: u128 = 86_400_000_000_000;
 
 /// The triple that a text denotes in the style.
 pub fn read(style: Style, text: &str) -> Result<Value, Cause>
-    requires { style ≢ AnyStyle.Verbose }
     ensures { ReadsBy (Shape style) (Is worth) text.now result }
 {
     match interval_in(style, text) {
@@ -35,15 +33,14 @@ pub fn read(style: Style, text: &str) -> Result<Value, Cause>
 
 /// What the style's reader answers.
 fn interval_in(style: Style, text: &str) -> Result<Interval, ParseError>
-    requires { style ≢ AnyStyle.Verbose }
     ensures ok { IfOk result (Denotes (Shape style) text.now) }
     ensures err { IfErr result (IsRefusedBy style text.now) }
 {
     match style {
         Style::Iso => Interval::from_iso(text),
         Style::Postgres => Interval::from_postgres(text),
+        Style::Verbose => Interval::from_postgres_verbose(text),
         Style::Sql => Interval::from_sql(text),
-        Style::Verbose => unreachable!(),
     }
 }
 
@@ -103,6 +100,7 @@ fn interval_of_length(nanos: u128) -> Result<Interval, Cause>
 pub fn lawful()
     ensures pg_iso { Lawful AnyForm.PgIso }
     ensures postgres { Lawful AnyForm.Postgres }
+    ensures pg_verbose { Lawful AnyForm.PgVerbose }
     ensures pg_sql { Lawful AnyForm.PgSql }
 {
     pg_interval_2::laws::text_has_one_list_of_counts();

@@ -1,4 +1,4 @@
-use Rattle.pg_interval_2.specs.declared.style.Style.TheVariants.{Iso, Postgres, Sql}
+use Rattle.pg_interval_2.specs.declared.style.Style.TheVariants.{Iso, Postgres, Verbose, Sql}
 use Rattle.forms.specs.declared.form.Form.TheVariants as form
 use Rattle.forms.proofs.Intervals.{intervals}
 use Rattle.forms.proofs.Replies.{of_style}
@@ -10,6 +10,9 @@ returns-clause-pg_iso c = intervals form.PgIso Iso (of_style form.PgIso Iso refl
 
 pub returns-clause-postgres : goal.returns-clause-postgres
 returns-clause-postgres c = intervals form.Postgres Postgres (of_style form.Postgres Postgres refl) (c.text_has_one_list_of_counts.ensures Postgres) (c.written_text_is_read_back.ensures.denotes Postgres)
+
+pub returns-clause-pg_verbose : goal.returns-clause-pg_verbose
+returns-clause-pg_verbose c = intervals form.PgVerbose Verbose (of_style form.PgVerbose Verbose refl) (c.text_has_one_list_of_counts.ensures Verbose) (c.written_text_is_read_back.ensures.denotes Verbose)
 
 pub returns-clause-pg_sql : goal.returns-clause-pg_sql
 returns-clause-pg_sql c = intervals form.PgSql Sql (of_style form.PgSql Sql refl) (c.text_has_one_list_of_counts.ensures Sql) (c.written_text_is_read_back.ensures.denotes Sql)
