@@ -16,32 +16,6 @@ bytes_eq-false xs ys h =
       | false ↦ λ e. e
     ] refl
 
--- of a named part
-pub weight_in-unit_of : (part : DurationPart) (long : Bool) → part ≢ Months
-    → weight_in (unit_of part) long ≡ weight_if part long
-weight_in-unit_of Years long h = refl
-weight_in-unit_of Months long h = absurd (h refl)
-weight_in-unit_of Weeks long h = refl
-weight_in-unit_of Days long h = refl
-weight_in-unit_of Hours long h = refl
-weight_in-unit_of Minutes long h = elim long as (λ long. weight_in (unit_of Minutes) long ≡ weight_if Minutes long) [ true ↦ refl | false ↦ refl ]
-weight_in-unit_of Seconds long h = refl
-weight_in-unit_of Milliseconds long h = refl
-weight_in-unit_of Microseconds long h = refl
-weight_in-unit_of Nanoseconds long h = refl
-
-pub is_long-unit_of : (part : DurationPart) → part ≢ Months → is_long (unit_of part) ≡ is_long_part part
-is_long-unit_of Years h = refl
-is_long-unit_of Months h = absurd (h refl)
-is_long-unit_of Weeks h = refl
-is_long-unit_of Days h = refl
-is_long-unit_of Hours h = refl
-is_long-unit_of Minutes h = refl
-is_long-unit_of Seconds h = refl
-is_long-unit_of Milliseconds h = refl
-is_long-unit_of Microseconds h = refl
-is_long-unit_of Nanoseconds h = refl
-
 -- of letters that are no unit
 pub weight_in-other : (unit : List ℕ) (long : Bool) → ((part : DurationPart) → unit ≢ unit_of part)
     → weight_in unit long ≡ 0

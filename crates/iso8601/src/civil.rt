@@ -47,7 +47,8 @@ fn civil_ordinal(ddd: u32) -> Option<i16>
 
 /// The day of a year.
 fn ordinal_day(year: i32, ddd: u32) -> Option<civil::Date>
-    ensures some { IsSome result ↔ (IsYear year × IsBetween (pos 1) (pos (days_in_year year)) (pos ddd)) }
+    ensures some { IsSome result
+        ↔ (IsYear year × IsBetween (pos 1) (pos (days_in_year year)) (pos ddd)) }
     ensures value { IfSome result (λ civil. (civil.year ≡ year) × (pos (ordinal civil) ≡ pos ddd)) }
 {
     let first = calendar_day(year, 1, 1)?;
@@ -141,8 +142,10 @@ fn total_seconds(hours: i32, minutes: i32) -> i64
 
 /// The seconds of an offset, or `None` exactly where they are those of a day or more.
 fn offset_seconds(hours: i32, minutes: i32) -> Option<i32>
-    ensures some { IsSome result ↔ (unsigned_abs ((pos 3600 *ℤ hours) +ℤ (pos 60 *ℤ minutes)) < 86_400) }
-    ensures value { IfSome result (λ seconds. seconds ≡ (pos 3600 *ℤ hours) +ℤ (pos 60 *ℤ minutes)) }
+    ensures some { IsSome result
+        ↔ (unsigned_abs ((pos 3600 *ℤ hours) +ℤ (pos 60 *ℤ minutes)) < 86_400) }
+    ensures value { IfSome result
+        (λ seconds. seconds ≡ (pos 3600 *ℤ hours) +ℤ (pos 60 *ℤ minutes)) }
 {
     let seconds = total_seconds(hours, minutes);
     if seconds.unsigned_abs() < 86_400 {

@@ -29,7 +29,8 @@ fn field<L: Ledger>(
 ) -> Option<u32>
     requires least { 1 ≤ count }
     requires most { count ≤ 9 }
-    ensures read { IfSome result (λ value. Some (value, ahead scan.new) ≡ read_field count lo hi (ahead scan.old)) }
+    ensures read { IfSome result
+        (λ value. Some (value, ahead scan.new) ≡ read_field count lo hi (ahead scan.old)) }
     ensures none { IfNone result (None ≡ read_field count lo hi (ahead scan.old)) }
     ensures bound { IfSome result (λ value. value ≤ hi) }
     ensures same { scan.new.text ≡ scan.old.text }
@@ -61,7 +62,8 @@ fn marked<L: Ledger>(
 ) -> Option<u32>
     requires least { 1 ≤ count }
     requires most { count ≤ 9 }
-    ensures read { IfSome result (λ value. Some (value, ahead scan.new) ≡ read_marked mark count lo hi (ahead scan.old)) }
+    ensures read { IfSome result
+        (λ value. Some (value, ahead scan.new) ≡ read_marked mark count lo hi (ahead scan.old)) }
     ensures none { IfNone result (None ≡ read_marked mark count lo hi (ahead scan.old)) }
     ensures bound { IfSome result (λ value. value ≤ hi) }
     ensures same { scan.new.text ≡ scan.old.text }
@@ -113,7 +115,8 @@ fn number_in(run: Run) -> Option<u32>
 #[tactic(auto, unfolding(crate::specs::inside::DurationReading::read_perhaps, crate::specs::inside::DurationReading::read_count))]
 fn take<L: Ledger>(unit: u8, run: Run, scan: &mut Scan<'_>, steps: &mut Steps<L>) -> (u32, Run)
     requires { IsBehind run scan.old }
-    ensures taken { (result.0, from_run scan.new.text result.1) ≡ read_perhaps unit (from_run scan.old.text run) }
+    ensures taken { (result.0, from_run scan.new.text result.1)
+        ≡ read_perhaps unit (from_run scan.old.text run) }
     ensures behind { IsBehind result.1 scan.new }
     ensures same { scan.new.text ≡ scan.old.text }
     ensures ticks { steps.new + unseen (ahead scan.new) ≡ steps.old + unseen (ahead scan.old) }
@@ -146,7 +149,8 @@ fn begins_field(scan: &Scan<'_>) -> bool
 #[inline(always)]
 #[tactic(auto, unfolding(crate::specs::inside::TimeReading::read_later))]
 fn later<L: Ledger>(hi: u32, scan: &mut Scan<'_>, steps: &mut Steps<L>) -> Option<u32>
-    ensures read { IfSome result (λ value. (value, ahead scan.new) ≡ read_later hi (ahead scan.old)) }
+    ensures read { IfSome result
+        (λ value. (value, ahead scan.new) ≡ read_later hi (ahead scan.old)) }
     ensures none { IfNone result (IsStuck hi (ahead scan.old)) }
     ensures bound { IfSome result (λ value. value ≤ hi) }
     ensures same { scan.new.text ≡ scan.old.text }
@@ -183,8 +187,11 @@ fn signed<L: Ledger>(
     scan: &mut Scan<'_>,
     steps: &mut Steps<L>,
 ) -> Option<(i32, i32)>
-    ensures read { IfSome result (λ offset. (bytes : List ℕ) → (offset, ahead scan.new) ≡ read_signed negative bytes (ahead scan.old)) }
-    ensures none { IfNone result ((bytes : List ℕ) → bytes ≢ [] → (read_signed negative bytes (ahead scan.old)).1 ≢ []) }
+    ensures read { IfSome result
+        (λ offset. (bytes : List ℕ)
+        → (offset, ahead scan.new) ≡ read_signed negative bytes (ahead scan.old)) }
+    ensures none { IfNone result
+        ((bytes : List ℕ) → bytes ≢ [] → (read_signed negative bytes (ahead scan.old)).1 ≢ []) }
     ensures same { scan.new.text ≡ scan.old.text }
     ensures ticks { steps.new + unseen (ahead scan.new) ≡ steps.old + unseen (ahead scan.old) }
 {
@@ -196,7 +203,8 @@ fn signed<L: Ledger>(
 /// An offset, zeros where no byte that begins one is in front; `None` where something is left that no offset has.
 #[inline(always)]
 fn offset<L: Ledger>(scan: &mut Scan<'_>, steps: &mut Steps<L>) -> Option<(i32, i32)>
-    ensures read { IfSome result (λ offset. (offset, ahead scan.new) ≡ read_offset (ahead scan.old)) }
+    ensures read { IfSome result
+        (λ offset. (offset, ahead scan.new) ≡ read_offset (ahead scan.old)) }
     ensures none { IfNone result ((read_offset (ahead scan.old)).1 ≢ []) }
     ensures same { scan.new.text ≡ scan.old.text }
     ensures ticks { steps.new + unseen (ahead scan.new) ≡ steps.old + unseen (ahead scan.old) }
@@ -217,7 +225,8 @@ fn offset<L: Ledger>(scan: &mut Scan<'_>, steps: &mut Steps<L>) -> Option<(i32, 
 #[inline(always)]
 #[tactic(auto, unfolding(crate::specs::inside::TimeReading::read_time, crate::specs::inside::TimeReading::read_tail))]
 fn time<L: Ledger>(scan: &mut Scan<'_>, steps: &mut Steps<L>) -> Option<Time>
-    ensures read { IfSome result (λ time. Some (time, ahead scan.new) ≡ read_time (ahead scan.old)) }
+    ensures read { IfSome result
+        (λ time. Some (time, ahead scan.new) ≡ read_time (ahead scan.old)) }
     ensures none { IfNone result ((time : Time) → read_time (ahead scan.old) ≢ Some (time, [])) }
     ensures same { scan.new.text ≡ scan.old.text }
     ensures ticks { steps.new + unseen (ahead scan.new) ≡ steps.old + unseen (ahead scan.old) }
@@ -243,7 +252,8 @@ fn time<L: Ledger>(scan: &mut Scan<'_>, steps: &mut Steps<L>) -> Option<Time>
 #[tactic(auto, unfolding(crate::specs::inside::DurationReading::read_seconds))]
 fn seconds<L: Ledger>(run: Run, scan: &mut Scan<'_>, steps: &mut Steps<L>) -> Option<(u32, u32)>
     requires { IsBehind run scan.old }
-    ensures read { IfSome result (λ value. (value, ahead scan.new) ≡ read_seconds (from_run scan.old.text run)) }
+    ensures read { IfSome result
+        (λ value. (value, ahead scan.new) ≡ read_seconds (from_run scan.old.text run)) }
     ensures none { IfNone result ((read_seconds (from_run scan.old.text run)).1 ≢ []) }
     ensures same { scan.new.text ≡ scan.old.text }
     ensures ticks { steps.new + unseen (ahead scan.new) ≡ steps.old + unseen (ahead scan.old) }
@@ -266,7 +276,8 @@ fn seconds<L: Ledger>(run: Run, scan: &mut Scan<'_>, steps: &mut Steps<L>) -> Op
 /// The milliseconds behind a point or a comma, which is passed; `None` exactly where neither is in front.
 #[inline(always)]
 fn point_millis<L: Ledger>(scan: &mut Scan<'_>, steps: &mut Steps<L>) -> Option<u32>
-    ensures some { IfSome result (λ millisecond. IsPointed (ahead scan.old) millisecond (ahead scan.new)) }
+    ensures some { IfSome result
+        (λ millisecond. IsPointed (ahead scan.old) millisecond (ahead scan.new)) }
     ensures none { IfNone result (BeginsNoPoint (ahead scan.old)) }
     ensures same { scan.new.text ≡ scan.old.text }
     ensures ticks { steps.new + unseen (ahead scan.new) ≡ steps.old + unseen (ahead scan.old) }
@@ -283,7 +294,8 @@ fn point_millis<L: Ledger>(scan: &mut Scan<'_>, steps: &mut Steps<L>) -> Option<
 /// The hours, minutes and seconds behind a `T` that was passed; `None` where digits are left that are none of them.
 #[inline(always)]
 fn clock<L: Ledger>(scan: &mut Scan<'_>, steps: &mut Steps<L>) -> Option<(u32, u32, (u32, u32))>
-    ensures read { IfSome result (λ v. ((v.0, (v.1, v.2)), ahead scan.new) ≡ read_clock_counts (ahead scan.old)) }
+    ensures read { IfSome result
+        (λ v. ((v.0, (v.1, v.2)), ahead scan.new) ≡ read_clock_counts (ahead scan.old)) }
     ensures none { IfNone result ((read_clock_counts (ahead scan.old)).1 ≢ []) }
     ensures same { scan.new.text ≡ scan.old.text }
     ensures ticks { steps.new + unseen (ahead scan.new) ≡ steps.old + unseen (ahead scan.old) }
@@ -303,7 +315,8 @@ fn perhaps_clock<L: Ledger>(
     steps: &mut Steps<L>,
 ) -> Option<(u32, u32, (u32, u32))>
     requires { IsBehind run scan.old }
-    ensures read { IfSome result (λ v. ((v.0, (v.1, v.2)), ahead scan.new) ≡ read_clock (from_run scan.old.text run)) }
+    ensures read { IfSome result
+        (λ v. ((v.0, (v.1, v.2)), ahead scan.new) ≡ read_clock (from_run scan.old.text run)) }
     ensures none { IfNone result ((read_clock (from_run scan.old.text run)).1 ≢ []) }
     ensures same { scan.new.text ≡ scan.old.text }
     ensures ticks { steps.new + unseen (ahead scan.new) ≡ steps.old + unseen (ahead scan.old) }
@@ -323,7 +336,8 @@ fn perhaps_clock<L: Ledger>(
 fn counts<L: Ledger>(run: Run, scan: &mut Scan<'_>, steps: &mut Steps<L>) -> Option<Duration>
     requires { IsBehind run scan.old }
     ensures some { IfSome result (λ d. read_counted (from_run scan.old.text run) ≡ Some (d, [])) }
-    ensures none { IfNone result ((d : Duration) → read_counted (from_run scan.old.text run) ≢ Some (d, [])) }
+    ensures none { IfNone result
+        ((d : Duration) → read_counted (from_run scan.old.text run) ≢ Some (d, [])) }
     ensures done { IfSome result (λ d. ahead scan.new ≡ []) }
     ensures same { scan.new.text ≡ scan.old.text }
     ensures ticks { steps.new + unseen (ahead scan.new) ≡ steps.old + unseen (ahead scan.old) }
@@ -378,8 +392,10 @@ fn date_and_time<L: Ledger>(scan: &mut Scan<'_>, steps: &mut Steps<L>) -> Option
 
 /// The date and time that are the whole text behind its first byte; `None` exactly where it is none.
 fn dated<L: Ledger>(text: &Looked<'_>, steps: &mut Steps<L>) -> Option<Duration>
-    ensures some { IfSome result (λ d. (body : List ℕ) → text.now ≡ 80 ∷ body → read_dated body ≡ Some (d, [])) }
-    ensures none { IfNone result ((body : List ℕ) (d : Duration) → text.now ≡ 80 ∷ body → read_dated body ≢ Some (d, [])) }
+    ensures some { IfSome result
+        (λ d. (body : List ℕ) → text.now ≡ 80 ∷ body → read_dated body ≡ Some (d, [])) }
+    ensures none { IfNone result
+        ((body : List ℕ) (d : Duration) → text.now ≡ 80 ∷ body → read_dated body ≢ Some (d, [])) }
     ensures most { steps.new ≤ steps.old + length text.now }
     ensures least { IfSome result (λ d. steps.old + length text.now ≤ steps.new) }
 {
@@ -406,7 +422,8 @@ fn body<L: Ledger>(run: Run, scan: &mut Scan<'_>, steps: &mut Steps<L>) -> Optio
     requires behind { IsBehind run scan.old }
     requires start { scan.old.text ≡ 80 ∷ from_run scan.old.text run }
     ensures some { IfSome result (λ d. read_body (from_run scan.old.text run) ≡ Some (d, [])) }
-    ensures none { IfNone result ((d : Duration) → read_body (from_run scan.old.text run) ≢ Some (d, [])) }
+    ensures none { IfNone result
+        ((d : Duration) → read_body (from_run scan.old.text run) ≢ Some (d, [])) }
     ensures most { steps.new ≤ steps.old + unseen (ahead scan.old) + length scan.old.text }
     ensures least { IfSome result (λ d. steps.old + unseen (ahead scan.old) ≤ steps.new) }
 {

@@ -54,7 +54,8 @@ fn push_seconds(out: &mut Short, second: u32, millisecond: u32)
 #[tactic(auto, unfolding(crate::specs::WrittenDurations::clock_counts_text))]
 fn push_clock(out: &mut Short, hour: u32, minute: u32, second: u32, millisecond: u32)
     requires { array_string_len out.old + 45 ≤ 128 }
-    ensures bytes { out.new.bytes ≡ out.old.bytes ++ clock_counts_text hour minute second millisecond }
+    ensures bytes { out.new.bytes
+        ≡ out.old.bytes ++ clock_counts_text hour minute second millisecond }
     ensures len { array_string_len out.new ≤ array_string_len out.old + 45 }
 {
     if hour == 0 && minute == 0 && second == 0 && millisecond == 0 {

@@ -21,8 +21,10 @@ ghost use Rattle.iso8601.specs.declared.types.Time.{Time};
 pub fn a_text_has_one_value()
     ensures date { (text : List ℕ) (a b : Date) → IsDate text a → IsDate text b → a ≡ b }
     ensures time { (text : List ℕ) (a b : Time) → IsTime text a → IsTime text b → a ≡ b }
-    ensures date_time { (text : List ℕ) (a b : DateTime) → IsDateTime text a → IsDateTime text b → a ≡ b }
-    ensures duration { (text : List ℕ) (a b : Duration) → IsDuration text a → IsDuration text b → a ≡ b }
+    ensures date_time { (text : List ℕ) (a b : DateTime) → IsDateTime text a → IsDateTime text b
+        → a ≡ b }
+    ensures duration { (text : List ℕ) (a b : Duration) → IsDuration text a → IsDuration text b
+        → a ≡ b }
 {}
 
 /// The written text of a value in range is in the grammar, with this value.
@@ -53,7 +55,8 @@ pub fn a_written_text_is_read_back()
 /// nearest to 1 January. The civil days are those from -4371587 to 2932896.
 pub fn years_and_weeks_follow_each_other()
     ensures epoch { new_year (pos 1970) ≡ pos 0 }
-    ensures next { (year : ℤ) → new_year (year +ℤ pos 1) ≡ new_year year +ℤ pos (days_in_year year) }
+    ensures next { (year : ℤ)
+        → new_year (year +ℤ pos 1) ≡ new_year year +ℤ pos (days_in_year year) }
     ensures monday { (year : ℤ) → after_monday (week_one year) ≡ pos 0 }
     ensures near { (year : ℤ) → (new_year year ≤ℤ (week_one year +ℤ pos 3))
         × (week_one year ≤ℤ (new_year year +ℤ pos 3)) }

@@ -85,7 +85,9 @@ fn push_date(out: &mut Short, date: Date)
 #[tactic(auto, unfolding(crate::specs::Written::clock_text))]
 fn push_clock(out: &mut Short, time: &Time)
     requires { array_string_len out.old + 43 ≤ 128 }
-    ensures bytes { out.new.bytes ≡ out.old.bytes ++ clock_text time.now.hour time.now.minute time.now.second time.now.millisecond }
+    ensures bytes { out.new.bytes
+        ≡ out.old.bytes
+        ++ clock_text time.now.hour time.now.minute time.now.second time.now.millisecond }
     ensures len { array_string_len out.new ≤ array_string_len out.old + 43 }
 {
     push_digits(out, time.hour, 2);

@@ -18,7 +18,8 @@ fn read_second(bytes: &[u8]) -> Result<(Option<Field>, &[u8]), DatetimeParseErro
     ensures there { IfOk result (λ r. is_some r.0 ≡ is_some (marked (codes ":") bytes.now)) }
     ensures two { IfOk result (λ r.
         where_there (λ f. f.is_two) r.0 ≡ where_there (has_length 2) (marked (codes ":") bytes.now)) }
-    ensures number { IfOk result (λ r. where_there (has_length 2) (marked (codes ":") bytes.now) ≡ true
+    ensures number { IfOk result
+        (λ r. where_there (has_length 2) (marked (codes ":") bytes.now) ≡ true
         → option_map (λ f. f.number) r.0 ≡ option_map number_of (marked (codes ":") bytes.now)) }
     ensures rest { IfOk result (λ r. r.1.now ≡ after_marked (codes ":") bytes.now) }
     ensures isnt { IfErr result (λ e.

@@ -16,9 +16,6 @@ use Rattle.scan_core.specs.Digits.{AreDigits, number_of}
 pub digit_is : (ds : List ℕ) (i : ℕ) → AreDigits ds → i < length ds → digit_value (get_or ds i 0) + 48 ≡ get_or ds i 0
 digit_is ds i all h = digit_value_digit (get_or ds i 0) (digit_at ds i all h)
 
-pub digit_value-lt : (ds : List ℕ) (i : ℕ) → AreDigits ds → i < length ds → digit_value (get_or ds i 0) < 10
-digit_value-lt ds i all h = let v = digit_value (get_or ds i 0) in omega (arith, digit_is ds i all h, (digit_at ds i all h).1)
-
 pub digit_is_alone : (d : ℕ) → digit_value d < 10 → digit_value d + 48 ≡ d
 digit_is_alone d h = digit_value_digit d (digit_from_value d h)
 

@@ -79,6 +79,3 @@ front_are_digits bytes = digits_from_all (front_digits bytes) (leading_passes is
 
 pub front_and_after : (bytes : List ℕ) → front_digits bytes ++ after_digits bytes ≡ bytes
 front_and_after bytes = leading_and_behind is_ascii_digit bytes
-
-pub after_no_digit : (bytes : List ℕ) → NoDigitFirst (after_digits bytes)
-after_no_digit bytes = behind_without is_ascii_digit bytes

@@ -91,14 +91,6 @@ fits_64 Months negative n h = omega (arith, bound_32 negative n h)
 fits_64 Days negative n h = omega (arith, bound_32 negative n h)
 fits_64 Micros negative n h = omega (arith, bound_64 negative n h)
 
--- the whole units of a count whose main part fits are below 2^64
-pub whole_below : (c : Count) → fits_type (main_part c.unit) (share (main_part c.unit) c) ≡ true → number_of c.whole < 2 ^ 64
-whole_below c h =
-    let w = number_of c.whole in
-    let r = rounded (scale_of c.unit) c.fraction in
-    let n = magnitude (main_part c.unit) c.unit w r in
-    omega (arith, whole-le c.unit w r, fits_64 (main_part c.unit) c.negative n h)
-
 -- ---- the parts above the main one are 0
 
 zero_signed : (negative : Bool) → signed negative 0 ≡ pos 0
@@ -120,9 +112,3 @@ no_days Day negative w r micros = cc
 no_days Hour negative w r micros = zero_signed negative
 no_days Minute negative w r micros = zero_signed negative
 no_days Second negative w r micros = zero_signed negative
-
-pub months_zero : (c : Count) → main_part c.unit ≢ Months → share Months c ≡ pos 0
-months_zero c other = no_months c.unit c.negative (number_of c.whole) (rounded (scale_of c.unit) c.fraction) other
-
-pub days_zero : (c : Count) → main_part c.unit ≡ Micros → share Days c ≡ pos 0
-days_zero c micros = no_days c.unit c.negative (number_of c.whole) (rounded (scale_of c.unit) c.fraction) micros

@@ -7,7 +7,7 @@ use Rattle.std.specs.List.{list_all}
 use Rattle.std.specs.Prelude.{ℤ, ◌+ℤ◌, ◌↔◌}
 use Rattle.scan_core.specs.Count.{Count}
 use Rattle.scan_core.specs.Shares.{fits_type, share}
-use Rattle.scan_core.specs.Sums.{Added, first_false, first_sum_out, fits, misfit, part_fits, total}
+use Rattle.scan_core.specs.Sums.{first_false, fits, misfit, part_fits, total}
 use Rattle.scan_core.specs.declared.share.Part.{Part}
 use Rattle.scan_core.specs.declared.share.Part.TheVariants.{Days, Micros, Months}
 
@@ -62,14 +62,3 @@ first_false_at test true true true part a b c e = cc
 -- the part that is named doesn't fit
 pub first_false-some : (test : Part → Bool) (part : Part) → first_false (test Months) (test Days) (test Micros) ≡ Some part → test part ≡ false
 first_false-some test part e = first_false_at test (test Months) (test Days) (test Micros) part refl refl refl e
-
-pub misfit-some : (counts : List Count) (part : Part) → misfit counts ≡ Some part → part_fits part counts ≡ false
-misfit-some counts part e = first_false-some (λ part. part_fits part counts) part e
-
--- where each share fits, the first part that doesn't is the first sum
-pub misfit-sums : (counts : List Count) (sums : Added) → sums.months ≡ total Months counts → sums.days ≡ total Days counts → sums.micros ≡ total Micros counts → ((part : Part) → each_fits part counts ≡ true) → misfit counts ≡ first_sum_out sums
-misfit-sums counts sums months days micros each =
-    misfit-from counts (fits_type Months sums.months) (fits_type Days sums.days) (fits_type Micros sums.micros)
-    (sym (part_fits-from Months counts true sums.months (sym (each Months)) months))
-    (sym (part_fits-from Days counts true sums.days (sym (each Days)) days))
-    (sym (part_fits-from Micros counts true sums.micros (sym (each Micros)) micros))

@@ -1,14 +1,13 @@
 -- Digits without the zeros at their end: zeros fill them up to all the digits, and as a fraction they are the same number.
-use Rattle.std.proofs.Common.{◌≡◌, ◌≢◌, ℕ, zero, suc, ◌+◌, ◌-◌, ◌*◌, ◌/◌, ◌%◌, ◌^◌, ◌<◌, ◌≤◌, ◌==◌, ◌⊎◌, inl, inr, Bool, true, false, cond, List, [], ◌∷◌, ◌++◌, length, decimal, replicate, max, length-append, append-nil, refl, sym, ◌∙◌, ap, subst, arith}
+use Rattle.std.proofs.Common.{◌≡◌, ◌≢◌, ℕ, zero, suc, ◌+◌, ◌-◌, ◌*◌, ◌/◌, ◌%◌, ◌^◌, ◌<◌, ◌==◌, inl, inr, Bool, true, false, cond, List, [], ◌∷◌, ◌++◌, length, replicate, append-nil, refl, sym, ◌∙◌, ap, subst, arith}
 use Rattle.std.proofs.Math.Nat.{div-div-eq-div-mul, mul-div_cancel_left, pow-suc}
 use Rattle.std.proofs.lemmas.Bool.{cases_lt}
 use Rattle.std.proofs.lemmas.Bool.Decides.{nat_tests}
 use Rattle.scan_core.specs.Digits.{AreDigits, number_of}
 use Rattle.scan_core.specs.Padded.{padded, onto_trimmed, trimmed}
 use Rattle.scan_core.specs.Shares.{rounded}
-use Rattle.scan_core.proofs.DigitFacts.{digits_left, digits-zeros, number_of-append, number_of-zeros}
-use Rattle.scan_core.proofs.PaddedFacts.{length-zeros, length-padded, digits-padded, number_of-padded, length_one_more, padded_some, padded_more, padded_digit}
-use Rattle.scan_core.proofs.RoundingFacts.{power-pos}
+use Rattle.scan_core.proofs.DigitFacts.{digits_left, number_of-append, number_of-zeros}
+use Rattle.scan_core.proofs.PaddedFacts.{number_of-padded, length_one_more, padded_more, padded_digit}
 
 -- ---- a digit at the end
 
@@ -85,11 +84,6 @@ trimmed_fills (b ∷ bs) = let r = trimmed_fills bs in onto_fills b r.0 (trimmed
 
 pub digits-trimmed : (ds : List ℕ) → AreDigits ds → AreDigits (trimmed ds)
 digits-trimmed ds are = let fills = trimmed_fills ds in digits_left (trimmed ds) (replicate fills.0 48) (subst AreDigits fills.1 are)
-
-pub length-trimmed : (ds : List ℕ) → length (trimmed ds) ≤ length ds
-length-trimmed ds =
-    let fills = trimmed_fills ds in
-    let whole = ap length fills.1 ∙ length-append (trimmed ds) (replicate fills.0 48) in omega (arith, whole)
 
 some_left : (n k : ℕ) (text ds : List ℕ) → number_of ds ≡ n → 0 < n → ds ≡ text ++ replicate k 48 → 0 < length text
 some_left n k [] ds is some e =

@@ -10,5 +10,4 @@ pub mod Sums
 pub mod Padded
 pub mod Scanning
 pub mod Runs
-pub mod Bounds
 pub mod inside

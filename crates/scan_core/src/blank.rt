@@ -1,3 +1,4 @@
+//! Blanks.
 ghost use Rattle.std.specs.Prelude.{◌≡◌};
 ghost use Rattle.scan_core.specs.Blanks.{is_blank};
 

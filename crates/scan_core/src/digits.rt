@@ -1,3 +1,4 @@
+//! The numbers that digits write.
 ghost use Rattle.std.specs.Prelude.{◌≡◌, ◌<◌, ◌≤◌, ◌^◌, ◌↔◌, length, take, IsTrue, IsSome, IfSome};
 ghost use Rattle.scan_core.specs.Digits.{AreDigits, number_of};
 

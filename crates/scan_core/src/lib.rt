@@ -8,6 +8,7 @@
 mod blank;
 mod digits;
 mod front;
+pub mod laws;
 mod looked;
 mod looked_digits;
 mod rounding;

@@ -1,3 +1,4 @@
+//! A fraction in the next smaller unit, rounded.
 ghost use Rattle.std.specs.Prelude.{◌≡◌, ◌+◌, ◌*◌, ◌/◌, ◌^◌, ◌<◌, ◌≤◌, length};
 ghost use Rattle.std.specs.Char.{digit_value};
 ghost use Rattle.scan_core.specs.Digits.{AreDigits, number_of};

@@ -94,8 +94,11 @@ impl<'a> Scan<'a> {
     /// The digit in front, which is passed, unless no more are to be.
     #[inline(always)]
     fn next_of_digits<L: Ledger>(&mut self, left: usize, steps: &mut Steps<L>) -> Option<u8>
-        ensures some { IfSome result (λ digit. (0 < left) × (is_ascii_digit digit ≡ true) × Passes (digit ∷ []) self.old self.new) }
-        ensures none { IfNone result (((left ≡ 0) ⊎ (front_digits (ahead self.old) ≡ [])) × (self.new ≡ self.old)) }
+        ensures some { IfSome result
+            (λ digit. (0 < left) × (is_ascii_digit digit ≡ true)
+            × Passes (digit ∷ []) self.old self.new) }
+        ensures none { IfNone result
+            (((left ≡ 0) ⊎ (front_digits (ahead self.old) ≡ [])) × (self.new ≡ self.old)) }
         ensures ticks { steps.new + unseen (ahead self.new) ≡ steps.old + unseen (ahead self.old) }
     {
         if left == 0 {
@@ -142,7 +145,8 @@ impl<'a> Scan<'a> {
     #[inline(always)]
     pub fn letters<L: Ledger>(&mut self, steps: &mut Steps<L>) -> Word
         ensures word { IsWord self.new.text result }
-        ensures front { letters_of self.new.text result ≡ leading is_ascii_alphabetic (ahead self.old) }
+        ensures front { letters_of self.new.text result
+            ≡ leading is_ascii_alphabetic (ahead self.old) }
         ensures rest { ahead self.new ≡ behind is_ascii_alphabetic (ahead self.old) }
         ensures passed { Passes (leading is_ascii_alphabetic (ahead self.old)) self.old self.new }
         ensures start { result.start ≡ self.old.at }

@@ -136,7 +136,8 @@ impl<'a> Scan<'a> {
     #[inline(always)]
     pub fn next_if<L: Ledger>(&mut self, byte: u8, steps: &mut Steps<L>) -> bool
         ensures passed { result ≡ true → Passes (byte ∷ []) self.old self.new }
-        ensures other { result ≡ false → (self.new ≡ self.old) × (front_byte (ahead self.old) ≢ Some byte) }
+        ensures other { result ≡ false
+            → (self.new ≡ self.old) × (front_byte (ahead self.old) ≢ Some byte) }
         ensures ticks { steps.new + unseen (ahead self.new) ≡ steps.old + unseen (ahead self.old) }
     {
         match self.peek() {
@@ -151,8 +152,10 @@ impl<'a> Scan<'a> {
     /// The byte in front where it is of the class; it is passed then.
     #[inline(always)]
     pub(crate) fn next_in<L: Ledger>(&mut self, class: Class, steps: &mut Steps<L>) -> Option<u8>
-        ensures some { IfSome result (λ byte. (has_byte class byte ≡ true) × Passes (byte ∷ []) self.old self.new) }
-        ensures none { IfNone result ((leading (has_byte class) (ahead self.old) ≡ []) × (self.new ≡ self.old)) }
+        ensures some { IfSome result
+            (λ byte. (has_byte class byte ≡ true) × Passes (byte ∷ []) self.old self.new) }
+        ensures none { IfNone result
+            ((leading (has_byte class) (ahead self.old) ≡ []) × (self.new ≡ self.old)) }
         ensures ticks { steps.new + unseen (ahead self.new) ≡ steps.old + unseen (ahead self.old) }
     {
         match self.peek() {

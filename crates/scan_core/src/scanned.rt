@@ -28,7 +28,8 @@ pub fn add_scanned<L: Ledger>(
     requires whole { IsRun text.now whole }
     requires fraction { IsRun text.now fraction }
     requires room { totals.old.adds < 2 ^ 63 }
-    ensures fits { IsTrue result ↔ IsTrue (has_share (count_in text.now negative whole fraction unit)) }
+    ensures fits { IsTrue result
+        ↔ IsTrue (has_share (count_in text.now negative whole fraction unit)) }
     ensures months { IsTrue result →
         totals.new.months ≡ totals.old.months +ℤ share Months (count_in text.now negative whole fraction unit) }
     ensures days { IsTrue result →

@@ -1,3 +1,4 @@
+//! Units of time, and the share of an interval that a count of one has.
 ghost use Rattle.std.specs.Prelude.{◌≡◌, ◌+◌, ◌*◌, ◌<◌, ◌≤◌, ◌^◌, ◌↔◌, IsTrue, IsSome, IfSome};
 ghost use Rattle.scan_core.specs.Digits.{AreDigits};
 ghost use Rattle.scan_core.specs.Count.{count_of};
@@ -74,9 +75,12 @@ pub(crate) fn share_of(negative: bool, whole: u64, next: u64, unit: Unit) -> Opt
     requires { next ≤ scale_of unit }
     ensures fits { IsSome result
         ↔ IsTrue (fits_type (main_part unit) (signed negative (magnitude (main_part unit) unit whole next))) }
-    ensures months { IfSome result (λ given. given.months ≡ signed negative (magnitude Months unit whole next)) }
-    ensures days { IfSome result (λ given. given.days ≡ signed negative (magnitude Days unit whole next)) }
-    ensures micros { IfSome result (λ given. given.micros ≡ signed negative (magnitude Micros unit whole next)) }
+    ensures months { IfSome result
+        (λ given. given.months ≡ signed negative (magnitude Months unit whole next)) }
+    ensures days { IfSome result
+        (λ given. given.days ≡ signed negative (magnitude Days unit whole next)) }
+    ensures micros { IfSome result
+        (λ given. given.micros ≡ signed negative (magnitude Micros unit whole next)) }
 {
     let mut share = Share {
         months: 0,

@@ -1,3 +1,4 @@
+//! Short texts, and what is appended to them.
 ghost use Rattle.std.specs.Prelude.{◌≡◌, ◌+◌, ◌-◌, ◌<◌, ◌≤◌, ◌++◌, length, decimal, replicate, max};
 ghost use Rattle.arrayvec.specs.ArrayString.{array_string_len};
 ghost use Rattle.scan_core.specs.Padded.{padded, trimmed};
@@ -30,8 +31,10 @@ pub fn push_num(out: &mut Short, value: u64)
 pub fn push_padded(out: &mut Short, value: u64, width: usize)
     requires width { width ≤ 20 }
     requires room { array_string_len out.old + max width (length (decimal value)) ≤ 128 }
-    ensures bytes { out.new.bytes ≡ out.old.bytes ++ (replicate (width - length (decimal value)) 48 ++ decimal value) }
-    ensures len { array_string_len out.new ≡ array_string_len out.old + max width (length (decimal value)) }
+    ensures bytes { out.new.bytes
+        ≡ out.old.bytes ++ (replicate (width - length (decimal value)) 48 ++ decimal value) }
+    ensures len { array_string_len out.new
+        ≡ array_string_len out.old + max width (length (decimal value)) }
 {
     let mut buffer = Buffer::new();
     let digits = buffer.format(value);
@@ -63,7 +66,8 @@ pub fn push_trimmed(out: &mut Short, value: u64, width: usize)
     requires width { width ≤ 20 }
     requires room { array_string_len out.old + max width (length (decimal value)) ≤ 128 }
     ensures bytes { out.new.bytes ≡ out.old.bytes ++ trimmed (padded width value) }
-    ensures len { array_string_len out.new ≤ array_string_len out.old + max width (length (decimal value)) }
+    ensures len { array_string_len out.new
+        ≤ array_string_len out.old + max width (length (decimal value)) }
 {
     if value != 0 {
         let (left, places) = without_zeros(value, width);

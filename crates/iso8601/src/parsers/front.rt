@@ -39,7 +39,8 @@ pub(crate) fn split_marked(
 ) -> Option<(u32, &[u8])>
     requires least { 1 ≤ count }
     requires most { count ≤ 9 }
-    ensures field { option_map (λ r. (r.0, r.1.now)) result ≡ read_marked mark count lo hi bytes.now }
+    ensures field { option_map (λ r. (r.0, r.1.now)) result
+        ≡ read_marked mark count lo hi bytes.now }
     ensures bound { IfSome result (λ r. r.0 ≤ hi) }
 {
     split_field(after(mark, bytes), count, lo, hi)

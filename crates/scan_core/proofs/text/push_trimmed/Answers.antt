@@ -1,5 +1,4 @@
-use Rattle.std.proofs.Common.{ℕ, List, ◌++◌, sym, ◌∙◌, ap, append-nil, arith}
-use Rattle.scan_core.specs.Padded.{padded, trimmed}
+use Rattle.std.proofs.Common.{sym, append-nil}
 use Rattle.scan_core.proofs.TrimmedFacts.{trimmed_nothing}
 use Rattle.scan_core.proofs.text.push_trimmed.Goals as goal
 
