@@ -1,5 +1,5 @@
 //! Durations of ISO 8601 as a form.
-ghost use Rattle.std.specs.Prelude.{◌≡◌, ◌^◌, ◌<◌, ◌≤◌, pos, IfOk};
+ghost use Rattle.std.specs.Prelude.{◌≡◌, ◌/◌, ◌^◌, ◌<◌, ◌≤◌, pos, IfOk};
 ghost use Rattle.arrayvec.specs.ArrayString.{array_string_len};
 ghost use Rattle.forms.specs.declared.form.Form.{Form as AnyForm};
 ghost use Rattle.forms.specs.Answers.{bytes_of};
@@ -108,7 +108,13 @@ fn duration_for(value: Value) -> Result<Duration, Cause>
 fn held_triple(months: i64, days: i64, micros: i64) -> Result<Duration, Cause>
     ensures { result ≡ held_triple months days micros }
 {
-    if months < 0 || days < 0 || micros < 0 {
+    if months < 0 {
+        return Err(Cause::Range);
+    }
+    if days < 0 {
+        return Err(Cause::Range);
+    }
+    if micros < 0 {
         return Err(Cause::Range);
     }
     counts_of(
@@ -123,7 +129,13 @@ fn counts_of(months: u64, days: u64, micros: u64) -> Result<Duration, Cause>
     ensures { result ≡ counts_of months days micros }
 {
     let most = u32::MAX as u64;
-    if months / 12 > most || days > most || micros / 3_600_000_000 > most {
+    if months / 12 > most {
+        return Err(Cause::Range);
+    }
+    if days > most {
+        return Err(Cause::Range);
+    }
+    if micros / 3_600_000_000 > most {
         return Err(Cause::Range);
     }
     if micros % 1000 != 0 {

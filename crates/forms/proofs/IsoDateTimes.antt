@@ -1,0 +1,219 @@
+-- Date-times of ISO 8601 as a form: their moments, and that the text of a moment is short and read back.
+use Rattle.std.proofs.Common.{◌≡◌, ℕ, ◌+◌, ◌*◌, ◌/◌, ◌%◌, ◌^◌, ◌<◌, ◌≤◌, ◌==◌, Bool, true, false, List, ◌++◌, codes, length, Result, Ok, Err, refl, sym, ◌∙◌, ap, subst, inl, inr, length-append, arith}
+use Rattle.std.specs.Prelude.{ℤ, pos, ◌+ℤ◌, ◌-ℤ◌, ◌*ℤ◌, unsigned_abs}
+use Rattle.std.specs.Int.{is_negative}
+use Rattle.std.proofs.lemmas.Bool.Decides.{nat_tests}
+use Rattle.std.proofs.lemmas.Fmt.{length-decimal-le}
+use Rattle.std.proofs.lemmas.Int.{ints}
+use Rattle.jiff_core.specs.Calendar.{IsYear, IsEpochDay}
+use Rattle.jiff_core.specs.DateTime.{civil_nanos, IsCivilNanos}
+use Rattle.jiff_core.specs.Time.{time_nanos}
+use Rattle.jiff_core.specs.declared.civil.datetime.DateTime.{DateTime as CivilDateTime}
+use Rattle.jiff_core.proofs.DateLemmas.{epoch_day_injective}
+use Rattle.jiff_core.proofs.DateTimeLemmas.{time_nanos_injective, civil_nanos-parts, civil_nanos_range, civil_nanos_injective}
+use Rattle.scan_core.specs.Padded.{padded}
+use Rattle.scan_core.proofs.PaddedFacts.{length-padded}
+use Rattle.iso8601.specs.Calendar.{day_of, IsCivilDay}
+use Rattle.iso8601.specs.DateTimes.{IsDateTime}
+use Rattle.iso8601.specs.Moments.{IsMoment, IsMomentOf, offset_of}
+use Rattle.iso8601.specs.Ranges.{IsDateTimeInRange, HaveOneSign}
+use Rattle.iso8601.specs.Written.{minus, year_text, date_text, clock_text, two_wide, offset_text, time_text, date_time_text}
+use Rattle.iso8601.specs.declared.types.Date.TheVariants.{YMD}
+use Rattle.iso8601.specs.declared.types.DateTime.{DateTime}
+use Rattle.iso8601.specs.declared.types.FixedMoment.{FixedMoment}
+use Rattle.forms.specs.declared.cause.Cause.{Cause}
+use Rattle.forms.specs.declared.cause.Cause.TheVariants.{NoSuchMoment, Range, Kind, Precision}
+use Rattle.forms.specs.declared.form.Form.TheVariants.{IsoDateTime}
+use Rattle.forms.specs.declared.value.Value.{Value}
+use Rattle.forms.specs.declared.value.Value.TheVariants.{Instant, Day, Local, Clock, Triple, Length}
+use Rattle.forms.specs.Values.{IsWithinBounds}
+use Rattle.forms.specs.form.IsoDate.{date_of}
+use Rattle.forms.specs.form.IsoDateTime.{Spells, clock_of, instant_of, IsReal, Worth, utc, in_millis, Holds}
+use Rattle.forms.specs.inside.Lawful.{Lawful}
+use Rattle.forms.proofs.IsoDates.{AreCalendarDates, date_in_range, is_civil_day, civil_bounds}
+use Rattle.forms.proofs.Judging.{one_judged, judged_within}
+use Rattle.forms.proofs.Lawful.{then_ok, same_ok, IsHeldBack, lawful_by}
+
+-- ---- reading
+
+clock_same : (hour minute second millis n : ℕ) → n ≡ 1_000_000 * millis → ((hour * 60 + minute) * 60 + second) * 1_000_000_000 + millis * 1_000_000 ≡ (hour * 3600 + minute * 60 + second) * 1_000_000_000 + n
+clock_same hour minute second millis n e = omega arith
+
+-- the moment of a civil date-time and its offset
+pub moment_value : (t : DateTime) (m : FixedMoment) → IsMomentOf t m → civil_nanos m.local -ℤ m.offset_seconds *ℤ pos 1_000_000_000 ≡ instant_of t
+moment_value t m h =
+    let parts = civil_nanos-parts m.local in
+    let day = h.0 in
+    let clock = h.1 in
+    let offset = h.2 in
+    let times : time_nanos m.local.time ≡ clock_of t.time = rw (clock.0, clock.1, clock.2) (sym (clock_same t.time.hour t.time.minute t.time.second t.time.millisecond m.local.time.subsec_nanosecond clock.3)) in
+    omega (arith, ints)
+
+pub is_worth : (t : DateTime) (m : FixedMoment) → IsMoment t → IsMomentOf t m → Worth t (Ok (Instant (civil_nanos m.local -ℤ m.offset_seconds *ℤ pos 1_000_000_000)))
+is_worth t m real of = inl (record { day = real.0; clock = real.2; offset = real.3 }, real.1, ap (λ (z : ℤ). Ok (Instant z)) (moment_value t m of))
+
+pub is_unreal : (t : DateTime) → (IsReal t → ⊥) → Worth t (Err NoSuchMoment)
+is_unreal t isnt = inr (inl (isnt, refl))
+
+pub is_out : (t : DateTime) → IsReal t → (IsMoment t → ⊥) → Worth t (Err Range)
+is_out t real isnt = inr (inr (real, (λ day. isnt (real.day, day, real.clock, real.offset)), refl))
+
+-- ---- the text is short
+
+joined : (xs ys : List ℕ) (a b : ℕ) → length xs ≤ a → length ys ≤ b → length (xs ++ ys) ≤ a + b
+joined xs ys a b h k = let sum = length-append xs ys in omega arith
+
+small : (width n : ℕ) → width ≤ 4 → n < 10 ^ 4 → length (padded width n) ≤ 4
+small width n w h = let digits = length-decimal-le 4 n (omega arith) h (omega arith) in let long = length-padded width n in omega arith
+
+minus_short : (negative : Bool) → length (minus negative) ≤ 1
+unfolding minus
+minus_short true = omega arith
+minus_short false = omega arith
+
+year_short : (year : ℤ) → unsigned_abs year ≤ 9999 → length (year_text year) ≤ 5
+unfolding year_text
+year_short year h = joined (minus (is_negative year)) (padded 4 (unsigned_abs year)) 1 4 (minus_short (is_negative year)) (small 4 (unsigned_abs year) (omega arith) (omega arith))
+
+date_short : (year : ℤ) (month day : ℕ) → unsigned_abs year ≤ 9999 → month < 10 ^ 4 → day < 10 ^ 4 → length (date_text (YMD year month day)) ≤ 15
+unfolding date_text
+date_short year month day y m d =
+    joined (year_text year) _ 5 10 (year_short year y) (joined (codes "-") _ 1 9 (omega arith) (joined (padded 2 month) _ 4 5 (small 2 month (omega arith) m) (joined (codes "-") (padded 2 day) 1 4 (omega arith) (small 2 day (omega arith) d))))
+
+clock_short : (hour minute second millis : ℕ) → hour < 10 ^ 4 → minute < 10 ^ 4 → second < 10 ^ 4 → millis < 10 ^ 4 → length (clock_text hour minute second millis) ≤ 19
+unfolding clock_text
+clock_short hour minute second millis h m s f =
+    joined (padded 2 hour) _ 4 15 (small 2 hour (omega arith) h)
+    (joined (codes ":") _ 1 14 (omega arith)
+    (joined (padded 2 minute) _ 4 10 (small 2 minute (omega arith) m)
+    (joined (codes ":") _ 1 9 (omega arith)
+    (joined (padded 2 second) _ 4 5 (small 2 second (omega arith) s) (joined (codes ".") (padded 3 millis) 1 4 (omega arith) (small 3 millis (omega arith) f))))))
+
+offset_short : length (offset_text (pos 0) (pos 0)) ≤ 10
+unfolding offset_text two_wide
+offset_short = joined (codes "+") _ 1 9 (omega arith) (joined (padded 2 0) _ 4 5 (small 2 0 (omega arith) (omega arith)) (joined (codes ":") (padded 2 0) 1 4 (omega arith) (small 2 0 (omega arith) (omega arith))))
+
+pub short_text : (c : CivilDateTime) → length (date_time_text (utc c)) ≤ 96
+unfolding date_time_text time_text
+short_text c =
+    let year : IsYear c.date.year = c.date.year_in in
+    let month = c.date.month_in.1 in
+    let day = (date_in_range c.date).4 in
+    let hour = c.time.hour_in in
+    let minute = c.time.minute_in in
+    let second = c.time.second_in in
+    let subsec = c.time.subsec_in in
+    let date = date_short c.date.year c.date.month c.date.day (omega (arith, ints)) (omega arith) (omega arith) in
+    let clock = clock_short c.time.hour c.time.minute c.time.second (c.time.subsec_nanosecond / 1_000_000) (omega arith) (omega arith) (omega arith) (omega arith) in
+    let time = joined (clock_text c.time.hour c.time.minute c.time.second (c.time.subsec_nanosecond / 1_000_000)) (offset_text (pos 0) (pos 0)) 19 10 clock offset_short in
+    let rest : length (codes "T" ++ time_text (utc c).time) ≤ 1 + (19 + 10) = joined (codes "T") (time_text (utc c).time) 1 (19 + 10) (omega arith) time in
+    let whole : length (date_time_text (utc c)) ≤ 15 + (1 + (19 + 10)) = joined (date_text (date_of c.date)) (codes "T" ++ time_text (utc c).time) 15 (1 + (19 + 10)) date rest in
+    omega arith
+
+-- ---- writing
+
+pub whole_millis : (c : CivilDateTime) → c.time.subsec_nanosecond % 1_000_000 ≡ 0 → in_millis c ≡ Ok (utc c)
+unfolding in_millis
+whole_millis c e = rw e refl
+
+pub part_millis : (c : CivilDateTime) → (c.time.subsec_nanosecond % 1_000_000 ≡ 0 → ⊥) → in_millis c ≡ Err Precision
+unfolding in_millis
+part_millis c isnt = let test : (c.time.subsec_nanosecond % 1_000_000 == 0) ≡ false = grind (arith, nat_tests) in rw test refl
+
+pub no_civil : (nanos : ℤ) → (IsCivilNanos nanos → ⊥) → Holds (Instant nanos) (Err Range)
+no_civil nanos isnt = inr (isnt, refl)
+
+
+same_millis : (a b : CivilDateTime) → civil_nanos a ≡ civil_nanos b → in_millis a ≡ in_millis b
+unfolding in_millis
+same_millis a b e =
+    let both = civil_nanos_injective a b e in
+    let date = epoch_day_injective a.date b.date both.0 in
+    let time = time_nanos_injective a.time b.time both.1 in
+    rw (date.0, date.1, date.2, time.0, time.1, time.2, time.3) refl
+
+one_held : (value : Value) (a b : Result DateTime Cause) → Holds value a → Holds value b → a ≡ b
+one_held (Instant nanos) a b (inl h) (inl k) = h.2 ∙ (same_millis h.0 k.0 (h.1 ∙ sym k.1) ∙ sym k.2)
+one_held (Instant nanos) a b (inl h) (inr k) = absurd (k.0 (subst IsCivilNanos h.1 (civil_nanos_range h.0)))
+one_held (Instant nanos) a b (inr h) (inl k) = absurd (h.0 (subst IsCivilNanos k.1 (civil_nanos_range k.0)))
+one_held (Instant nanos) a b (inr h) (inr k) = h.1 ∙ sym k.1
+one_held (Day day) a b h k = h ∙ sym k
+one_held (Local day nanos) a b h k = h ∙ sym k
+one_held (Clock nanos) a b h k = h ∙ sym k
+one_held (Triple months days micros) a b h k = h ∙ sym k
+one_held (Length nanos) a b h k = h ∙ sym k
+
+-- ---- the laws
+
+in_millis_held : (c : CivilDateTime) (t : DateTime) → in_millis c ≡ Ok t → (c.time.subsec_nanosecond % 1_000_000 ≡ 0) × (utc c ≡ t)
+unfolding in_millis
+in_millis_held c t h =
+    let parts = then_ok (c.time.subsec_nanosecond % 1_000_000 == 0) (Ok (utc c)) t Precision h in
+    let whole : c.time.subsec_nanosecond % 1_000_000 ≡ 0 = let e = parts.0 in grind (arith, nat_tests) in
+    (whole, same_ok (utc c) t parts.1)
+
+in_range : (c : CivilDateTime) → IsDateTimeInRange (utc c)
+in_range c =
+    let hour = c.time.hour_in in
+    let minute = c.time.minute_in in
+    let second = c.time.second_in in
+    let subsec = c.time.subsec_in in
+    let date = date_in_range c.date in
+    let signs : HaveOneSign (pos 0) (pos 0) = inl (omega (arith, ints), omega (arith, ints)) in
+    (date, (omega arith, omega arith, omega arith, omega arith, omega (arith, ints), omega (arith, ints), signs))
+
+is_real : AreCalendarDates → (c : CivilDateTime) → IsReal (utc c)
+is_real laws c =
+    let hour = c.time.hour_in in
+    let minute = c.time.minute_in in
+    let second = c.time.second_in in
+    let subsec = c.time.subsec_in in
+    record { day = laws.exists c.date; clock = (hour, minute, second, omega arith); offset = omega (arith, ints) }
+
+utc_value : AreCalendarDates → (c : CivilDateTime) → c.time.subsec_nanosecond % 1_000_000 ≡ 0 → instant_of (utc c) ≡ civil_nanos c
+utc_value laws c whole =
+    let parts = civil_nanos-parts c in
+    let day = laws.day c.date in
+    let millis : c.time.subsec_nanosecond ≡ 1_000_000 * (c.time.subsec_nanosecond / 1_000_000) = omega arith in
+    let times : clock_of (utc c).time ≡ time_nanos c.time = clock_same c.time.hour c.time.minute c.time.second (c.time.subsec_nanosecond / 1_000_000) c.time.subsec_nanosecond millis in
+    omega (arith, ints)
+
+held_back : AreCalendarDates → ((t : DateTime) → IsDateTimeInRange t → IsDateTime (date_time_text t) t) → (value : Value) (t : DateTime) → IsWithinBounds value → Holds value (Ok t) → IsHeldBack Spells Worth Holds (date_time_text t) value t
+held_back laws spelled (Instant nanos) t w (inl h) =
+    let found = in_millis_held h.0 t (sym h.2) in
+    let P : DateTime → Type 0 = λ x. IsHeldBack Spells Worth Holds (date_time_text x) (Instant nanos) x in
+    let whole : P (utc h.0) = record {
+      meaning = utc h.0;
+      back = Instant nanos;
+      spelled = spelled (utc h.0) (in_range h.0);
+      valued = inl (is_real laws h.0, is_civil_day laws h.0.date, ap (λ (z : ℤ). Ok (Instant z)) (sym (utc_value laws h.0 found.0 ∙ h.1)));
+      same = refl;
+      again = inl (h.0, h.1, sym (whole_millis h.0 found.0));
+    } in
+    subst P found.1 whole
+held_back laws spelled (Instant nanos) t w (inr h) = absurd (let e : Ok t ≡ Err Range = h.1 in cc)
+held_back laws spelled (Day day) t w h = absurd (let e : Ok t ≡ Err Kind = h in cc)
+held_back laws spelled (Local day nanos) t w h = absurd (let e : Ok t ≡ Err Kind = h in cc)
+held_back laws spelled (Clock nanos) t w h = absurd (let e : Ok t ≡ Err Kind = h in cc)
+held_back laws spelled (Triple months days micros) t w h = absurd (let e : Ok t ≡ Err Kind = h in cc)
+held_back laws spelled (Length nanos) t w h = absurd (let e : Ok t ≡ Err Kind = h in cc)
+
+instant_within : (day offset : ℤ) (clock : ℕ) → IsEpochDay day → unsigned_abs offset < 86_400 → clock < 86_400_000_000_000 → IsWithinBounds (Instant ((day *ℤ pos 86_400_000_000_000 +ℤ pos clock) -ℤ offset *ℤ pos 1_000_000_000))
+instant_within day offset clock d o c = (omega (arith, ints), omega (arith, ints))
+
+clock_bound : (hour minute second millis : ℕ) → hour < 24 → minute < 60 → second < 60 → millis < 1000 → ((hour * 60 + minute) * 60 + second) * 1_000_000_000 + millis * 1_000_000 < 86_400_000_000_000
+clock_bound hour minute second millis h m s f = omega arith
+
+real_within : AreCalendarDates → (t : DateTime) → IsReal t → IsCivilDay (day_of t.date) → IsWithinBounds (Instant (instant_of t))
+real_within laws t real day = instant_within (day_of t.date) (offset_of t.time) (clock_of t.time) (civil_bounds laws (day_of t.date) day) real.offset (clock_bound t.time.hour t.time.minute t.time.second t.time.millisecond real.clock.0 real.clock.1 real.clock.2 real.clock.3)
+
+pub iso_date_times : ((text : List ℕ) (a b : DateTime) → IsDateTime text a → IsDateTime text b → a ≡ b) → ((t : DateTime) → IsDateTimeInRange t → IsDateTime (date_time_text t) t) → AreCalendarDates → Lawful IsoDateTime
+iso_date_times one spelled laws =
+    lawful_by IsoDateTime Spells Worth Holds date_time_text (record { reads = λ text a h. h; read = λ text a h. h; writes = λ value a h. h; written = λ value a h. h })
+    (record {
+      one = one;
+      one_worth = λ t a b h k. one_judged (IsReal t) (IsCivilDay (day_of t.date)) (Instant (instant_of t)) a b h k;
+      one_held = one_held;
+      within = λ text t value spelled h. judged_within (IsReal t) (IsCivilDay (day_of t.date)) (Instant (instant_of t)) value (real_within laws t) h;
+      back = held_back laws spelled;
+    })

@@ -1,0 +1,84 @@
+-- Dates of ISO 8601 as a form.
+use Rattle.std.proofs.Common.{◌≡◌, ℕ, ◌≤◌, Bool, true, false, cond, List, Result, Ok, Err, refl, sym, ◌∙◌, ap, subst, inl, arith}
+use Rattle.std.specs.Prelude.{ℤ, pos, neg_ℤ, ◌≤ℤ◌, ◌↔◌}
+use Rattle.std.proofs.lemmas.Int.{ints}
+use Rattle.jiff_core.specs.Calendar.{IsYear, IsEpochDay, days_in_month}
+use Rattle.jiff_core.specs.Date.{epoch_day}
+use Rattle.jiff_core.specs.declared.civil.date.Date.{Date as CivilDate}
+use Rattle.jiff_core.proofs.DateLemmas.{epoch_day_range, epoch_day_injective}
+use Rattle.iso8601.specs.Calendar.{day_of, Exists, IsCivilDay}
+use Rattle.iso8601.specs.Dates.{IsDate}
+use Rattle.iso8601.specs.Ranges.{IsDateInRange}
+use Rattle.iso8601.specs.Written.{date_text}
+use Rattle.iso8601.specs.declared.types.Date.{Date}
+use Rattle.forms.specs.declared.cause.Cause.{Cause}
+use Rattle.forms.specs.declared.cause.Cause.TheVariants.{Kind}
+use Rattle.forms.specs.declared.form.Form.TheVariants.{IsoDate}
+use Rattle.forms.specs.declared.value.Value.{Value}
+use Rattle.forms.specs.declared.value.Value.TheVariants.{Day}
+use Rattle.forms.specs.Values.{IsWithinBounds}
+use Rattle.forms.specs.form.IsoDate.{Spells, Worth, date_of, Holds}
+use Rattle.forms.specs.inside.Lawful.{Lawful}
+use Rattle.forms.proofs.Judging.{one_judged, judged_within}
+use Rattle.forms.proofs.Lawful.{same_ok, IsHeldBack, lawful_by}
+
+-- what the laws of the crate below say of civil dates
+pub record AreCalendarDates : Type 0 where
+  pub exists : (d : CivilDate) → Exists (date_of d)
+  pub day : (d : CivilDate) → day_of (date_of d) ≡ epoch_day d
+  pub civil : (day : ℤ) → IsCivilDay day ↔ ((neg_ℤ (pos 4_371_587) ≤ℤ day) × (day ≤ℤ pos 2_932_896))
+
+thirty_one : (a b c : Bool) → cond a (cond b 29 28) (cond c 30 31) ≤ 31
+thirty_one true true c = omega arith
+thirty_one true false c = omega arith
+thirty_one false b true = omega arith
+thirty_one false b false = omega arith
+
+-- no month has more than 31 days
+pub month_within : (d : CivilDate) → d.day ≤ 31
+month_within d = let most = d.day_in.1 in let least : days_in_month d.year d.month ≤ 31 = thirty_one _ _ _ in omega arith
+
+pub date_in_range : (d : CivilDate) → IsDateInRange (date_of d)
+date_in_range d =
+    let year : IsYear d.year = d.year_in in
+    (omega (arith, ints), d.month_in.0, d.month_in.1, d.day_in.0, month_within d)
+
+pub is_civil_day : AreCalendarDates → (d : CivilDate) → IsCivilDay (day_of (date_of d))
+is_civil_day laws d = (laws.civil (day_of (date_of d))).1 (subst IsEpochDay (sym (laws.day d)) (epoch_day_range d))
+
+pub civil_bounds : AreCalendarDates → (day : ℤ) → IsCivilDay day → IsEpochDay day
+civil_bounds laws day h = (laws.civil day).0 h
+
+one_held : (value : Value) (a b : Result Date Cause) → Holds value a → Holds value b → a ≡ b
+one_held (Day day) a b h k =
+    let parts = epoch_day_injective h.0 k.0 (h.1 ∙ sym k.1) in
+    let same : date_of h.0 ≡ date_of k.0 = rw (parts.0, parts.1, parts.2) refl in
+    h.2 ∙ (ap Ok same ∙ sym k.2)
+one_held _ a b h k = h ∙ sym k
+
+held_back : AreCalendarDates → ((date : Date) → IsDateInRange date → IsDate (date_text date) date) → (value : Value) (date : Date) → IsWithinBounds value → Holds value (Ok date) → IsHeldBack Spells Worth Holds (date_text date) value date
+held_back laws spelled (Day day) date w h =
+    let is : date ≡ date_of h.0 = same_ok date (date_of h.0) h.2 in
+    let P : Date → Type 0 = λ d. IsHeldBack Spells Worth Holds (date_text d) (Day day) d in
+    let same : day_of (date_of h.0) ≡ day = laws.day h.0 ∙ h.1 in
+    let whole : P (date_of h.0) = record {
+      meaning = date_of h.0;
+      back = Day day;
+      spelled = spelled (date_of h.0) (date_in_range h.0);
+      valued = inl (laws.exists h.0, is_civil_day laws h.0, ap (λ (z : ℤ). Ok (Day z)) (sym same));
+      same = refl;
+      again = (h.0, h.1, refl);
+    } in
+    subst P (sym is) whole
+held_back laws spelled _ date w h = absurd (let e : Ok date ≡ Err Kind = h in cc)
+
+pub iso_dates : ((text : List ℕ) (a b : Date) → IsDate text a → IsDate text b → a ≡ b) → ((date : Date) → IsDateInRange date → IsDate (date_text date) date) → AreCalendarDates → Lawful IsoDate
+iso_dates one spelled laws =
+    lawful_by IsoDate Spells Worth Holds date_text (record { reads = λ text a h. h; read = λ text a h. h; writes = λ value a h. h; written = λ value a h. h })
+    (record {
+      one = one;
+      one_worth = λ date a b h k. one_judged (Exists date) (IsCivilDay (day_of date)) (Day (day_of date)) a b h k;
+      one_held = one_held;
+      within = λ text date value spelled h. judged_within (Exists date) (IsCivilDay (day_of date)) (Day (day_of date)) value (λ real day. civil_bounds laws (day_of date) day) h;
+      back = held_back laws spelled;
+    })
