@@ -132,6 +132,6 @@ held_back digits (Instant nanos) ticks w h =
 held_back digits _ ticks w h = absurd (let e : Err Kind ≡ Ok ticks = h in cc)
 
 pub file_times : ((text : List ℕ) (m n : ℕ) → IsTextOf text m → IsTextOf text n → m ≡ n) → ((ticks : ℕ) → IsFileTime ticks → IsTextOf (decimal ticks) ticks) → Lawful FileTime
-file_times one digits = 
+file_times one digits =
     lawful_by FileTime Spells (Is worth) (Is held) decimal (record { reads = λ text a h. h; read = λ text a h. h; writes = λ value a h. h; written = λ value a h. h })
     (record { one = one; one_worth = one_image worth; one_held = one_image held; within = λ text ticks value spelled h. within text ticks value spelled (sym h); back = λ value ticks w h. held_back digits value ticks w (sym h) })

@@ -67,7 +67,7 @@ reads_no_shape s text h = inr (h, refl)
 
 -- ---- what a reader's error says
 
-error_says : (s : Style) (IsBadPlace : List ℕ → ℕ → ℕ → Type 0) (message text : List ℕ) (error : ParseError) → Refuses (Shape s) IsBadPlace message text error → IsRefusedBy s text error
+pub error_says : (s : Style) (IsBadPlace : List ℕ → ℕ → ℕ → Type 0) (message text : List ℕ) (error : ParseError) → Refuses (Shape s) IsBadPlace message text error → IsRefusedBy s text error
 error_says s IsBadPlace message text (InvalidInterval m) h = record { range = λ r. absurd r; no_range = λ n. h.0 }
 error_says s IsBadPlace message text (BadUnit start end) h = record { range = λ r. absurd r; no_range = λ n. h.0 }
 error_says s IsBadPlace message text (InvalidYearMonth m) h = record { range = λ r. (Months, h.0); no_range = λ n. absurd (n tt) }
@@ -77,11 +77,6 @@ error_says s IsBadPlace message text (InvalidTime m) h = record { range = λ r. 
 means_refusal : (s : Style) (IsBadPlace : List ℕ → ℕ → ℕ → Type 0) (message text : List ℕ) (read : Result Interval ParseError) → IfErr read (Refuses (Shape s) IsBadPlace message text) → IfErr read (IsRefusedBy s text)
 means_refusal s IsBadPlace message text (Ok t) h = tt
 means_refusal s IsBadPlace message text (Err e) h = error_says s IsBadPlace message text e h
-
--- what the reader of a style answers, where the style is known to be this one
-pub refused_by : (s known : Style) (IsBadPlace : List ℕ → ℕ → ℕ → Type 0) (message text : List ℕ) (read : Result Interval ParseError) → s ≡ known → IfErr read (Refuses (Shape known) IsBadPlace message text)
-    → IfErr read (IsRefusedBy s text)
-refused_by s known IsBadPlace message text read is h = let P : Style → Type 0 = λ f. IfErr read (IsRefusedBy f text) in subst P (sym is) (means_refusal known IsBadPlace message text read h)
 
 -- ---- the interval of a value
 

@@ -123,7 +123,6 @@ part_millis c isnt = let test : (c.time.subsec_nanosecond % 1_000_000 == 0) ≡ 
 pub no_civil : (nanos : ℤ) → (IsCivilNanos nanos → ⊥) → Holds (Instant nanos) (Err Range)
 no_civil nanos isnt = inr (isnt, refl)
 
-
 same_millis : (a b : CivilDateTime) → civil_nanos a ≡ civil_nanos b → in_millis a ≡ in_millis b
 unfolding in_millis
 same_millis a b e =

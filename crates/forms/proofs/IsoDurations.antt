@@ -81,7 +81,7 @@ unfolding counts_of
 counts_beyond months days micros isnt =
     let test = not_true (nat_lt (months / 12) (2 ^ 32) && (nat_lt days (2 ^ 32) && nat_lt (micros / 3_600_000_000) (2 ^ 32)))
     (λ h. let all = all_three (nat_lt (months / 12) (2 ^ 32)) (nat_lt days (2 ^ 32)) (nat_lt (micros / 3_600_000_000) (2 ^ 32)) h in
-      isnt (below (months / 12) (2 ^ 32) all.0) (below days (2 ^ 32) all.1.0) (below (micros / 3_600_000_000) (2 ^ 32) all.1.1)) in
+    isnt (below (months / 12) (2 ^ 32) all.0) (below days (2 ^ 32) all.1.0) (below (micros / 3_600_000_000) (2 ^ 32) all.1.1)) in
     rw test refl
 
 pub negative_months : (months days micros : ℤ) → months <ℤ pos 0 → held_triple months days micros ≡ Err Range

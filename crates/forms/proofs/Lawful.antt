@@ -95,11 +95,11 @@ back_by {X} {Y} form Spells Worth Holds text_of rows words value text within wri
 pub lawful_by : {X Y : Type 0} (form : Form) (Spells : List ℕ → X → Type 0) (Worth : X → Result Value Cause → Type 0) (Holds : Value → Result Y Cause → Type 0) (text_of : Y → List ℕ) → HasRows form Spells Worth Holds text_of → AreLawful Spells Worth Holds text_of
     → Lawful form
 lawful_by form Spells Worth Holds text_of rows words = record {
-      one = λ text a b h k. one_by Spells Worth words.one words.one_worth text a b (rows.reads text a h) (rows.reads text b k);
-      one_written = λ value a b h k. one_written_by Holds text_of words.one_held value a b (rows.writes value a h) (rows.writes value b k);
-      within = λ text value h. within_by Spells Worth words.within text value (rows.reads text (Ok value) h);
-      back = back_by form Spells Worth Holds text_of rows words;
-    }
+  one = λ text a b h k. one_by Spells Worth words.one words.one_worth text a b (rows.reads text a h) (rows.reads text b k);
+  one_written = λ value a b h k. one_written_by Holds text_of words.one_held value a b (rows.writes value a h) (rows.writes value b k);
+  within = λ text value h. within_by Spells Worth words.within text value (rows.reads text (Ok value) h);
+  back = back_by form Spells Worth Holds text_of rows words;
+}
 
 -- ---- all pairs
 

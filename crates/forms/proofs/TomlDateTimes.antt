@@ -46,13 +46,13 @@ kept_year c = let range : IsYear c.year = c.year_in in omega (arith, ints)
 -- a real day is a civil one
 pub civil_of : (d : Date) → IsRealDay d → CivilDate
 civil_of d real = record {
-      year = pos d.year;
-      month = d.month;
-      day = d.day;
-      year_in = let y = real.year in (omega (arith, ints), omega (arith, ints));
-      month_in = (real.month, real.months);
-      day_in = (real.day, most_days d real);
-    }
+  year = pos d.year;
+  month = d.month;
+  day = d.day;
+  year_in = let y = real.year in (omega (arith, ints), omega (arith, ints));
+  month_in = (real.month, real.months);
+  day_in = (real.day, most_days d real);
+}
 
 pub is_civil : (d : Date) → IsRealDay d → IsDate (pos d.year) (pos d.month) (pos d.day)
 is_civil d real =
@@ -186,7 +186,6 @@ real_date d (Some t) (Some o) h = h.0
 real_date d (Some t) None h = h.0
 real_date d None None h = h
 real_date d None (Some o) h = absurd h
-
 
 offset_bound : (o : Offset) → IsOffsetInRange o → (neg_ℤ (pos 1439) ≤ℤ minutes_of o) × (minutes_of o ≤ℤ pos 1439)
 offset_bound Z h = (omega (arith, ints), omega (arith, ints))

@@ -1,5 +1,5 @@
 -- The forms and the causes by name, and the interval forms, which are the styles of PostgreSQL.
-use Rattle.std.specs.Prelude.{ℕ, List, codes, Option, Some, None}
+use Rattle.std.specs.Prelude.{ℕ, Bool, true, false, List, codes, Option, Some, None}
 use Rattle.pg_interval_2.specs.declared.style.Style.{Style}
 use Rattle.pg_interval_2.specs.declared.style.Style.TheVariants as style
 use Rattle.forms.specs.declared.form.Form.{Form}
@@ -27,6 +27,15 @@ style_of Postgres = Some style.Postgres
 style_of PgVerbose = Some style.Verbose
 style_of PgSql = Some style.Sql
 style_of _ = None
+
+-- the forms whose texts can be read by counted looks alone: the interval forms, and durations of ISO 8601
+abbrev pub is_counted : Form → Bool
+is_counted IsoDuration = true
+is_counted PgIso = true
+is_counted Postgres = true
+is_counted PgVerbose = true
+is_counted PgSql = true
+is_counted _ = false
 
 -- a cause's name
 abbrev pub cause_name : Cause → List ℕ

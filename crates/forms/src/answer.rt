@@ -1,9 +1,10 @@
 //! One text of a form in another form, and the reply to a line.
-ghost use Rattle.std.specs.Prelude.{◌≡◌, ◌≤◌, ◌↔◌, ◌++◌, List, ℕ, codes, length, Result as AnyResult, Ok, Err, IfOk, IsErrOf};
+ghost use Rattle.std.specs.Prelude.{◌≡◌, ◌+◌, ◌*◌, ◌<◌, ◌≤◌, ◌↔◌, ◌++◌, List, ℕ, codes, length, Result as AnyResult, Ok, Err, IfOk, IsErrOf, IsTrue};
 ghost use Rattle.std.specs.String.{string_bytes};
 ghost use Rattle.arrayvec.specs.ArrayString.{array_string_len};
 ghost use Rattle.forms.specs.declared.cause.Cause.{Cause as AnyCause};
 ghost use Rattle.forms.specs.Answers.{bytes_of};
+ghost use Rattle.forms.specs.Names.{is_counted};
 ghost use Rattle.forms.specs.ReadBack.{Turns};
 ghost use Rattle.forms.specs.Replies.{IsAnswer, IsReply};
 
@@ -11,9 +12,11 @@ use crate::cause::Cause;
 use crate::form::Form;
 use crate::laws::{all_lawful, answers_are_readings_written};
 use crate::line::request;
-use crate::value::{read_value, write_value};
-use scan_core::Short;
+use crate::value::{read_counted, read_value, write_value};
+use scan_core::{Looked, Short, Steps};
 use std::alloc::Global;
+use std::marker::Brand;
+use std::sync::ledger::{Blank, Ledger};
 
 /// Why `convert` has no text.
 #[derive(Clone, Copy, Debug, PartialEq, Eq)]
@@ -27,14 +30,64 @@ pub enum ConvertError {
 /// The text of one form in another form: `reply(Form::PgIso, Form::PgIso, "P1Y1Y")` is `P2Y`. It takes no memory.
 ///
 /// It is what `write_value` makes in the second form of what `read_value` makes in the first, and the cause of the one that refuses.
+/// From a form whose texts can be read by counted looks it is one call of `reply_counted`, with a counter of its own.
 pub fn reply(from: Form, to: Form, text: &str) -> Result<Short, Cause>
     ensures answer { (answer : AnyResult (List ℕ) AnyCause) → (bytes_of result ≡ answer) ↔ IsAnswer from to text.now answer }
     ensures turned { (answer : AnyResult (List ℕ) AnyCause) → (bytes_of result ≡ answer) ↔ Turns from to text.now answer }
     ensures len { IfOk result (λ out. array_string_len out ≤ 96) }
 {
+    if from.is_counted() {
+        return reply_alone::<Brand>(from, to, &Looked::new(text), Blank::new(1));
+    }
     all_lawful();
     answers_are_readings_written();
     turned(from, to, text)
+}
+
+/// The answer of `reply` to a text that is seen by counted looks alone, from an interval form or `Form::IsoDuration`. It takes no
+/// memory.
+///
+/// Of a text of n bytes it looks at most 2n + 4 times, which is less than 32n + 256: once at each byte, once more at the digits of a
+/// fraction of more than twelve, and four times at the end. Where it answers a text, it has looked at each byte.
+pub fn reply_counted<L: Ledger>(
+    from: Form,
+    to: Form,
+    text: &Looked<'_>,
+    steps: &mut Steps<L>,
+) -> Result<Short, Cause>
+    requires { IsTrue (is_counted from) }
+    ensures answer { (answer : AnyResult (List ℕ) AnyCause)
+        → (bytes_of result ≡ answer) ↔ IsAnswer from to text.now answer }
+    ensures turned { (answer : AnyResult (List ℕ) AnyCause)
+        → (bytes_of result ≡ answer) ↔ Turns from to text.now answer }
+    ensures len { IfOk result (λ out. array_string_len out ≤ 96) }
+    ensures most { steps.new ≤ steps.old + (2 * length text.now + 4) }
+    ensures bound { steps.new ≤ steps.old + (32 * length text.now + 256) }
+    ensures least { IfOk result (λ _. steps.old + length text.now ≤ steps.new) }
+{
+    all_lawful();
+    answers_are_readings_written();
+    turned_counted(from, to, text, steps)
+}
+
+/// The same with a counter of its own.
+fn reply_alone<L: Ledger>(
+    from: Form,
+    to: Form,
+    text: &Looked<'_>,
+    blank: Blank,
+) -> Result<Short, Cause>
+    requires name { blank.name ≡ L.name }
+    requires parts { blank.parts ≡ L.parts }
+    requires some { 0 < L.parts }
+    requires form { IsTrue (is_counted from) }
+    ensures answer { (answer : AnyResult (List ℕ) AnyCause)
+        → (bytes_of result ≡ answer) ↔ IsAnswer from to text.now answer }
+    ensures turned { (answer : AnyResult (List ℕ) AnyCause)
+        → (bytes_of result ≡ answer) ↔ Turns from to text.now answer }
+    ensures len { IfOk result (λ out. array_string_len out ≤ 96) }
+{
+    reply_counted(from, to, text, &mut Steps::<L>::new(blank))
 }
 
 /// The text of one form in another form.
@@ -43,6 +96,23 @@ fn turned(from: Form, to: Form, text: &str) -> Result<Short, Cause>
     ensures len { IfOk result (λ out. array_string_len out ≤ 96) }
 {
     let value = read_value(from, text)?;
+    write_value(to, value)
+}
+
+/// The text of one form, read by counted looks, in another form.
+fn turned_counted<L: Ledger>(
+    from: Form,
+    to: Form,
+    text: &Looked<'_>,
+    steps: &mut Steps<L>,
+) -> Result<Short, Cause>
+    requires { IsTrue (is_counted from) }
+    ensures turned { Turns from to text.now (bytes_of result) }
+    ensures len { IfOk result (λ out. array_string_len out ≤ 96) }
+    ensures most { steps.new ≤ steps.old + (2 * length text.now + 4) }
+    ensures least { IfOk result (λ _. steps.old + length text.now ≤ steps.new) }
+{
+    let value = read_counted(from, text, steps)?;
     write_value(to, value)
 }
 

@@ -1,6 +1,6 @@
 //! The written forms and their names. Each has a module of its own, which reads and writes it.
 ghost use Rattle.std.specs.Prelude.{◌≡◌, ◌↔◌, Some};
-ghost use Rattle.forms.specs.Names.{name_of};
+ghost use Rattle.forms.specs.Names.{is_counted, name_of};
 ghost use Rattle.forms.specs.declared.form.Form.{Form as AnyForm};
 
 pub mod fancy;
@@ -71,6 +71,17 @@ impl Form {
             Form::Postgres => "Postgres",
             Form::PgVerbose => "PgVerbose",
             Form::PgSql => "PgSql",
+        }
+    }
+
+    /// Whether the form's texts can be read by counted looks alone: those of the interval forms and ISO durations.
+    pub fn is_counted(self) -> bool
+        ensures { result ≡ is_counted self }
+    {
+        match self {
+            Form::IsoDuration | Form::PgIso | Form::Postgres | Form::PgVerbose | Form::PgSql =>
+                true,
+            Form::FileTime | Form::IsoDateTime | Form::IsoDate | Form::Toml | Form::Fancy => false,
         }
     }
 }

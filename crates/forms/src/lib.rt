@@ -19,7 +19,7 @@ mod program;
 mod run_end;
 mod value;
 
-pub use answer::{ConvertError, convert, reply};
+pub use answer::{ConvertError, convert, reply, reply_counted};
 pub use cause::Cause;
 pub use form::Form;
 pub use memory_sink::MemSink;

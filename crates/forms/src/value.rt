@@ -1,16 +1,19 @@
 //! Values, which texts of all forms stand for, and the two tables of forms: how each reads a value, and how it writes one.
-ghost use Rattle.std.specs.Prelude.{◌≡◌, ◌≤◌, ◌↔◌, List, ℕ, Result as AnyResult, IfOk};
+ghost use Rattle.std.specs.Prelude.{◌≡◌, ◌+◌, ◌*◌, ◌≤◌, ◌↔◌, List, ℕ, Result as AnyResult, IfOk, IsTrue, length};
 ghost use Rattle.arrayvec.specs.ArrayString.{array_string_len};
 ghost use Rattle.forms.specs.declared.cause.Cause.{Cause as AnyCause};
 ghost use Rattle.forms.specs.declared.value.Value.{Value as AnyValue};
 ghost use Rattle.forms.specs.Answers.{bytes_of};
 ghost use Rattle.forms.specs.Forms.{Reads, Writes};
+ghost use Rattle.forms.specs.Names.{is_counted};
 ghost use Rattle.forms.specs.Values.{IsWithinBounds};
 
 use crate::cause::Cause;
 use crate::form::{Form, fancy, file_time, intervals, iso_date, iso_date_time, iso_duration, toml};
 use crate::laws::all_lawful;
 use pg_interval_2::{Short, Style};
+use scan_core::{Looked, Steps};
+use std::sync::ledger::Ledger;
 
 /// What a text stands for. Moments and days count from 1970-01-01 in the Gregorian calendar, which is taken to go on before 1582.
 #[derive(Clone, Copy, Debug, PartialEq, Eq)]
@@ -71,6 +74,44 @@ fn read(form: Form, text: &str) -> Result<Value, Cause>
         Form::Postgres => intervals::read(Style::Postgres, text),
         Form::PgVerbose => intervals::read(Style::Verbose, text),
         Form::PgSql => intervals::read(Style::Sql, text),
+    }
+}
+
+/// What `read_value` answers on a counted text: of n bytes with at most 2n + 4 looks, and with n at least where it is Ok.
+pub(crate) fn read_counted<L: Ledger>(
+    form: Form,
+    text: &Looked<'_>,
+    steps: &mut Steps<L>,
+) -> Result<Value, Cause>
+    requires { IsTrue (is_counted form) }
+    ensures read { Reads form text.now result }
+    ensures within { IfOk result IsWithinBounds }
+    ensures most { steps.new ≤ steps.old + (2 * length text.now + 4) }
+    ensures least { IfOk result (λ _. steps.old + length text.now ≤ steps.new) }
+{
+    all_lawful();
+    read_by_looks(form, text, steps)
+}
+
+/// What the form's reader answers on a counted text.
+fn read_by_looks<L: Ledger>(
+    form: Form,
+    text: &Looked<'_>,
+    steps: &mut Steps<L>,
+) -> Result<Value, Cause>
+    requires { IsTrue (is_counted form) }
+    ensures read { Reads form text.now result }
+    ensures most { steps.new ≤ steps.old + (2 * length text.now + 4) }
+    ensures least { IfOk result (λ _. steps.old + length text.now ≤ steps.new) }
+{
+    match form {
+        Form::IsoDuration => iso_duration::read_counted(text, steps),
+        Form::PgIso => intervals::read_counted(Style::Iso, text, steps),
+        Form::Postgres => intervals::read_counted(Style::Postgres, text, steps),
+        Form::PgVerbose => intervals::read_counted(Style::Verbose, text, steps),
+        Form::PgSql => intervals::read_counted(Style::Sql, text, steps),
+        Form::FileTime | Form::IsoDateTime | Form::IsoDate | Form::Toml | Form::Fancy =>
+            unreachable!(),
     }
 }
 

@@ -41,9 +41,9 @@ Worth t = Judged (IsReal t) (IsCivilDay (day_of t.date)) (Instant (instant_of t)
 -- with offset `+00:00`
 abbrev pub utc : CivilDateTime → DateTime
 utc c = record {
-      date = date_of c.date;
-      time = record { hour = c.time.hour; minute = c.time.minute; second = c.time.second; millisecond = c.time.subsec_nanosecond / 1_000_000; tz_offset_hours = pos 0; tz_offset_minutes = pos 0 };
-    }
+  date = date_of c.date;
+  time = record { hour = c.time.hour; minute = c.time.minute; second = c.time.second; millisecond = c.time.subsec_nanosecond / 1_000_000; tz_offset_hours = pos 0; tz_offset_minutes = pos 0 };
+}
 
 -- the same, where the milliseconds are whole
 unfoldable pub in_millis : CivilDateTime → Result DateTime Cause

@@ -65,11 +65,11 @@ fraction_of nanos = if (nanos % 1_000_000_000 == 0) then None else Some (nanos %
 -- the time so many nanoseconds after midnight, with seconds, and with a fraction where it isn't 0
 abbrev pub time_of : ℕ → Time
 time_of nanos = record {
-      hour = nanos / 3_600_000_000_000;
-      minute = nanos / 60_000_000_000 % 60;
-      second = Some (nanos / 1_000_000_000 % 60);
-      nanosecond = fraction_of nanos;
-    }
+  hour = nanos / 3_600_000_000_000;
+  minute = nanos / 60_000_000_000 % 60;
+  second = Some (nanos / 1_000_000_000 % 60);
+  nanosecond = fraction_of nanos;
+}
 
 -- the date with this day, or `Range` where no date of the years 0 to 9999 has it
 abbrev pub HoldsDay : ℤ → Result Date Cause → Type 0

@@ -1,18 +1,19 @@
 //! The interval forms, each a style of PostgreSQL.
-ghost use Rattle.std.specs.Prelude.{◌≡◌, ◌*◌, ◌^◌, ◌<◌, ◌≤◌, IfOk, IfErr};
+ghost use Rattle.std.specs.Prelude.{◌≡◌, ◌+◌, ◌*◌, ◌^◌, ◌<◌, ◌≤◌, IfOk, length};
 ghost use Rattle.arrayvec.specs.ArrayString.{array_string_len};
-ghost use Rattle.pg_interval_2.specs.Denotes.{Denotes};
 ghost use Rattle.pg_interval_2.specs.Styles.{Shape, written};
 ghost use Rattle.forms.specs.Answers.{Is, ReadsBy, WritesBy, bytes_of};
 ghost use Rattle.forms.specs.Values.{IsWithinBounds};
 ghost use Rattle.forms.specs.form.Intervals.{worth, held, interval_of, interval_of_length};
-ghost use Rattle.forms.specs.inside.Readers.{IsRefusedBy};
 ghost use Rattle.forms.specs.inside.Lawful.{Lawful};
 ghost use Rattle.forms.specs.declared.form.Form.{Form as AnyForm};
 
 use crate::cause::Cause;
 use crate::value::Value;
-use pg_interval_2::{Interval, ParseError, Short, Style};
+use pg_interval_2::{Interval, Short, Style};
+use scan_core::{Looked, Steps};
+use std::marker::Brand;
+use std::sync::ledger::{Blank, Ledger};
 
 const NANOSECONDS_A_DAY: u128 = 86_400_000_000_000;
 
@@ -20,7 +21,30 @@ const NANOSECONDS_A_DAY: u128 = 86_400_000_000_000;
 pub fn read(style: Style, text: &str) -> Result<Value, Cause>
     ensures { ReadsBy (Shape style) (Is worth) text.now result }
 {
-    match interval_in(style, text) {
+    read_alone::<Brand>(style, &Looked::new(text), Blank::new(1))
+}
+
+/// The same of a counted text, with a counter of its own.
+fn read_alone<L: Ledger>(style: Style, text: &Looked<'_>, blank: Blank) -> Result<Value, Cause>
+    requires name { blank.name ≡ L.name }
+    requires parts { blank.parts ≡ L.parts }
+    requires some { 0 < L.parts }
+    ensures { ReadsBy (Shape style) (Is worth) text.now result }
+{
+    read_counted(style, text, &mut Steps::<L>::new(blank))
+}
+
+/// The triple that a counted text denotes in the style: of n bytes with at most 2n + 4 looks, and with n at least where it is Ok.
+pub fn read_counted<L: Ledger>(
+    style: Style,
+    text: &Looked<'_>,
+    steps: &mut Steps<L>,
+) -> Result<Value, Cause>
+    ensures read { ReadsBy (Shape style) (Is worth) text.now result }
+    ensures most { steps.new ≤ steps.old + (2 * length text.now + 4) }
+    ensures least { IfOk result (λ _. steps.old + length text.now ≤ steps.new) }
+{
+    match pg_interval_2::read_counted(style, text, steps) {
         Ok(interval) => Ok(Value::Triple {
             months: interval.months as i64,
             days: interval.days as i64,
@@ -28,19 +52,6 @@ pub fn read(style: Style, text: &str) -> Result<Value, Cause>
         }),
         Err(error) if error.is_range() => Err(Cause::Range),
         Err(_) => Err(Cause::Syntax),
-    }
-}
-
-/// What the style's reader answers.
-fn interval_in(style: Style, text: &str) -> Result<Interval, ParseError>
-    ensures ok { IfOk result (Denotes (Shape style) text.now) }
-    ensures err { IfErr result (IsRefusedBy style text.now) }
-{
-    match style {
-        Style::Iso => Interval::from_iso(text),
-        Style::Postgres => Interval::from_postgres(text),
-        Style::Verbose => Interval::from_postgres_verbose(text),
-        Style::Sql => Interval::from_sql(text),
     }
 }
 

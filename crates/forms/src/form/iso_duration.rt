@@ -1,5 +1,5 @@
 //! Durations of ISO 8601 as a form.
-ghost use Rattle.std.specs.Prelude.{◌≡◌, ◌/◌, ◌^◌, ◌<◌, ◌≤◌, pos, IfOk};
+ghost use Rattle.std.specs.Prelude.{◌≡◌, ◌+◌, ◌*◌, ◌/◌, ◌^◌, ◌<◌, ◌≤◌, pos, IfOk, length};
 ghost use Rattle.arrayvec.specs.ArrayString.{array_string_len};
 ghost use Rattle.forms.specs.declared.form.Form.{Form as AnyForm};
 ghost use Rattle.forms.specs.Answers.{bytes_of};
@@ -10,9 +10,10 @@ ghost use Rattle.forms.specs.inside.Lawful.{Lawful};
 
 use crate::cause::Cause;
 use crate::value::Value;
-use iso8601::Duration;
-use iso8601::parsers::parse_duration;
-use scan_core::Short;
+use iso8601::{Duration, duration_counted};
+use scan_core::{Looked, Short, Steps};
+use std::marker::Brand;
+use std::sync::ledger::{Blank, Ledger};
 
 const NANOSECONDS_A_DAY: u128 = 86_400_000_000_000;
 
@@ -20,14 +21,27 @@ const NANOSECONDS_A_DAY: u128 = 86_400_000_000_000;
 pub fn read(text: &str) -> Result<Value, Cause>
     ensures { Reads AnyForm.IsoDuration text.now result }
 {
-    match parse_duration(text.as_bytes()) {
-        Ok((rest, duration)) => {
-            if rest.is_empty() {
-                value_of(duration)
-            } else {
-                Err(Cause::Syntax)
-            }
-        }
+    read_alone::<Brand>(&Looked::new(text), Blank::new(1))
+}
+
+/// The same of a counted text, with a counter of its own.
+fn read_alone<L: Ledger>(text: &Looked<'_>, blank: Blank) -> Result<Value, Cause>
+    requires name { blank.name ≡ L.name }
+    requires parts { blank.parts ≡ L.parts }
+    requires some { 0 < L.parts }
+    ensures { Reads AnyForm.IsoDuration text.now result }
+{
+    read_counted(text, &mut Steps::<L>::new(blank))
+}
+
+/// The triple of a duration in a counted text: of n bytes with at most 2n looks, and with n at least where it is Ok.
+pub fn read_counted<L: Ledger>(text: &Looked<'_>, steps: &mut Steps<L>) -> Result<Value, Cause>
+    ensures read { Reads AnyForm.IsoDuration text.now result }
+    ensures most { steps.new ≤ steps.old + 2 * length text.now }
+    ensures least { IfOk result (λ _. steps.old + length text.now ≤ steps.new) }
+{
+    match duration_counted(text, steps) {
+        Ok(duration) => value_of(duration),
         Err(_) => Err(Cause::Syntax),
     }
 }

@@ -1,3 +1,6 @@
+use Rattle.std.proofs.Common.{◌≡◌, ◌↔◌, ℕ, List, Result, subst}
+use Rattle.forms.specs.ReadBack.{Turns}
+use Rattle.forms.specs.declared.cause.Cause.{Cause}
 use Rattle.forms.specs.Answers.{bytes_of}
 use Rattle.forms.proofs.Lawful.{exactly_turned}
 use Rattle.forms.proofs.answer.reply.Goals as goal
@@ -10,3 +13,7 @@ returns-clause-answer c = λ answer.
 
 pub returns-clause-turned : goal.returns-clause-turned
 returns-clause-turned c = exactly_turned c.args.from c.args.to (c.all_lawful.ensures c.args.from) (c.all_lawful.ensures c.args.to) c.args.text.now (bytes_of c.turned.result) c.turned.ensures.turned
+
+pub returns-then-is_counted-clause-turned : goal.returns-then-is_counted-clause-turned
+returns-then-is_counted-clause-turned c =
+    subst (λ (text : List ℕ). (answer : Result (List ℕ) Cause) → (bytes_of c.reply_alone.result ≡ answer) ↔ Turns c.args.from c.args.to text answer) c.new.ensures c.reply_alone.ensures.turned

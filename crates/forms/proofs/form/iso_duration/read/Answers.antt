@@ -1,13 +1,7 @@
-use Rattle.forms.specs.Answers.{Is}
+use Rattle.std.proofs.Common.{ℕ, List, subst}
+use Rattle.forms.specs.Answers.{Is, ReadsBy}
 use Rattle.forms.specs.form.IsoDuration.{Spells, worth}
-use Rattle.forms.proofs.WholeTexts.{reads_whole, reads_part, reads_no_front}
 use Rattle.forms.proofs.form.iso_duration.read.Goals as goal
 
-pub returns-then-is_empty : goal.returns-then-is_empty
-returns-then-is_empty c = reads_whole Spells (Is worth) _ c.args.text.now c.in-Ok.rest.now c.in-Ok.duration c.value_of.result c.is_empty.result c.as_bytes.ensures.value c.in-Ok.ensures.found c.is_empty.ensures c.if-is_empty.true c.value_of.ensures
-
-pub returns-else-is_empty : goal.returns-else-is_empty
-returns-else-is_empty c = reads_part Spells (Is worth) _ c.args.text.now c.in-Ok.rest.now c.is_empty.result c.as_bytes.ensures.value c.in-Ok.ensures.longest c.is_empty.ensures c.if-is_empty.false
-
-pub returns-in-Err : goal.returns-in-Err
-returns-in-Err c = reads_no_front Spells (Is worth) _ c.args.text.now c.as_bytes.ensures.value c.in-Err.ensures.none
+pub returns : goal.returns
+returns c = subst (λ (text : List ℕ). ReadsBy Spells (Is worth) text c.read_alone.result) c.new.ensures c.read_alone.ensures

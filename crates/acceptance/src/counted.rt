@@ -1,0 +1,85 @@
+//! Answers from the interval forms by counted looks: those of the plain call.
+ghost use Rattle.std.specs.Prelude.{◌≡◌, ◌<◌, IsSome};
+ghost use Rattle.forms.specs.Names.{style_of};
+
+use forms::{Cause, Form, reply, reply_counted};
+use scan_core::{Looked, Short, Steps};
+use std::marker::Brand;
+use std::sync::ledger::{Blank, Ledger};
+use std::test::Fail;
+
+/// The answer with a counter of its own.
+fn counted<L: Ledger>(from: Form, to: Form, text: &Looked<'_>, blank: Blank) -> Result<Short, Cause>
+    requires form { IsSome (style_of from) }
+    requires name { blank.name ≡ L.name }
+    requires parts { blank.parts ≡ L.parts }
+    requires some { 0 < L.parts }
+{
+    reply_counted(from, to, text, &mut Steps::<L>::new(blank))
+}
+
+/// The answers to a text in the ISO style.
+fn from_iso(text: &str) -> [Result<Short, Cause>; 2] {
+    let looked = Looked::new(text);
+    [
+        reply(Form::PgIso, Form::PgIso, text),
+        counted::<Brand>(Form::PgIso, Form::PgIso, &looked, Blank::new(1)),
+    ]
+}
+
+/// The answers to a text in the postgres style.
+fn from_postgres(text: &str) -> [Result<Short, Cause>; 2] {
+    let looked = Looked::new(text);
+    [
+        reply(Form::Postgres, Form::PgIso, text),
+        counted::<Brand>(Form::Postgres, Form::PgIso, &looked, Blank::new(1)),
+    ]
+}
+
+/// An answer as it stands in a reply.
+fn told(answer: &Result<Short, Cause>) -> &str {
+    match answer {
+        Ok(text) => text.as_str(),
+        Err(Cause::Syntax) => "Syntax",
+        Err(Cause::Range) => "Range",
+        Err(_) => "another cause",
+    }
+}
+
+#[test]
+fn counted_answers(rt: HostRuntime) -> Result<(), Fail> {
+    for (text, want) in [
+        ("P1Y1Y", "P2Y"),
+        ("PT5S5S", "PT10S"),
+        ("PT", "PT0S"),
+        ("P1.99Y", "P2Y"),
+        ("P1.2MT0S", "P1M6D"),
+        ("P0.0416666666666666667Y", "P1M"),
+        ("P0.0416666666666666666Y", "PT0S"),
+        ("PT-0.0000005S", "PT-.000001S"),
+        ("P2147483647D1D-1D", "P2147483647D"),
+        ("P9999999999D-9999999999D", "Range"),
+        ("P", "Syntax"),
+        ("", "Syntax"),
+        ("PT10", "Syntax"),
+    ] {
+        for answer in from_iso(text) {
+            assert_eq!(rt; told(&answer), want, "at {text}");
+        }
+    }
+    for (text, want) in [
+        ("1 year 2 mons 3 days 04:05:06", "P1Y2M3DT4H5M6S"),
+        ("1.5years", "P1Y6M"),
+        ("", "PT0S"),
+        ("1 hours 00:02:03", "PT1H2M3S"),
+        ("1 hours 01:02:03", "Syntax"),
+        ("0:00:00.1234567", "PT.123456S"),
+        ("9223372036854775808:00:00", "Range"),
+        ("1 day 2 day", "Syntax"),
+    ] {
+        for answer in from_postgres(text) {
+            assert_eq!(rt; told(&answer), want, "at {text}");
+        }
+    }
+    Ok(())
+}
