@@ -485,12 +485,12 @@ mod tests {
     use std::sync::ledger::Blank;
     use std::test::Fail;
 
-    fn read<L: Ledger>(text: &str, blank: Blank) -> Result<Duration, ParseFailed>
+    fn read<L: Ledger>(text: &Looked<'_>, blank: Blank) -> Result<Duration, ParseFailed>
         requires name { blank.name ≡ L.name }
         requires parts { blank.parts ≡ L.parts }
         requires some { 0 < L.parts }
     {
-        duration_counted(&Looked::new(text), &mut Steps::<L>::new(blank))
+        duration_counted(text, &mut Steps::<L>::new(blank))
     }
 
     #[test]
@@ -515,7 +515,7 @@ mod tests {
             ("P201511-03T24:59:60+24", "P2015Y11M3DT24H59M60S"),
             ("P0000-01-01T00:00-0059", "P1M1D"),
         ] {
-            let duration = read::<Brand>(text, Blank::new(1));
+            let duration = read::<Brand>(&Looked::new(text), Blank::new(1));
             assert_eq!(rt;
                 duration.map(|d| d.text().as_str() == want),
                 Ok(true),
@@ -562,7 +562,7 @@ mod tests {
             "P-2015-11-03T21:56",
         ] {
             assert_eq!(rt;
-                read::<Brand>(text, Blank::new(1)),
+                read::<Brand>(&Looked::new(text), Blank::new(1)),
                 Err(ParseFailed),
                 "at {text}"
             );
