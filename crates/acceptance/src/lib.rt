@@ -15,6 +15,10 @@ mod hostile;
 #[cfg(test)]
 mod iso;
 #[cfg(test)]
+mod iso_dates;
+#[cfg(test)]
+mod iso_durations;
+#[cfg(test)]
 mod pieces;
 #[cfg(test)]
 mod postgres;
@@ -22,5 +26,7 @@ mod postgres;
 mod program;
 #[cfg(test)]
 mod sql;
+#[cfg(test)]
+mod toml;
 #[cfg(test)]
 mod verbose;

@@ -32,8 +32,10 @@ pub enum ConvertError {
 /// It is what `write_value` makes in the second form of what `read_value` makes in the first, and the cause of the one that refuses.
 /// From a form whose texts can be read by counted looks it is one call of `reply_counted`, with a counter of its own.
 pub fn reply(from: Form, to: Form, text: &str) -> Result<Short, Cause>
-    ensures answer { (answer : AnyResult (List ℕ) AnyCause) → (bytes_of result ≡ answer) ↔ IsAnswer from to text.now answer }
-    ensures turned { (answer : AnyResult (List ℕ) AnyCause) → (bytes_of result ≡ answer) ↔ Turns from to text.now answer }
+    ensures answer { (answer : AnyResult (List ℕ) AnyCause)
+        → (bytes_of result ≡ answer) ↔ IsAnswer from to text.now answer }
+    ensures turned { (answer : AnyResult (List ℕ) AnyCause)
+        → (bytes_of result ≡ answer) ↔ Turns from to text.now answer }
     ensures len { IfOk result (λ out. array_string_len out ≤ 96) }
 {
     if from.is_counted() {
@@ -120,8 +122,10 @@ fn turned_counted<L: Ledger>(
 /// in place of a text alone.
 pub fn convert(alloc: Global, from: Form, to: Form, text: &str) -> Result<String, ConvertError>
     ensures ok { IfOk result (λ out. IsAnswer from to text.now (Ok (string_bytes out))) }
-    ensures refused { (cause : AnyCause) → IsErrOf result (ConvertError.Refused cause) ↔ IsAnswer from to text.now (Err cause) }
-    ensures no_memory { IsErrOf result ConvertError.NoMemory → (out : List ℕ) × IsAnswer from to text.now (Ok out) }
+    ensures refused { (cause : AnyCause)
+        → IsErrOf result (ConvertError.Refused cause) ↔ IsAnswer from to text.now (Err cause) }
+    ensures no_memory { IsErrOf result ConvertError.NoMemory
+        → (out : List ℕ) × IsAnswer from to text.now (Ok out) }
 {
     match reply(from, to, text) {
         Ok(out) => match String::from_str(alloc, out.as_str()) {

@@ -1,5 +1,9 @@
 //! Laws of forms, lines, replies and the ends of runs.
 ghost use Rattle.std.specs.Prelude.{◌≡◌, ◌⊎◌, ◌↔◌, ◌+◌, ◌-◌, ◌^◌, ◌<◌, List, ℕ, Result as AnyResult, Ok, IfSome};
+ghost use Rattle.pg_interval_2.specs.Denotes.{Denotes};
+ghost use Rattle.pg_interval_2.specs.Styles.{Shape};
+ghost use Rattle.pg_interval_2.specs.declared.interval.Interval.{Interval as AnyInterval};
+ghost use Rattle.pg_interval_2.specs.declared.style.Style.{Style as AnyStyle};
 ghost use Rattle.forms.specs.declared.cause.Cause.{Cause as AnyCause};
 ghost use Rattle.forms.specs.declared.form.Form.{Form as AnyForm};
 ghost use Rattle.forms.specs.declared.run_end.RunEnd.{RunEnd as AnyEnd};
@@ -10,7 +14,7 @@ ghost use Rattle.forms.specs.Forms.{Reads, Writes};
 ghost use Rattle.forms.specs.Lines.{lines};
 ghost use Rattle.forms.specs.Outside.{Rose};
 ghost use Rattle.forms.specs.ReadBack.{Turns, IsReadBack};
-ghost use Rattle.forms.specs.Replies.{IsAnswer, IsReply, AreReplies};
+ghost use Rattle.forms.specs.Replies.{IsAnswer, IsIntervalAnswer, IsReply, AreReplies};
 ghost use Rattle.forms.specs.Values.{IsWithinBounds};
 ghost use Rattle.forms.specs.inside.Lawful.{Lawful};
 
@@ -32,44 +36,59 @@ pub(crate) fn all_lawful()
 
 /// A text stands for one value at most in each form, and where it stands for none there is one cause.
 pub fn texts_have_one_reading()
-    ensures { (form : AnyForm) (text : List ℕ) (a b : AnyResult AnyValue AnyCause) → Reads form text a → Reads form text b → a ≡ b }
+    ensures { (form : AnyForm) (text : List ℕ) (a b : AnyResult AnyValue AnyCause)
+        → Reads form text a → Reads form text b → a ≡ b }
 {
     all_lawful();
 }
 
 /// A value has one written text at most in each form, and where it has none there is one cause.
 pub fn values_have_one_writing()
-    ensures { (form : AnyForm) (value : AnyValue) (a b : AnyResult (List ℕ) AnyCause) → Writes form value a → Writes form value b → a ≡ b }
+    ensures { (form : AnyForm) (value : AnyValue) (a b : AnyResult (List ℕ) AnyCause)
+        → Writes form value a → Writes form value b → a ≡ b }
 {
     all_lawful();
 }
 
 /// What a text stands for is within the bounds of values.
 pub fn read_values_are_within_bounds()
-    ensures { (form : AnyForm) (text : List ℕ) (value : AnyValue) → Reads form text (Ok value) → IsWithinBounds value }
+    ensures { (form : AnyForm) (text : List ℕ) (value : AnyValue)
+        → Reads form text (Ok value) → IsWithinBounds value }
 {
     all_lawful();
 }
 
 /// The written text of a value stands for this value, or for one that is the same, whose text it is.
 pub fn written_texts_are_read_back()
-    ensures { (form : AnyForm) (value : AnyValue) (text : List ℕ) → IsWithinBounds value → Writes form value (Ok text) → IsReadBack form value text }
+    ensures { (form : AnyForm) (value : AnyValue) (text : List ℕ)
+        → IsWithinBounds value → Writes form value (Ok text) → IsReadBack form value text }
 {
     all_lawful();
 }
 
-/// Where a text of one form has an answer in another form, the answer stands there for the value of the text, or for one that is the same,
-/// whose text it is: so a second conversion into that form changes nothing.
+/// Where a text of one form has an answer in another form, the answer stands there for the value of the text, or for one
+/// that is the same, whose text it is: so a second conversion into that form changes nothing.
 pub fn answers_are_read_back()
-    ensures { (from to : AnyForm) (text out : List ℕ) → IsAnswer from to text (Ok out) → (value : AnyValue) × Reads from text (Ok value) × IsReadBack to value out }
+    ensures { (from to : AnyForm) (text out : List ℕ) → IsAnswer from to text (Ok out)
+        → (value : AnyValue) × Reads from text (Ok value) × IsReadBack to value out }
 {
     all_lawful();
     answers_are_readings_written();
 }
 
-/// What a reply is: that of the interval grammars and styles between interval forms, and reading and writing in turn elsewhere, say the same.
+/// Between interval forms the answer denotes the text's interval itself. So a way through a third interval form changes nothing.
+pub fn interval_answers_keep_their_interval()
+    ensures { (from to : AnyStyle) (text out : List ℕ) → IsIntervalAnswer from to text (Ok out)
+        → (t : AnyInterval) × Denotes (Shape from) text t × Denotes (Shape to) out t }
+{
+    pg_interval_2::laws::written_text_is_read_back();
+}
+
+/// An answer is what the second form writes of what the first reads, between interval forms too, where it is said in the words of the
+/// interval grammars and styles.
 pub fn answers_are_readings_written()
-    ensures { (from to : AnyForm) (text : List ℕ) (answer : AnyResult (List ℕ) AnyCause) → IsAnswer from to text answer ↔ Turns from to text answer }
+    ensures { (from to : AnyForm) (text : List ℕ) (answer : AnyResult (List ℕ) AnyCause)
+        → IsAnswer from to text answer ↔ Turns from to text answer }
 {}
 
 /// A line has exactly one reply. That there is one is shown by answering the line.

@@ -37,7 +37,8 @@ pub enum Value {
 /// Where there is none it is the first of these that holds: `Syntax` where the text hasn't the form's shape, `NoSuchMoment` where its
 /// fields name no day or no time of day, `Range` where its numbers leave the value's bounds. It takes no memory.
 pub fn read_value(form: Form, text: &str) -> Result<Value, Cause>
-    ensures answer { (answer : AnyResult AnyValue AnyCause) → (result ≡ answer) ↔ Reads form text.now answer }
+    ensures answer { (answer : AnyResult AnyValue AnyCause)
+        → (result ≡ answer) ↔ Reads form text.now answer }
     ensures within { IfOk result IsWithinBounds }
 {
     all_lawful();
@@ -52,7 +53,8 @@ pub fn read_value(form: Form, text: &str) -> Result<Value, Cause>
 /// otherwise. It takes no memory.
 pub fn write_value(form: Form, value: Value) -> Result<Short, Cause>
     requires { IsWithinBounds value }
-    ensures answer { (answer : AnyResult (List ℕ) AnyCause) → (bytes_of result ≡ answer) ↔ Writes form value answer }
+    ensures answer { (answer : AnyResult (List ℕ) AnyCause)
+        → (bytes_of result ≡ answer) ↔ Writes form value answer }
     ensures len { IfOk result (λ out. array_string_len out ≤ 96) }
 {
     all_lawful();
