@@ -37,10 +37,22 @@ fn verbose_lines(rt: HostRuntime) -> Result<(), Fail> {
         ("PgVerbose PgSql @1dayago\n", "-1 0:00:00\n"),
         ("PgVerbose PgSql @ 01:02:03 ago\n", "-1:02:03\n"),
         ("PgVerbose Postgres @ -01:02:03.5\n", "-01:02:03.500000\n"),
-        ("PgVerbose Postgres @ 1 mon 2 days 3 secs ago\n", "-1 mons -2 days -00:00:03\n"),
-        ("PgVerbose PgVerbose @ 1 day -2 hours ago\n", "@ -1 day 2 hours\n"),
-        ("PgVerbose PgVerbose @ 2147483648 days ago\n", "@ 2147483648 days ago\n"),
-        ("PgVerbose PgVerbose \t @ 1 day\u{b}ago \r\n", "@ 1 day ago\n"),
+        (
+            "PgVerbose Postgres @ 1 mon 2 days 3 secs ago\n",
+            "-1 mons -2 days -00:00:03\n",
+        ),
+        (
+            "PgVerbose PgVerbose @ 1 day -2 hours ago\n",
+            "@ -1 day 2 hours\n",
+        ),
+        (
+            "PgVerbose PgVerbose @ 2147483648 days ago\n",
+            "@ 2147483648 days ago\n",
+        ),
+        (
+            "PgVerbose PgVerbose \t @ 1 day\u{b}ago \r\n",
+            "@ 1 day ago\n",
+        ),
         ("PgVerbose PgIso @ago\n", "PT0S\n"),
         ("PgVerbose PgIso @0ago\n", "PT0S\n"),
         ("PgVerbose Postgres @\n", "00:00:00\n"),
@@ -58,7 +70,10 @@ fn verbose_lines(rt: HostRuntime) -> Result<(), Fail> {
         ("Postgres PgIso 1 min\n", "refused Syntax\n"),
         ("Postgres PgIso 1 day ago\n", "refused Syntax\n"),
         ("PgVerbose PgIso @ 2147483648 days\n", "refused Range\n"),
-        ("PgVerbose PgIso @ -2147483648 days ago\n", "refused Range\n"),
+        (
+            "PgVerbose PgIso @ -2147483648 days ago\n",
+            "refused Range\n",
+        ),
     ] {
         let outcome = outcome_of(rt.alloc(), line.as_bytes(), 4096)?;
         assert_eq!(rt; outcome.status, 0, "at {line}");
