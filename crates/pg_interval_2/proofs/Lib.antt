@@ -53,3 +53,4 @@ pub mod VerboseBadNames
 pub mod VerboseReading
 pub mod VerboseSpelled
 pub mod VerboseReadBack
+pub mod CellFacts

@@ -5,6 +5,7 @@ pub mod IsoText
 pub mod ClockText
 pub mod PostgresText
 pub mod Ranges
+pub mod Cell
 pub mod Messages
 pub mod Styles
 pub mod UnitNames

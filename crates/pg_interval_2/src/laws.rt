@@ -3,6 +3,7 @@ ghost use Rattle.std.specs.Prelude.{◌≡◌, ℕ, List};
 ghost use Rattle.scan_core.specs.Count.{Count};
 ghost use Rattle.pg_interval_2.specs.declared.interval.Interval.{Interval};
 ghost use Rattle.pg_interval_2.specs.declared.style.Style.{Style};
+ghost use Rattle.pg_interval_2.specs.Cell.{cell};
 ghost use Rattle.pg_interval_2.specs.Denotes.{Denotes};
 ghost use Rattle.pg_interval_2.specs.Ranges.{IsInRange};
 ghost use Rattle.pg_interval_2.specs.Styles.{Shape, written};
@@ -16,4 +17,10 @@ pub fn text_has_one_list_of_counts()
 pub fn written_text_is_read_back()
     ensures denotes { (style : Style) (t : Interval) → IsInRange t → Denotes (Shape style) (written style t) t }
     ensures alone { (style : Style) (t u : Interval) → IsInRange t → Denotes (Shape style) (written style t) u → u ≡ t }
+{}
+
+/// Two intervals have different cells. As `from_cell` gives an interval for all 16 bytes, cells and intervals are one to
+/// one: `Interval::from_cell(t.to_cell())` is `t`, and `Interval::from_cell(bytes).to_cell()` is `bytes`.
+pub fn cells_are_one_to_one()
+    ensures { (t u : Interval) → IsInRange t → IsInRange u → cell t ≡ cell u → t ≡ u }
 {}

@@ -7,6 +7,7 @@
 
 mod ago;
 mod body;
+mod cell;
 mod clock;
 mod clock_text;
 mod counted;

@@ -1,0 +1,105 @@
+//! The binary form of an interval, as a `COPY BINARY` or a driver hands it over.
+ghost use Rattle.std.specs.Prelude.{◌≡◌};
+ghost use Rattle.std.specs.Int.{w32, w64};
+ghost use Rattle.pg_interval_2.specs.Cell.{cell, big_endian};
+
+use crate::interval::Interval;
+
+impl Interval {
+    /// The 16 bytes of PostgreSQL's binary form: microseconds, days and months, each in two's complement with the highest
+    /// byte first.
+    ///
+    /// The bytes of a year, a month, a day and an hour are `00000000d693a400`, `00000001` and `0000000d`.
+    pub fn to_cell(&self) -> [u8; 16]
+        ensures { result ≡ cell self.now }
+    {
+        let [m0, m1, m2, m3, m4, m5, m6, m7] = self.microseconds.to_be_bytes();
+        let [d0, d1, d2, d3] = self.days.to_be_bytes();
+        let [n0, n1, n2, n3] = self.months.to_be_bytes();
+        [
+            m0, m1, m2, m3, m4, m5, m6, m7, d0, d1, d2, d3, n0, n1, n2, n3,
+        ]
+    }
+
+    /// The interval of which these are the bytes. Any 16 bytes are those of one interval.
+    pub fn from_cell(bytes: [u8; 16]) -> Interval
+        ensures { cell result ≡ bytes }
+    {
+        let [
+            m0,
+            m1,
+            m2,
+            m3,
+            m4,
+            m5,
+            m6,
+            m7,
+            d0,
+            d1,
+            d2,
+            d3,
+            n0,
+            n1,
+            n2,
+            n3,
+        ] = bytes;
+        Interval::new(
+            number_of_4([n0, n1, n2, n3]),
+            number_of_4([d0, d1, d2, d3]),
+            number_of_8([m0, m1, m2, m3, m4, m5, m6, m7]),
+        )
+    }
+}
+
+/// The number of which these are the bytes.
+fn number_of_4(bytes: [u8; 4]) -> i32
+    ensures { big_endian w32 result ≡ bytes }
+{
+    i32::from_be_bytes(bytes)
+}
+
+/// The number of which these are the bytes.
+fn number_of_8(bytes: [u8; 8]) -> i64
+    ensures { big_endian w64 result ≡ bytes }
+{
+    i64::from_be_bytes(bytes)
+}
+
+#[cfg(test)]
+mod tests {
+    use super::*;
+    use std::test::Fail;
+
+    #[test]
+    fn cells_are_those_of_the_server(rt: HostRuntime) -> Result<(), Fail> {
+        for (months, days, microseconds, cell) in [
+            (0, 0, 0, [0; 16]),
+            (
+                13,
+                1,
+                3_600_000_000,
+                [0, 0, 0, 0, 0xd6, 0x93, 0xa4, 0, 0, 0, 0, 1, 0, 0, 0, 0x0d],
+            ),
+            (-1, -1, -1, [0xff; 16]),
+            (
+                i32::MIN,
+                i32::MAX,
+                i64::MIN,
+                [
+                    0x80, 0, 0, 0, 0, 0, 0, 0, 0x7f, 0xff, 0xff, 0xff, 0x80, 0, 0, 0,
+                ],
+            ),
+            (
+                0x01020304,
+                0x05060708,
+                0x090a0b0c0d0e0f10,
+                [9, 10, 11, 12, 13, 14, 15, 16, 5, 6, 7, 8, 1, 2, 3, 4],
+            ),
+        ] {
+            let interval = Interval::new(months, days, microseconds);
+            assert_eq!(rt; interval.to_cell(), cell, "at {interval:?}");
+            assert_eq!(rt; Interval::from_cell(cell), interval);
+        }
+        Ok(())
+    }
+}
