@@ -54,3 +54,4 @@ pub mod VerboseReading
 pub mod VerboseSpelled
 pub mod VerboseReadBack
 pub mod CellFacts
+pub mod SumFacts

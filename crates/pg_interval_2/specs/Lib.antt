@@ -6,6 +6,7 @@ pub mod ClockText
 pub mod PostgresText
 pub mod Ranges
 pub mod Cell
+pub mod Sums
 pub mod Messages
 pub mod Styles
 pub mod UnitNames

@@ -7,6 +7,7 @@ ghost use Rattle.pg_interval_2.specs.Cell.{cell};
 ghost use Rattle.pg_interval_2.specs.Denotes.{Denotes};
 ghost use Rattle.pg_interval_2.specs.Ranges.{IsInRange};
 ghost use Rattle.pg_interval_2.specs.Styles.{Shape, written};
+ghost use Rattle.pg_interval_2.specs.Sums.{plus, less};
 
 /// No text spells two lists of counts in one style, so none denotes two intervals.
 pub fn text_has_one_list_of_counts()
@@ -17,6 +18,14 @@ pub fn text_has_one_list_of_counts()
 pub fn written_text_is_read_back()
     ensures denotes { (style : Style) (t : Interval) → IsInRange t → Denotes (Shape style) (written style t) t }
     ensures alone { (style : Style) (t u : Interval) → IsInRange t → Denotes (Shape style) (written style t) u → u ≡ t }
+{}
+
+/// Sums don't hang on the order, and a sum and a difference undo each other. So where `a.checked_add(b)` is `Some(c)`,
+/// `b.checked_add(a)` is `Some(c)` and `c.checked_sub(b)` is `Some(a)`.
+pub fn sums_are_undone()
+    ensures swapped { (a b : Interval) → plus a b ≡ plus b a }
+    ensures undone { (a b : Interval) → less (plus a b) b ≡ a }
+    ensures restored { (a b : Interval) → plus (less a b) b ≡ a }
 {}
 
 /// Two intervals have different cells. As `from_cell` gives an interval for all 16 bytes, cells and intervals are one to

@@ -26,6 +26,7 @@ mod sql;
 mod sql_text;
 mod sql_word;
 mod style;
+mod sums;
 mod tally;
 mod text;
 mod unit_names;
