@@ -8,6 +8,7 @@ pub mod Ranges
 pub mod Cell
 pub mod Sums
 pub mod Messages
+pub mod ErrorText
 pub mod Styles
 pub mod UnitNames
 pub mod Clock

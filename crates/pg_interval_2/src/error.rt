@@ -1,5 +1,9 @@
-ghost use Rattle.std.specs.Prelude.{◌↔◌, IsTrue};
+ghost use Rattle.std.specs.Prelude.{◌≡◌, ◌↔◌, IsTrue, Some};
 ghost use Rattle.pg_interval_2.specs.Denotes.{IsRange};
+ghost use Rattle.pg_interval_2.specs.ErrorText.{error_text};
+
+use std::fmt;
+use std::fmt::Display;
 
 /// Why a text isn't read as an interval.
 #[derive(Clone, Copy, Debug, PartialEq, Eq)]
@@ -18,6 +22,27 @@ pub enum ParseError {
 }
 
 impl ParseError {
+    /// The refusal of the months with this message.
+    pub fn from_year_month(message: &'static str) -> ParseError
+        ensures { result ≡ ParseError.InvalidYearMonth message.entry }
+    {
+        ParseError::InvalidYearMonth(message)
+    }
+
+    /// The refusal of the microseconds with this message.
+    pub fn from_time(message: &'static str) -> ParseError
+        ensures { result ≡ ParseError.InvalidTime message.entry }
+    {
+        ParseError::InvalidTime(message)
+    }
+
+    /// The refusal of a text that isn't in the style, with this message.
+    pub fn from_invalid_interval(message: &'static str) -> ParseError
+        ensures { result ≡ ParseError.InvalidInterval message.entry }
+    {
+        ParseError::InvalidInterval(message)
+    }
+
     /// True exactly where the text is in the style and a part of it doesn't fit its type.
     pub fn is_range(&self) -> bool
         ensures { IsTrue result ↔ IsRange self.now }
@@ -28,5 +53,63 @@ impl ParseError {
             | ParseError::InvalidTime(_) => true,
             ParseError::InvalidInterval(_) | ParseError::BadUnit { .. } => false,
         }
+    }
+}
+
+/// `Invalid day interval: Invalid day interval overflow detected.`: which refusal it is, and its message.
+impl Display for ParseError {
+    ghost output = { λ error. Some (error_text error) };
+
+    fn fmt<W: fmt::Write>(&self, f: &mut fmt::Formatter<W>) -> fmt::Result {
+        match self {
+            ParseError::InvalidInterval(message) => write!(f, "Invalid interval: {message}"),
+            ParseError::BadUnit { start, end } => {
+                write!(f, "Invalid interval: bad unit at {start}..{end}")
+            }
+            ParseError::InvalidYearMonth(message) => {
+                write!(f, "Invalid year/month interval: {message}")
+            }
+            ParseError::InvalidDay(message) => write!(f, "Invalid day interval: {message}"),
+            ParseError::InvalidTime(message) => write!(f, "Invalid time interval: {message}"),
+        }
+    }
+}
+
+#[cfg(test)]
+mod tests {
+    use super::*;
+    use std::test::Fail;
+
+    #[test]
+    fn refusals_print_their_kind_and_message(rt: HostRuntime) -> Result<(), Fail> {
+        let alloc = rt.alloc();
+        for (error, text) in [
+            (
+                ParseError::from_invalid_interval("not an iso interval"),
+                "Invalid interval: not an iso interval",
+            ),
+            (
+                ParseError::BadUnit { start: 2, end: 11 },
+                "Invalid interval: bad unit at 2..11",
+            ),
+            (
+                ParseError::from_year_month("too many"),
+                "Invalid year/month interval: too many",
+            ),
+            (
+                ParseError::InvalidDay("too many"),
+                "Invalid day interval: too many",
+            ),
+            (
+                ParseError::from_time("too many"),
+                "Invalid time interval: too many",
+            ),
+        ] {
+            assert_eq!(rt; format!(in alloc; "{error}")?.as_str(), text);
+        }
+        assert_eq!(rt; ParseError::from_time("a").is_range(), true);
+        assert_eq!(rt; ParseError::from_year_month("a").is_range(), true);
+        assert_eq!(rt; ParseError::from_invalid_interval("a").is_range(), false);
+        Ok(())
     }
 }
