@@ -7,6 +7,7 @@ pub mod PostgresText
 pub mod Ranges
 pub mod Cell
 pub mod Sums
+pub mod Lengths
 pub mod Messages
 pub mod ErrorText
 pub mod Styles

@@ -11,6 +11,7 @@ mod cell;
 mod clock;
 mod clock_text;
 mod counted;
+mod duration;
 mod error;
 mod interval;
 mod iso;
