@@ -26,6 +26,7 @@ mod reading;
 mod sql;
 mod sql_text;
 mod sql_word;
+mod strings;
 mod style;
 mod sums;
 mod tally;

@@ -1,0 +1,64 @@
+//! Written texts as strings, which alone in this crate take memory.
+ghost use Rattle.std.specs.Prelude.{◌≡◌, IfOk};
+ghost use Rattle.std.specs.String.{string_bytes};
+ghost use Rattle.pg_interval_2.specs.declared.style.Style.TheVariants.{Iso, Postgres, Verbose, Sql};
+ghost use Rattle.pg_interval_2.specs.Styles.{written};
+
+use crate::interval::Interval;
+use crate::style::Style;
+use std::alloc::{AllocError, Global};
+
+impl Interval {
+    /// The written text in the style `iso_8601`: `P1Y1M1DT1H`. `AllocError` where there is no memory for it.
+    pub fn to_iso_8601(&self, alloc: Global) -> Result<String, AllocError>
+        ensures { IfOk result (λ text. string_bytes text ≡ written Iso self.now) }
+    {
+        String::from_str(alloc, self.text(Style::Iso).as_str())
+    }
+
+    /// The written text in the style `postgres`: `1 year 1 mon 1 day 01:00:00`. `AllocError` where there is no memory for
+    /// it.
+    pub fn to_postgres(&self, alloc: Global) -> Result<String, AllocError>
+        ensures { IfOk result (λ text. string_bytes text ≡ written Postgres self.now) }
+    {
+        String::from_str(alloc, self.text(Style::Postgres).as_str())
+    }
+
+    /// The written text in the style `postgres_verbose`: `@ 1 year 1 mon 1 day 1 hour`. `AllocError` where there is no
+    /// memory for it.
+    pub fn to_postgres_verbose(&self, alloc: Global) -> Result<String, AllocError>
+        ensures { IfOk result (λ text. string_bytes text ≡ written Verbose self.now) }
+    {
+        String::from_str(alloc, self.text(Style::Verbose).as_str())
+    }
+
+    /// The written text in the style `sql_standard`: `+1-1 +1 +1:00:00`. `AllocError` where there is no memory for it.
+    pub fn to_sql(&self, alloc: Global) -> Result<String, AllocError>
+        ensures { IfOk result (λ text. string_bytes text ≡ written Sql self.now) }
+    {
+        String::from_str(alloc, self.text(Style::Sql).as_str())
+    }
+}
+
+#[cfg(test)]
+mod tests {
+    use super::*;
+    use std::test::Fail;
+
+    #[test]
+    fn strings_are_the_written_texts(rt: HostRuntime) -> Result<(), Fail> {
+        let interval = Interval::new(13, 1, 3_600_000_000);
+        let alloc = rt.alloc();
+        assert_eq!(rt; interval.to_iso_8601(alloc)?.as_str(), "P1Y1M1DT1H");
+        assert_eq!(rt;
+            interval.to_postgres(alloc)?.as_str(),
+            "1 year 1 mon 1 day 01:00:00"
+        );
+        assert_eq!(rt;
+            interval.to_postgres_verbose(alloc)?.as_str(),
+            "@ 1 year 1 mon 1 day 1 hour"
+        );
+        assert_eq!(rt; interval.to_sql(alloc)?.as_str(), "+1-1 +1 +1:00:00");
+        Ok(())
+    }
+}
