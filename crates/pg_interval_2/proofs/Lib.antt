@@ -55,3 +55,4 @@ pub mod VerboseSpelled
 pub mod VerboseReadBack
 pub mod CellFacts
 pub mod SumFacts
+pub mod DenotedRange

@@ -20,6 +20,12 @@ pub fn written_text_is_read_back()
     ensures alone { (style : Style) (t u : Interval) → IsInRange t → Denotes (Shape style) (written style t) u → u ≡ t }
 {}
 
+/// What a text denotes is within the types of the parts, in every style.
+pub fn denoted_interval_is_in_range()
+    ensures { (style : Style) (text : List ℕ) (t : Interval)
+        → Denotes (Shape style) text t → IsInRange t }
+{}
+
 /// Sums don't hang on the order, and a sum and a difference undo each other. So where `a.checked_add(b)` is `Some(c)`,
 /// `b.checked_add(a)` is `Some(c)` and `c.checked_sub(b)` is `Some(a)`.
 pub fn sums_are_undone()

@@ -1,0 +1,33 @@
+-- What a text denotes is in the types' range, whatever the style.
+use Rattle.std.proofs.Common.{ℕ, IsTrue, List, ℤ, pos, negsuc, subst, sym}
+use Rattle.std.proofs.lemmas.Bool.{and_parts, ltb-true}
+use Rattle.std.specs.Int.{w32, w64}
+use Rattle.std.specs.Prelude.{FitsSigned}
+use Rattle.scan_core.specs.Count.{Count}
+use Rattle.scan_core.specs.Shares.{is_within}
+use Rattle.scan_core.specs.Sums.{fits, part_fits, total}
+use Rattle.scan_core.specs.declared.share.Part.TheVariants.{Months, Days, Micros}
+use Rattle.pg_interval_2.specs.declared.interval.Interval.{Interval}
+use Rattle.pg_interval_2.specs.Denotes.{Denotes, sum_of}
+use Rattle.pg_interval_2.specs.Ranges.{IsInRange}
+
+within_32 : (z : ℤ) → IsTrue (is_within 32 z) → FitsSigned w32 z
+within_32 (pos n) small = record { sfits = ltb-true _ _ small }
+within_32 (negsuc n) small = record { sfits = ltb-true _ _ small }
+
+within_64 : (z : ℤ) → IsTrue (is_within 64 z) → FitsSigned w64 z
+within_64 (pos n) small = record { sfits = ltb-true _ _ small }
+within_64 (negsuc n) small = record { sfits = ltb-true _ _ small }
+
+sum_in_range : (counts : List Count) → IsTrue (fits counts) → IsInRange (sum_of counts)
+sum_in_range counts fit =
+    let months = and_parts (part_fits Months counts) _ fit in
+    let others = and_parts (part_fits Days counts) (part_fits Micros counts) months.1 in
+    record {
+      months = within_32 (total Months counts) (and_parts _ _ months.0).1;
+      days = within_32 (total Days counts) (and_parts _ _ others.0).1;
+      microseconds = within_64 (total Micros counts) (and_parts _ _ others.1).1;
+    }
+
+pub denoted_in_range : (Shape : List ℕ → List Count → Type 0) (text : List ℕ) (t : Interval) → Denotes Shape text t → IsInRange t
+denoted_in_range Shape text t denotes = subst IsInRange (sym denotes.3) (sum_in_range denotes.0 denotes.2)
