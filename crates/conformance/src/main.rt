@@ -1,0 +1,45 @@
+//! The conformance tables: each row's line goes through the program, and the reply must be the row's.
+//! The rows stand in data/, each with the rule that it pins; they were reckoned apart from this program.
+#![tactic(auto)]
+
+mod row;
+
+use forms::{MemSink, MemSource, top};
+use row::{Row, row_of};
+use std::alloc::{AllocError, Global};
+use std::rt::Files;
+use std::{fs, io};
+
+/// The tables, in data/.
+const TABLES: [&str; 2] = ["intervals.tsv", "ten_forms.tsv"];
+
+fn main(rt: HostRuntime) -> io::Result<()> {
+    for table in TABLES {
+        run_table(&rt, table)?;
+    }
+    Ok(())
+}
+
+/// Runs each row of a table, and tells which rows disagree and how many agree.
+fn run_table<R: Files + AllocGlobal + Print>(rt: &R, table: &str) -> io::Result<()> {
+    let text = fs::read_to_string(rt, table)?;
+    let mut agreeing: u64 = 0;
+    for line in text.lines() {
+        if line.starts_with('#') {
+            continue;
+        }
+        match row_of(rt.alloc(), line)? {
+            Some(row) if agrees(rt.alloc(), &row)? => agreeing = agreeing.saturating_add(1),
+            _ => rt.println(format!(in rt.alloc(); "{table} disagrees: {line}")?)?,
+        }
+    }
+    rt.println(format!(in rt.alloc(); "{table}: {agreeing} rows agree")?)
+}
+
+/// Whether the program answers the row's line with the row's reply, and with status 0.
+fn agrees(alloc: Global, row: &Row) -> Result<bool, AllocError> {
+    let mut source = MemSource::new(alloc, row.line.as_slice(), 65_536, &[])?;
+    let mut sink = MemSink::new(alloc, 4096, 65_536, &[])?;
+    let status = top(alloc, "", &mut source, &mut sink);
+    Ok(status == 0 && sink.held() == row.reply.as_slice())
+}
