@@ -1,6 +1,6 @@
-//! Answers from the interval forms by counted looks: those of the plain call.
-ghost use Rattle.std.specs.Prelude.{◌≡◌, ◌<◌, IsSome};
-ghost use Rattle.forms.specs.Names.{style_of};
+//! Answers by counted looks are those of the plain call.
+ghost use Rattle.std.specs.Prelude.{◌≡◌, ◌<◌, IsTrue};
+ghost use Rattle.forms.specs.Names.{is_counted};
 
 use forms::{Cause, Form, reply, reply_counted};
 use scan_core::{Looked, Short, Steps};
@@ -10,7 +10,7 @@ use std::test::Fail;
 
 /// The answer with a counter of its own.
 fn counted<L: Ledger>(from: Form, to: Form, text: &Looked<'_>, blank: Blank) -> Result<Short, Cause>
-    requires form { IsSome (style_of from) }
+    requires form { IsTrue (is_counted from) }
     requires name { blank.name ≡ L.name }
     requires parts { blank.parts ≡ L.parts }
     requires some { 0 < L.parts }
@@ -33,6 +33,15 @@ fn from_postgres(text: &str) -> [Result<Short, Cause>; 2] {
     [
         reply(Form::Postgres, Form::PgIso, text),
         counted::<Brand>(Form::Postgres, Form::PgIso, &looked, Blank::new(1)),
+    ]
+}
+
+/// The answers to a duration of ISO 8601.
+fn from_duration(text: &str) -> [Result<Short, Cause>; 2] {
+    let looked = Looked::new(text);
+    [
+        reply(Form::IsoDuration, Form::PgIso, text),
+        counted::<Brand>(Form::IsoDuration, Form::PgIso, &looked, Blank::new(1)),
     ]
 }
 
@@ -78,6 +87,20 @@ fn counted_answers(rt: HostRuntime) -> Result<(), Fail> {
         ("1 day 2 day", "Syntax"),
     ] {
         for answer in from_postgres(text) {
+            assert_eq!(rt; told(&answer), want, "at {text}");
+        }
+    }
+    for (text, want) in [
+        (
+            "P2021Y11M16DT23H26M59.123S",
+            "P2021Y11M16DT23H26M59.123000S",
+        ),
+        ("P5W", "P35D"),
+        ("PT", "PT0S"),
+        ("P1M1Y", "Syntax"),
+        ("P-1D", "Syntax"),
+    ] {
+        for answer in from_duration(text) {
             assert_eq!(rt; told(&answer), want, "at {text}");
         }
     }
