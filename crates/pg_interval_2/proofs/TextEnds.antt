@@ -1,9 +1,9 @@
 -- The end of a text, looked at from its last byte on: blanks, and `ago` or none.
-use Rattle.std.proofs.Common.{◌≡◌, ℕ, ◌+◌, ◌-◌, ◌<◌, ◌≤◌, ◌&&◌, Bool, true, false, not, IsTrue, List, [], ◌∷◌, ◌++◌, length, take, codes, refl, sym, ◌∙◌, ap, append_assoc, append-nil, take_all, arith}
+use Rattle.std.proofs.Common.{◌≡◌, ℕ, ◌-◌, Bool, true, false, not, List, [], ◌∷◌, ◌++◌, length, take, codes, refl, sym, ◌∙◌, ap, append_assoc, append-nil, take_all, arith}
 use Rattle.std.proofs.lemmas.List.{append_cancel_right}
 use Rattle.std.specs.List.{list_all}
 use Rattle.scan_core.specs.Blanks.{is_blank}
-use Rattle.pg_interval_2.specs.Verbose.{ago_or_none, EndsInAgo}
+use Rattle.pg_interval_2.specs.Verbose.{EndsInAgo}
 use Rattle.pg_interval_2.specs.inside.VerboseReading.{solid_behind, ends_solid, AreBlanksBetween, IsEnding}
 use Rattle.pg_interval_2.proofs.ItemFacts.{AreBlanks, both}
 

@@ -1,12 +1,12 @@
 -- A text in `postgres_verbose` style has one bad name at most, and no shape where it has one.
-use Rattle.std.proofs.Common.{◌≡◌, ℕ, ◌+◌, Bool, true, false, List, [], ◌∷◌, ◌++◌, length, codes, refl, sym, ◌∙◌, ap, subst, inl, inr, append_assoc, append-nil, length-append, arith}
-use Rattle.scan_core.specs.Blanks.{is_blank, words, EndsWord, EndsInBlank}
+use Rattle.std.proofs.Common.{◌≡◌, ℕ, ◌+◌, Bool, true, false, List, [], ◌∷◌, ◌++◌, length, sym, ◌∙◌, ap, subst, inl, inr, append_assoc, append-nil, length-append, arith}
+use Rattle.scan_core.specs.Blanks.{words, EndsWord, EndsInBlank}
 use Rattle.scan_core.specs.Count.{Count}
 use Rattle.scan_core.proofs.WordFacts.{total_length}
 use Rattle.pg_interval_2.specs.Postgres.{AreItems, IsBadName}
 use Rattle.pg_interval_2.specs.UnitNames.{verbose_names}
 use Rattle.pg_interval_2.specs.Verbose.{IsBody, IsVerbose, IsVerboseBadName}
-use Rattle.pg_interval_2.specs.inside.ItemReading.{Verdict, BadLetters, Unspelled, verdict}
+use Rattle.pg_interval_2.specs.inside.ItemReading.{BadLetters, Unspelled, verdict}
 use Rattle.pg_interval_2.proofs.BadNames.{bad_verdict, no_shape_at_bad_name, one_bad_name}
 use Rattle.pg_interval_2.proofs.Frames.{whole_body, one_frame, whole_words}
 use Rattle.pg_interval_2.proofs.ItemFacts.{AreBlanks, first_blank}

@@ -1,10 +1,10 @@
 -- A text in `postgres_verbose` style has one list of counts.
-use Rattle.std.proofs.Common.{◌≡◌, ℕ, ◌<◌, Bool, true, false, IsTrue, List, [], ◌∷◌, codes, refl, sym, ◌∙◌, ap, ap₂, subst, inl, inr, arith}
+use Rattle.std.proofs.Common.{◌≡◌, ℕ, true, false, List, [], ◌∷◌, codes, refl, sym, ◌∙◌, ap, ap₂, subst, inl, inr, arith}
 use Rattle.scan_core.specs.Blanks.{words}
 use Rattle.scan_core.specs.Count.{Count}
 use Rattle.scan_core.specs.Number.{IsNumber}
 use Rattle.pg_interval_2.specs.declared.unit_names.NameSet.TheVariants.{Verbose}
-use Rattle.pg_interval_2.specs.inside.ItemReading.{Verdict, Spelled, Unspelled, verdict}
+use Rattle.pg_interval_2.specs.inside.ItemReading.{Spelled, Unspelled, verdict}
 use Rattle.pg_interval_2.specs.Postgres.{AreItems}
 use Rattle.pg_interval_2.specs.Turned.{turned_counts}
 use Rattle.pg_interval_2.specs.UnitNames.{verbose_names}

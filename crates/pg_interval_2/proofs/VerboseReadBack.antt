@@ -1,5 +1,5 @@
 -- A text written in `postgres_verbose` style is read back as its interval, and as no other.
-use Rattle.std.proofs.Common.{◌≡◌, ℕ, ◌<◌, ◌≤◌, ◌^◌, Bool, true, false, cond, ◌==◌, IsTrue, List, [], ◌∷◌, ◌++◌, decimal, ℤ, pos, unsigned_abs, int_eq, refl, sym, ◌∙◌, ap, ap₂, arith, append_assoc, eqb-true}
+use Rattle.std.proofs.Common.{◌≡◌, ℕ, ◌<◌, ◌≤◌, ◌^◌, Bool, true, false, cond, ◌==◌, IsTrue, List, [], ◌∷◌, ◌++◌, decimal, ℤ, pos, unsigned_abs, int_eq, refl, ◌∙◌, ap, ap₂, arith, append_assoc, eqb-true}
 use Rattle.std.proofs.lemmas.Bool.{cond_both, and_parts}
 use Rattle.std.proofs.lemmas.Bool.Decides.{Decides-int_eq}
 use Rattle.std.specs.Int.{is_negative}

@@ -1,5 +1,5 @@
 -- From what stands behind the `@` of a text up to the end of its body to what the text spells.
-use Rattle.std.proofs.Common.{◌≡◌, ◌≢◌, ℕ, ◌+◌, ◌≤◌, ◌==◌, ◌&&◌, Bool, true, false, not, cond, IsTrue, List, [], ◌∷◌, ◌++◌, length, take, codes, Some, Result, Ok, Err, IfErr, IfOk, refl, sym, ◌∙◌, ap, ap₂, subst, inl, inr, append_assoc, append-nil, length-append, arith}
+use Rattle.std.proofs.Common.{◌≡◌, ◌≢◌, ℕ, ◌+◌, ◌≤◌, ◌==◌, Bool, true, false, not, cond, List, [], ◌∷◌, ◌++◌, length, take, codes, Some, Result, Ok, Err, IfErr, IfOk, refl, sym, ◌∙◌, ap, ap₂, subst, inl, inr, append_assoc, append-nil, length-append, arith}
 use Rattle.std.proofs.lemmas.Bool.Decides.{nat_tests}
 use Rattle.std.specs.List.{list_all}
 use Rattle.scan_core.specs.Blanks.{is_blank, words}
@@ -12,7 +12,7 @@ use Rattle.pg_interval_2.specs.declared.body.Misread.{Misread}
 use Rattle.pg_interval_2.specs.declared.body.Misread.TheVariants.{BadName, NoItems}
 use Rattle.pg_interval_2.specs.declared.tally.Tally.{Tally}
 use Rattle.pg_interval_2.specs.Denotes.{HasNoShape}
-use Rattle.pg_interval_2.specs.Postgres.{AreItems, IsBadName}
+use Rattle.pg_interval_2.specs.Postgres.{AreItems}
 use Rattle.pg_interval_2.specs.Turned.{turned_counts}
 use Rattle.pg_interval_2.specs.UnitNames.{verbose_names}
 use Rattle.pg_interval_2.specs.Verbose.{ago_or_none, IsFramed, IsBody, IsVerbose, IsVerboseBadName, EndsInAgo}

@@ -1,5 +1,5 @@
 -- A text written in `postgres_verbose` style spells the counts of its interval.
-use Rattle.std.proofs.Common.{◌≡◌, ℕ, ◌+◌, ◌<◌, ◌≤◌, ◌^◌, Bool, true, false, not, ◌&&◌, ◌==◌, cond, IsTrue, List, [], ◌∷◌, ◌++◌, length, codes, decimal, if◌then◌else◌, ℤ, pos, unsigned_abs, int_eq, Some, refl, sym, ap, ◌∙◌, arith, inl, inr, append_assoc, append-nil, length-append}
+use Rattle.std.proofs.Common.{◌≡◌, ℕ, ◌<◌, ◌≤◌, ◌^◌, Bool, true, false, ◌&&◌, ◌==◌, cond, IsTrue, List, [], ◌∷◌, ◌++◌, length, codes, decimal, if◌then◌else◌, ℤ, pos, unsigned_abs, int_eq, Some, refl, sym, ap, ◌∙◌, arith, inl, inr, append_assoc, append-nil, length-append}
 use Rattle.std.proofs.lemmas.Bool.{cond_both}
 use Rattle.std.proofs.lemmas.Fmt.{decimal_nonempty}
 use Rattle.std.specs.Int.{is_negative}
@@ -15,11 +15,11 @@ use Rattle.scan_core.proofs.PaddedFacts.{digits-padded}
 use Rattle.scan_core.proofs.TrimmedFacts.{digits-trimmed, trimmed_some}
 use Rattle.scan_core.proofs.WordFacts.{NoBlanks}
 use Rattle.pg_interval_2.specs.Parts.{minus, years_of, months_of, hours_of, minutes_of, seconds_of, subsecond_of}
-use Rattle.pg_interval_2.specs.Postgres.{IsNamed, IsItem, AreItems, all_counts, has_distinct_units}
+use Rattle.pg_interval_2.specs.Postgres.{IsNamed, IsItem, all_counts, has_distinct_units}
 use Rattle.pg_interval_2.specs.PostgresText.{counted_name}
 use Rattle.pg_interval_2.specs.Turned.{turned_sign, turned_counts}
 use Rattle.pg_interval_2.specs.UnitNames.{verbose_names, unit_named}
-use Rattle.pg_interval_2.specs.Verbose.{IsBody, IsVerbose}
+use Rattle.pg_interval_2.specs.Verbose.{IsVerbose}
 use Rattle.pg_interval_2.specs.VerboseText.{behind_spaces, has_ago, unit_words, second_digits, second_words, verbose_date, verbose_time, parts_text, verbose_text}
 use Rattle.pg_interval_2.proofs.PostgresSpelled.{counted_unit, part_items, number_join, all_counts-part, all_counts-append}
 use Rattle.pg_interval_2.proofs.PostgresWords.{no_blank-append, no_blank-digits, no_blank-minus, counted_name_is, AreWords-number_words, AreWords-append}

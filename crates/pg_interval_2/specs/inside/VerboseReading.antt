@@ -1,5 +1,5 @@
 -- What the reader of `postgres_verbose` texts answers: cited by private contracts alone.
-use Rattle.std.specs.Prelude.{◌≡◌, ℕ, ◌+◌, ◌≤◌, Bool, true, false, not, IsTrue, List, [], ◌∷◌, ◌++◌, length, take, codes}
+use Rattle.std.specs.Prelude.{◌≡◌, ℕ, ◌+◌, Bool, true, false, not, IsTrue, List, [], ◌∷◌, ◌++◌, length, take, codes}
 use Rattle.std.specs.List.{list_all}
 use Rattle.scan_core.specs.Blanks.{is_blank, words}
 use Rattle.scan_core.specs.Count.{Count}

@@ -1,4 +1,4 @@
-use Rattle.std.proofs.Common.{◌≡◌, ℕ, length, refl, sym, subst}
+use Rattle.std.proofs.Common.{ℕ, refl, subst}
 use Rattle.pg_interval_2.specs.inside.VerboseReading.{AreBlanksBetween}
 use Rattle.pg_interval_2.proofs.TextEnds.{ends_without}
 use Rattle.pg_interval_2.proofs.ago.body_end.Goals as goal

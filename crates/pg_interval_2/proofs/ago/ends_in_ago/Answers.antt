@@ -1,4 +1,4 @@
-use Rattle.std.proofs.Common.{◌≡◌, ℕ, ◌-◌, ◌++◌, ◌∷◌, [], List, refl, take, arith, ap, ◌∙◌, subst}
+use Rattle.std.proofs.Common.{◌≡◌, ℕ, ◌-◌, ◌++◌, ◌∷◌, [], refl, take, arith, ap, ◌∙◌}
 use Rattle.pg_interval_2.proofs.TextEnds.{no_a}
 use Rattle.pg_interval_2.proofs.ago.ends_in_ago.Goals as goal
 

@@ -1,4 +1,4 @@
-use Rattle.std.proofs.Common.{◌≡◌, ◌+◌, ap, arith, refl}
+use Rattle.std.proofs.Common.{ap, arith, refl}
 use Rattle.std.proofs.lemmas.Bool.{false≢true}
 use Rattle.scan_core.specs.Scanning.{Place, ahead, unseen}
 use Rattle.pg_interval_2.proofs.VerboseReading.{items_tally, misread, no_at, passed, passed_length, zero_tally}
