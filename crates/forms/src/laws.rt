@@ -103,7 +103,8 @@ pub fn one_reply(line: &[u8])
 
 /// Lines have one list of replies at most.
 pub fn one_output()
-    ensures { (lines : List (List ℕ)) (a b : List ℕ) → AreReplies lines a → AreReplies lines b → a ≡ b }
+    ensures { (lines : List (List ℕ)) (a b : List ℕ) → AreReplies lines a → AreReplies lines b
+        → a ≡ b }
 {
     all_lawful();
     answers_are_readings_written();
@@ -125,7 +126,8 @@ pub fn length_decides_the_end()
 /// A run that is too long took more bytes than the limit. A run that took more is too long, if no write failed.
 /// This holds also where the source tells no bytes.
 pub fn too_long_is_past_the_limit()
-    ensures { (limit : ℕ) (old new : Streams) (end : AnyEnd) → Ended limit old new end → old.taken < 2 ^ 63
+    ensures { (limit : ℕ) (old new : Streams) (end : AnyEnd)
+        → Ended limit old new end → old.taken < 2 ^ 63
         → (end ≡ TooLong → old.taken + limit < new.taken)
         × (old.taken + limit < new.taken
         → (end ≡ TooLong) ⊎ ((end ≡ WriteFault) × Rose old.write_faults new.write_faults)) }

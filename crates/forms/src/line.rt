@@ -36,7 +36,8 @@ pub fn request(line: &[u8]) -> Option<(Form, Form, &str)>
 /// The form that the first word names, and what follows the space behind it.
 fn split_form(text: &str) -> Option<(Form, Option<&str>)>
     ensures found { IfSome result (λ r. IsNamed text.now r.0 (option_copied r.1)) }
-    ensures none { IfNone result ((form : AnyForm) (rest : Option (List ℕ)) → ¬ (IsNamed text.now form rest)) }
+    ensures none { IfNone result
+        ((form : AnyForm) (rest : Option (List ℕ)) → ¬ (IsNamed text.now form rest)) }
 {
     let (name, rest) = split_word(text);
     Some((Form::by_name(name)?, rest))

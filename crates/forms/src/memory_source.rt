@@ -102,7 +102,8 @@ impl Source for MemSource {
         ensures count { CountsTaken self.old.taken self.new.taken (length buf.old) result }
         ensures cause { HasCause self.old.faults self.new.faults result }
         ensures fails { IsErr result ↔ Contains self.old.fails self.old.calls }
-        ensures failed { OnErr result ((self.new ≡ after_failed_read self.old) × (buf.new ≡ buf.old)) }
+        ensures failed { OnErr result
+            ((self.new ≡ after_failed_read self.old) × (buf.new ≡ buf.old)) }
         ensures given { IfOk result (λ n.
             (n ≡ read_len self.old (length buf.old))
             × (self.new ≡ after_read self.old n)

@@ -29,7 +29,8 @@ pub fn run<S: Source, K: Sink>(alloc: Global, source: &mut S, sink: &mut K, limi
         result }
 
     // Want of memory comes before the first byte.
-    ensures no_memory { result ≡ RunEnd.NoMemory → (source.new ≡ source.old) × (sink.new ≡ sink.old) }
+    ensures no_memory { result ≡ RunEnd.NoMemory
+        → (source.new ≡ source.old) × (sink.new ≡ sink.old) }
 {
     let limit = limit as usize;
     let Ok(mut kept) = Vec::with_capacity(alloc, limit + 1) else {
@@ -57,7 +58,8 @@ pub fn top<S: Source, K: Sink>(alloc: Global, words: &str, source: &mut S, sink:
         (streams S.left S.taken S.faults K.held K.faults source.old sink.old)
         (streams S.left S.taken S.faults K.held K.faults source.new sink.new)
         result }
-    ensures no_memory { words.now ≡ [] → result ≡ 6 → (source.new ≡ source.old) × (sink.new ≡ sink.old) }
+    ensures no_memory { words.now ≡ [] → result ≡ 6
+        → (source.new ≡ source.old) × (sink.new ≡ sink.old) }
 
     // At status 0 the end came, and each line of all that was left has its reply, however the bytes were cut.
     ensures done { words.now ≡ [] → result ≡ 0 → IsAtEnd (S.left source.new) }

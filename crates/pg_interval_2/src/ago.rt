@@ -16,7 +16,8 @@ pub(crate) struct BodyEnd {
 #[inline(always)]
 fn byte_before<L: Ledger>(text: &Looked<'_>, end: usize, steps: &mut Steps<L>) -> Option<u8>
     requires { end ≤ length text.now }
-    ensures some { IfSome result (λ byte. take end text.now ≡ take (end - 1) text.now ++ byte ∷ []) }
+    ensures some { IfSome result
+        (λ byte. take end text.now ≡ take (end - 1) text.now ++ byte ∷ []) }
     ensures within { IfSome result (λ _. 0 < end) }
     ensures none { IfNone result (end ≡ 0) }
     ensures tick { IfSome result (λ _. steps.new ≡ steps.old + 1) }
@@ -53,7 +54,8 @@ fn behind_last<L: Ledger>(text: &Looked<'_>, end: usize, steps: &mut Steps<L>) -
 #[inline(always)]
 fn ends_in<L: Ledger>(text: &Looked<'_>, end: usize, byte: u8, steps: &mut Steps<L>) -> bool
     requires { end ≤ length text.now }
-    ensures yes { result ≡ true → (0 < end) × (take end text.now ≡ take (end - 1) text.now ++ byte ∷ []) }
+    ensures yes { result ≡ true
+        → (0 < end) × (take end text.now ≡ take (end - 1) text.now ++ byte ∷ []) }
     ensures no { result ≡ false → (front : List ℕ) → take end text.now ≡ front ++ byte ∷ [] → ⊥ }
     ensures tick { result ≡ true → steps.new ≡ steps.old + 1 }
     ensures least { steps.old ≤ steps.new }
@@ -68,7 +70,8 @@ fn ends_in<L: Ledger>(text: &Looked<'_>, end: usize, byte: u8, steps: &mut Steps
 /// Whether `ago` stands before a place.
 fn ends_in_ago<L: Ledger>(text: &Looked<'_>, end: usize, steps: &mut Steps<L>) -> bool
     requires { end ≤ length text.now }
-    ensures yes { result ≡ true → (3 ≤ end) × (take end text.now ≡ take (end - 3) text.now ++ codes "ago") }
+    ensures yes { result ≡ true
+        → (3 ≤ end) × (take end text.now ≡ take (end - 3) text.now ++ codes "ago") }
     ensures no { result ≡ false → (front : List ℕ) → take end text.now ≡ front ++ codes "ago" → ⊥ }
     ensures least { result ≡ true → steps.old + 3 ≤ steps.new }
     ensures more { steps.old ≤ steps.new }

@@ -50,7 +50,8 @@ pub(crate) fn clock_behind<L: Ledger>(
     requires { IsRun scan.old.text hours }
     ensures read { IfSome result (IsClockAs scan.new.text (ahead scan.new)
         (read_clock negative (digits_of scan.old.text hours) (ahead scan.old))) }
-    ensures none { IfNone result (read_clock negative (digits_of scan.old.text hours) (ahead scan.old) ≡ NoItem) }
+    ensures none { IfNone result
+        (read_clock negative (digits_of scan.old.text hours) (ahead scan.old) ≡ NoItem) }
     ensures runs { IfSome result (AreClockRuns scan.new.text) }
     ensures same { scan.new.text ≡ scan.old.text }
     ensures onward { length (ahead scan.new) ≤ length (ahead scan.old) }

@@ -1,3 +1,4 @@
+//! Written clocks: hours, minutes and seconds, by magnitude.
 ghost use Rattle.std.specs.Prelude.{◌≡◌, ◌+◌, ◌≤◌, ◌<◌, ◌++◌};
 ghost use Rattle.arrayvec.specs.ArrayString.{array_string_len};
 ghost use Rattle.pg_interval_2.specs.ClockText.{hours_text, field_text, fraction_text, clock_text};

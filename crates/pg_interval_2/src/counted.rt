@@ -138,7 +138,8 @@ impl Counted {
         requires runs { AreClockRuns text.now clock }
         requires room { self.old.tally.totals.adds + 3 ≤ 2 ^ 63 }
         ensures adds { self.new.tally.totals.adds ≤ self.old.tally.totals.adds + 3 }
-        ensures counted { (fields : ClockFields) → HasFields text.now clock fields → (counts : List Count)
+        ensures counted { (fields : ClockFields)
+            → HasFields text.now clock fields → (counts : List Count)
             → IsCounted self.old counts → CountsAll counts (clock_of fields) self.new result }
         ensures least { steps.old ≤ steps.new }
         ensures most { steps.new ≤ steps.old + (clock.fraction.end - clock.fraction.start) }

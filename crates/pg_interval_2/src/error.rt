@@ -1,3 +1,4 @@
+//! Why a text isn't read as an interval.
 ghost use Rattle.std.specs.Prelude.{◌≡◌, ◌↔◌, IsTrue, Some};
 ghost use Rattle.pg_interval_2.specs.Denotes.{IsRange};
 ghost use Rattle.pg_interval_2.specs.ErrorText.{error_text};

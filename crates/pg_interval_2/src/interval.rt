@@ -1,3 +1,4 @@
+//! Intervals: months, days and microseconds.
 ghost use Rattle.std.specs.Prelude.{◌≡◌};
 
 /// An interval as PostgreSQL keeps it. The three parts stand beside each other: a month is no number of days, and a day

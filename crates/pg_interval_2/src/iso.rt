@@ -40,7 +40,8 @@ fn pair<L: Ledger>(
     scan: &mut Scan<'_>,
     steps: &mut Steps<L>,
 ) -> Option<(Decimal, Unit)>
-    ensures read { IfSome result (λ pair. Some (count_with (numeral_in scan.new.text pair.0) pair.1, ahead scan.new)
+    ensures read { IfSome result
+        (λ pair. Some (count_with (numeral_in scan.new.text pair.0) pair.1, ahead scan.new)
         ≡ read_pair (unit_in in_time) (ahead scan.old)) }
     ensures none { IfNone result (None ≡ read_pair (unit_in in_time) (ahead scan.old)) }
     ensures number { IfSome result (λ pair. IsDecimal scan.new.text pair.0) }
@@ -76,8 +77,10 @@ fn take_pairs<L: Ledger>(
     steps: &mut Steps<L>,
 ) -> bool
     requires room { tally.old.totals.adds + length (ahead scan.old) < 2 ^ 63 }
-    ensures room { tally.new.totals.adds + length (ahead scan.new) ≤ tally.old.totals.adds + length (ahead scan.old) }
-    ensures taken { result ≡ true → TakesPairs in_time (ahead scan.old) (ahead scan.new) tally.old tally.new }
+    ensures room { tally.new.totals.adds + length (ahead scan.new)
+        ≤ tally.old.totals.adds + length (ahead scan.old) }
+    ensures taken { result ≡ true
+        → TakesPairs in_time (ahead scan.old) (ahead scan.new) tally.old tally.new }
     ensures ends { result ≡ true → ends_pairs (ahead scan.new) ≡ true }
     ensures stops { result ≡ false → StopsBehindPairs in_time (ahead scan.old) tally.old }
     ensures same { scan.new.text ≡ scan.old.text }

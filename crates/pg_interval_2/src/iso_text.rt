@@ -1,3 +1,4 @@
+//! Written texts in ISO style.
 ghost use Rattle.std.specs.Prelude.{◌≡◌, ◌+◌, ◌≤◌, ◌<◌, ◌++◌, length, codes};
 ghost use Rattle.arrayvec.specs.ArrayString.{array_string_len};
 ghost use Rattle.pg_interval_2.specs.IsoText.{iso_part, nonzero_digits, iso_decimal, iso_seconds, iso_date, iso_time, iso_text};

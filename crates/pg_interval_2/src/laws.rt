@@ -11,13 +11,16 @@ ghost use Rattle.pg_interval_2.specs.Sums.{plus, less};
 
 /// No text spells two lists of counts in one style, so none denotes two intervals.
 pub fn text_has_one_list_of_counts()
-    ensures { (style : Style) (text : List ℕ) (a b : List Count) → Shape style text a → Shape style text b → a ≡ b }
+    ensures { (style : Style) (text : List ℕ) (a b : List Count) → Shape style text a
+        → Shape style text b → a ≡ b }
 {}
 
 /// The written text of an interval, read in its own style, denotes this interval and no other.
 pub fn written_text_is_read_back()
-    ensures denotes { (style : Style) (t : Interval) → IsInRange t → Denotes (Shape style) (written style t) t }
-    ensures alone { (style : Style) (t u : Interval) → IsInRange t → Denotes (Shape style) (written style t) u → u ≡ t }
+    ensures denotes { (style : Style) (t : Interval) → IsInRange t
+        → Denotes (Shape style) (written style t) t }
+    ensures alone { (style : Style) (t u : Interval) → IsInRange t
+        → Denotes (Shape style) (written style t) u → u ≡ t }
 {}
 
 /// What a text denotes is within the types of the parts, in every style.

@@ -40,7 +40,8 @@ pub(crate) fn sign<L: Ledger>(plus: bool, scan: &mut Scan<'_>, steps: &mut Steps
 #[inline(always)]
 pub(crate) fn fraction<L: Ledger>(scan: &mut Scan<'_>, steps: &mut Steps<L>) -> Run
     ensures run { IsRun scan.new.text result }
-    ensures read { (digits_of scan.new.text result, ahead scan.new) ≡ read_fraction (ahead scan.old) }
+    ensures read { (digits_of scan.new.text result, ahead scan.new)
+        ≡ read_fraction (ahead scan.old) }
     ensures same { scan.new.text ≡ scan.old.text }
     ensures onward { (result.end - result.start) + length (ahead scan.new) ≤ length (ahead scan.old) }
     ensures ticks { steps.new + unseen (ahead scan.new) ≡ steps.old + unseen (ahead scan.old) }

@@ -43,7 +43,8 @@ impl Interval {
     pub fn from_postgres(text: &str) -> Result<Interval, ParseError>
         ensures ok { IfOk result (λ t. Denotes IsPostgres text.now t) }
         ensures all { (t : Interval) → Denotes IsPostgres text.now t → result ≡ Ok t }
-        ensures err { IfErr result (λ e. Refuses IsPostgres IsPostgresBadName not_postgres text.now e) }
+        ensures err { IfErr result
+            (λ e. Refuses IsPostgres IsPostgresBadName not_postgres text.now e) }
         ensures bad { (start end : ℕ) → IsPostgresBadName text.now start end
             → result ≡ Err (ParseError.BadUnit start end) }
     {

@@ -118,7 +118,8 @@ fn time_behind_hours<L: Ledger>(
     requires hours { IsRun scan.old.text hours }
     ensures read { IfSome result (λ word. Some (seen_word scan.new.text word, ahead scan.new)
         ≡ read_time negative (digits_of scan.old.text hours) (ahead scan.old)) }
-    ensures none { IfNone result (None ≡ read_time negative (digits_of scan.old.text hours) (ahead scan.old)) }
+    ensures none { IfNone result
+        (None ≡ read_time negative (digits_of scan.old.text hours) (ahead scan.old)) }
     ensures runs { IfSome result (AreRuns scan.new.text) }
     ensures same { scan.new.text ≡ scan.old.text }
     ensures onward { length (ahead scan.new) ≤ length (ahead scan.old) }
@@ -150,7 +151,8 @@ fn months_behind_years<L: Ledger>(
     requires years { IsRun scan.old.text years }
     ensures read { IfSome result (λ word. Some (seen_word scan.new.text word, ahead scan.new)
         ≡ read_months negative (digits_of scan.old.text years) (ahead scan.old)) }
-    ensures none { IfNone result (None ≡ read_months negative (digits_of scan.old.text years) (ahead scan.old)) }
+    ensures none { IfNone result
+        (None ≡ read_months negative (digits_of scan.old.text years) (ahead scan.old)) }
     ensures runs { IfSome result (AreRuns scan.new.text) }
     ensures same { scan.new.text ≡ scan.old.text }
     ensures onward { length (ahead scan.new) ≤ length (ahead scan.old) }
@@ -175,7 +177,8 @@ fn word_behind_digits<L: Ledger>(
     requires digits { IsRun scan.old.text digits }
     ensures read { IfSome result (λ word. Some (seen_word scan.new.text word, ahead scan.new)
         ≡ read_behind negative (digits_of scan.old.text digits) (ahead scan.old)) }
-    ensures none { IfNone result (None ≡ read_behind negative (digits_of scan.old.text digits) (ahead scan.old)) }
+    ensures none { IfNone result
+        (None ≡ read_behind negative (digits_of scan.old.text digits) (ahead scan.old)) }
     ensures runs { IfSome result (AreRuns scan.new.text) }
     ensures same { scan.new.text ≡ scan.old.text }
     ensures onward { length (ahead scan.new) ≤ length (ahead scan.old) }

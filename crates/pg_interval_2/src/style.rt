@@ -1,3 +1,4 @@
+//! The output styles of PostgreSQL.
 /// An output style of PostgreSQL, as its setting `IntervalStyle` names them.
 #[derive(Clone, Copy, Debug, PartialEq, Eq)]
 pub enum Style {

@@ -1,3 +1,4 @@
+//! The written text of an interval, by style.
 use crate::interval::Interval;
 use crate::iso_text::iso_text;
 use crate::postgres_text::postgres_text;

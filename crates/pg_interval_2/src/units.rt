@@ -1,3 +1,4 @@
+//! The set of units that a text has counted.
 ghost use Rattle.std.specs.Prelude.{◌≡◌};
 ghost use Rattle.pg_interval_2.specs.Postgres.{place_of};
 
@@ -33,7 +34,8 @@ impl Units {
     /// Puts the unit into the set.
     pub(crate) fn insert(&mut self, unit: Unit)
         ensures same { holds_unit self.new unit ≡ true }
-        ensures others { (other : TimeUnit) → place_of other ≢ place_of unit → holds_unit self.new other ≡ holds_unit self.old other }
+        ensures others { (other : TimeUnit) → place_of other ≢ place_of unit
+            → holds_unit self.new other ≡ holds_unit self.old other }
     {
         self.bits |= 1 << place_of(unit);
     }

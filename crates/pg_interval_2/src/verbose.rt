@@ -83,7 +83,8 @@ impl Interval {
     pub fn from_postgres_verbose(text: &str) -> Result<Interval, ParseError>
         ensures ok { IfOk result (λ t. Denotes IsVerbose text.now t) }
         ensures all { (t : Interval) → Denotes IsVerbose text.now t → result ≡ Ok t }
-        ensures err { IfErr result (λ e. Refuses IsVerbose IsVerboseBadName not_verbose text.now e) }
+        ensures err { IfErr result
+            (λ e. Refuses IsVerbose IsVerboseBadName not_verbose text.now e) }
         ensures bad { (start end : ℕ) → IsVerboseBadName text.now start end
             → result ≡ Err (ParseError.BadUnit start end) }
     {

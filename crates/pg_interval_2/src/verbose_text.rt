@@ -23,7 +23,8 @@ fn has_ago(months: i32, days: i32, micros: i64) -> bool
 fn push_unit(out: &mut Short, negative: bool, value: u32, name: &str)
     requires name { length name.now ≤ 4 }
     requires room { array_string_len out.old + 18 ≤ 128 }
-    ensures bytes { out.new.bytes ≡ out.old.bytes ++ behind_spaces (unit_words negative value name.now) }
+    ensures bytes { out.new.bytes
+        ≡ out.old.bytes ++ behind_spaces (unit_words negative value name.now) }
     ensures len { array_string_len out.new ≤ array_string_len out.old + 18 }
     ensures two { value < 100 → array_string_len out.new ≤ array_string_len out.old + 10 }
 {
@@ -56,7 +57,8 @@ fn push_seconds(out: &mut Short, negative: bool, seconds: u32, micros: u32)
     requires seconds { seconds < 60 }
     requires micros { micros < 1_000_000 }
     requires room { array_string_len out.old + 24 ≤ 128 }
-    ensures bytes { out.new.bytes ≡ out.old.bytes ++ behind_spaces (second_words negative seconds micros) }
+    ensures bytes { out.new.bytes
+        ≡ out.old.bytes ++ behind_spaces (second_words negative seconds micros) }
     ensures len { array_string_len out.new ≤ array_string_len out.old + 16 }
 {
     if micros == 0 {
