@@ -6,7 +6,7 @@ use Rattle.scan_core.proofs.Joins.{join_push, IsJoin-one}
 use Rattle.forms.specs.Lines.{lines, whole_lines}
 use Rattle.forms.specs.Replies.{IsReplyLine, AreReplies}
 use Rattle.forms.specs.Ends.{GainsReplies, GainsFront}
-use Rattle.forms.specs.Reading.{AppendsFront, MovesFront, PushesReply}
+use Rattle.forms.specs.inside.Reading.{AppendsFront, MovesFront, PushesReply}
 use Rattle.forms.specs.inside.Pieces.{NoFeed, IsEnded, AreWhole, Answers}
 use Rattle.forms.proofs.LinePieces.{whole_lines_behind, part_alone}
 

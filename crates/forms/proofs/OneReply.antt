@@ -5,7 +5,7 @@ use Rattle.forms.specs.declared.form.Form.{Form}
 use Rattle.forms.specs.declared.cause.Cause.{Cause}
 use Rattle.forms.specs.Names.{name_of}
 use Rattle.forms.specs.Replies.{IsRequest, IsAnswer, answer_text, AnswersRequest, IsReply, IsReplyLine, AreReplies}
-use Rattle.forms.specs.Reading.{behind, IsNamed}
+use Rattle.forms.specs.inside.Reading.{behind, IsNamed}
 use Rattle.forms.proofs.Words.{one_name, tail_behind}
 use Rattle.forms.proofs.NamedForms.{one_form}
 use Rattle.forms.specs.ReadBack.{Turns}

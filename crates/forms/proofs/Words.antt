@@ -6,7 +6,7 @@ use Rattle.forms.specs.declared.form.Form.{Form}
 use Rattle.forms.specs.declared.form.Form.TheVariants.{FileTime, IsoDateTime, IsoDate, IsoDuration, Toml, Fancy, PgIso, Postgres, PgVerbose, PgSql}
 use Rattle.forms.specs.Names.{name_of}
 use Rattle.forms.specs.Replies.{IsTail}
-use Rattle.forms.specs.Reading.{NoSpace, behind, IsNamed}
+use Rattle.forms.specs.inside.Reading.{NoSpace, behind, IsNamed}
 
 not_space : (byte : ℕ) → byte ≢ 32 → (byte == 32) ≡ false
 not_space byte h = grind (arith, nat_tests)

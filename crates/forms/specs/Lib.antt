@@ -9,5 +9,4 @@ pub mod Forms
 pub mod ReadBack
 pub mod Replies
 pub mod Ends
-pub mod Reading
 pub mod inside

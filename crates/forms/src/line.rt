@@ -2,7 +2,7 @@
 ghost use Rattle.std.specs.Prelude.{◌≡◌, List, ℕ, ◌++◌, codes, Option, IfSome, IfNone};
 ghost use Rattle.std.specs.Option.{option_copied};
 ghost use Rattle.forms.specs.Replies.{IsRequest, IsNoRequest};
-ghost use Rattle.forms.specs.Reading.{NoSpace, behind, IsNamed};
+ghost use Rattle.forms.specs.inside.Reading.{NoSpace, behind, IsNamed};
 ghost use Rattle.forms.specs.inside.Pieces.{NoFeed};
 ghost use Rattle.forms.specs.declared.form.Form.{Form as AnyForm};
 

@@ -6,7 +6,7 @@ ghost use Rattle.arrayvec.specs.ArrayString.{array_string_len};
 ghost use Rattle.forms.specs.Lines.{lines, whole_lines};
 ghost use Rattle.forms.specs.Outside.{HasCause};
 ghost use Rattle.forms.specs.Ends.{GainsReplies, GainsFront};
-ghost use Rattle.forms.specs.Reading.{AppendsFront, MovesFront, PushesReply};
+ghost use Rattle.forms.specs.inside.Reading.{AppendsFront, MovesFront, PushesReply};
 ghost use Rattle.forms.specs.inside.Pieces.{NoFeed, Answers};
 
 use crate::answer::line_reply;

@@ -1,6 +1,6 @@
 use Rattle.std.proofs.Common.{◌≡◌, ◌++◌, List, ℕ, Some, ap, ◌∙◌}
 use Rattle.forms.specs.Names.{name_of}
-use Rattle.forms.specs.Reading.{IsNamed}
+use Rattle.forms.specs.inside.Reading.{IsNamed}
 use Rattle.forms.proofs.Words.{tail_behind, one_name}
 use Rattle.forms.proofs.line.request.Goals as goal
 
