@@ -82,3 +82,37 @@ fn millions_of_fraction_digits(rt: HostRuntime) -> Result<(), Fail> {
     assert_eq!(rt; outcome.bytes.as_slice(), b"P1Y\n".as_slice());
     Ok(())
 }
+
+/// Two million bytes in each of the other forms: no digit is lost, and none is read twice.
+#[test]
+fn megabytes_in_each_form(rt: HostRuntime) -> Result<(), Fail> {
+    for (front, piece, back, reply) in [
+        ("FileTime FileTime ", "0", "5", "5\n"),
+        ("FileTime FileTime ", "9", "", "refused Range\n"),
+        ("FileTime FileTime ", "9", "x", "refused Syntax\n"),
+        (
+            "IsoDateTime Toml 2015-06-26T16:43:23.5",
+            "9",
+            "Z",
+            "2015-06-26T16:43:23.599Z\n",
+        ),
+        ("IsoDate IsoDate 2015-06-26", "9", "", "refused Syntax\n"),
+        ("IsoDuration PgIso P", "0", "7W", "P49D\n"),
+        ("IsoDuration PgIso P", "9", "W", "refused Syntax\n"),
+        ("IsoDuration PgIso PT1.", "9", "S", "PT1.999000S\n"),
+        ("Toml Toml 07:32:00.", "9", "", "07:32:00.999999999\n"),
+        ("Fancy Fancy ", "0", "7s", "7s\n"),
+        ("Fancy Fancy ", "9", "s", "refused Range\n"),
+        ("Fancy Fancy 7s", " ", "", "7s\n"),
+    ] {
+        let line = text_of(rt.alloc(), front, piece, 2_000_000, back)?;
+        let outcome = outcome_of(rt.alloc(), line.as_str().as_bytes(), 65_536)?;
+        assert_eq!(rt; outcome.status, 0, "at {front}{piece}");
+        assert_eq!(rt;
+            outcome.bytes.as_slice(),
+            reply.as_bytes(),
+            "at {front}{piece}"
+        );
+    }
+    Ok(())
+}

@@ -19,8 +19,6 @@ mod iso_dates;
 #[cfg(test)]
 mod iso_durations;
 #[cfg(test)]
-mod long_texts;
-#[cfg(test)]
 mod pieces;
 #[cfg(test)]
 mod postgres;
