@@ -1,5 +1,5 @@
 //! The names of units: a word's letters, packed into one number, are compared with the names packed alike.
-ghost use Rattle.std.specs.Prelude.{◌≡◌, ◌*◌, ◌+◌, ◌^◌, ◌<◌, ◌≤◌, ◌==◌, List, ℕ, IsTrue, length};
+ghost use Rattle.std.specs.Prelude.{◌≡◌, ◌^◌, List, ℕ, IsTrue};
 ghost use Rattle.std.specs.Char.{is_ascii_alphabetic};
 ghost use Rattle.std.specs.List.{list_all};
 ghost use Rattle.scan_core.specs.Runs.{Knows, packed};
@@ -18,27 +18,40 @@ pub(crate) enum NameSet {
     Verbose,
 }
 
-/// A name of at most seven letters, packed as a scan packs the letters of a word.
-#[inline(always)]
-fn packed(name: &str) -> u64
-    requires { length name.now ≤ 7 }
-    ensures { result ≡ packed name.now }
-{
-    let mut value = 0;
-    for letter in name.as_bytes() {
-        value = value * 256 + u64::from(*letter);
-    }
-    value
-}
+// The names, packed as a scan packs the letters of a word: a byte each, the last the lowest.
+const YEARS: u64 = 0x79_65_61_72_73;
 
-/// Whether these packed letters are the name's.
-#[inline(always)]
-fn is(letters: u64, name: &str) -> bool
-    requires { length name.now ≤ 7 }
-    ensures { result ≡ (letters == packed name.now) }
-{
-    letters == packed(name)
-}
+const YEAR: u64 = 0x79_65_61_72;
+
+const MONTHS: u64 = 0x6D_6F_6E_74_68_73;
+
+const MONS: u64 = 0x6D_6F_6E_73;
+
+const MON: u64 = 0x6D_6F_6E;
+
+const DAYS: u64 = 0x64_61_79_73;
+
+const DAY: u64 = 0x64_61_79;
+
+const HOURS: u64 = 0x68_6F_75_72_73;
+
+const HOUR: u64 = 0x68_6F_75_72;
+
+const MINUTES: u64 = 0x6D_69_6E_75_74_65_73;
+
+const MINUTE: u64 = 0x6D_69_6E_75_74_65;
+
+const MINS: u64 = 0x6D_69_6E_73;
+
+const MIN: u64 = 0x6D_69_6E;
+
+const SECONDS: u64 = 0x73_65_63_6F_6E_64_73;
+
+const SECOND: u64 = 0x73_65_63_6F_6E_64;
+
+const SECS: u64 = 0x73_65_63_73;
+
+const SEC: u64 = 0x73_65_63;
 
 /// The unit that a word names.
 #[inline(always)]
@@ -55,12 +68,9 @@ fn is_minute(names: NameSet, letters: u64) -> bool
     ensures { result ≡ is_packed letters (names_in names Minute) }
 {
     match names {
-        NameSet::Postgres => is(letters, "minutes") || is(letters, "minute"),
+        NameSet::Postgres => letters == MINUTES || letters == MINUTE,
         NameSet::Verbose => {
-            is(letters, "minutes")
-                || is(letters, "minute")
-                || is(letters, "mins")
-                || is(letters, "min")
+            letters == MINUTES || letters == MINUTE || letters == MINS || letters == MIN
         }
     }
 }
@@ -71,12 +81,9 @@ fn is_second(names: NameSet, letters: u64) -> bool
     ensures { result ≡ is_packed letters (names_in names Second) }
 {
     match names {
-        NameSet::Postgres => is(letters, "seconds") || is(letters, "second"),
+        NameSet::Postgres => letters == SECONDS || letters == SECOND,
         NameSet::Verbose => {
-            is(letters, "seconds")
-                || is(letters, "second")
-                || is(letters, "secs")
-                || is(letters, "sec")
+            letters == SECONDS || letters == SECOND || letters == SECS || letters == SEC
         }
     }
 }
@@ -87,13 +94,13 @@ fn is_second(names: NameSet, letters: u64) -> bool
 fn unit_packed(names: NameSet, letters: u64) -> Option<Unit>
     ensures { result ≡ unit_packed (names_in names) letters }
 {
-    if is(letters, "years") || is(letters, "year") {
+    if letters == YEARS || letters == YEAR {
         Some(Unit::Year)
-    } else if is(letters, "months") || is(letters, "mons") || is(letters, "mon") {
+    } else if letters == MONTHS || letters == MONS || letters == MON {
         Some(Unit::Month)
-    } else if is(letters, "days") || is(letters, "day") {
+    } else if letters == DAYS || letters == DAY {
         Some(Unit::Day)
-    } else if is(letters, "hours") || is(letters, "hour") {
+    } else if letters == HOURS || letters == HOUR {
         Some(Unit::Hour)
     } else if is_minute(names, letters) {
         Some(Unit::Minute)
@@ -112,25 +119,25 @@ mod tests {
     #[test]
     fn sets_of_names(rt: HostRuntime) -> Result<(), Fail> {
         for (letters, postgres, verbose) in [
-            (packed("years"), Some(Unit::Year), Some(Unit::Year)),
-            (packed("year"), Some(Unit::Year), Some(Unit::Year)),
-            (packed("months"), Some(Unit::Month), Some(Unit::Month)),
-            (packed("month"), None, None),
-            (packed("mons"), Some(Unit::Month), Some(Unit::Month)),
-            (packed("mon"), Some(Unit::Month), Some(Unit::Month)),
-            (packed("days"), Some(Unit::Day), Some(Unit::Day)),
-            (packed("day"), Some(Unit::Day), Some(Unit::Day)),
-            (packed("hours"), Some(Unit::Hour), Some(Unit::Hour)),
-            (packed("hour"), Some(Unit::Hour), Some(Unit::Hour)),
-            (packed("minutes"), Some(Unit::Minute), Some(Unit::Minute)),
-            (packed("minute"), Some(Unit::Minute), Some(Unit::Minute)),
-            (packed("mins"), None, Some(Unit::Minute)),
-            (packed("min"), None, Some(Unit::Minute)),
-            (packed("seconds"), Some(Unit::Second), Some(Unit::Second)),
-            (packed("second"), Some(Unit::Second), Some(Unit::Second)),
-            (packed("secs"), None, Some(Unit::Second)),
-            (packed("sec"), None, Some(Unit::Second)),
-            (packed("s"), None, None),
+            (YEARS, Some(Unit::Year), Some(Unit::Year)),
+            (YEAR, Some(Unit::Year), Some(Unit::Year)),
+            (MONTHS, Some(Unit::Month), Some(Unit::Month)),
+            (0x6D_6F_6E_74_68, None, None),
+            (MONS, Some(Unit::Month), Some(Unit::Month)),
+            (MON, Some(Unit::Month), Some(Unit::Month)),
+            (DAYS, Some(Unit::Day), Some(Unit::Day)),
+            (DAY, Some(Unit::Day), Some(Unit::Day)),
+            (HOURS, Some(Unit::Hour), Some(Unit::Hour)),
+            (HOUR, Some(Unit::Hour), Some(Unit::Hour)),
+            (MINUTES, Some(Unit::Minute), Some(Unit::Minute)),
+            (MINUTE, Some(Unit::Minute), Some(Unit::Minute)),
+            (MINS, None, Some(Unit::Minute)),
+            (MIN, None, Some(Unit::Minute)),
+            (SECONDS, Some(Unit::Second), Some(Unit::Second)),
+            (SECOND, Some(Unit::Second), Some(Unit::Second)),
+            (SECS, None, Some(Unit::Second)),
+            (SEC, None, Some(Unit::Second)),
+            (0x73, None, None),
         ] {
             assert_eq!(rt; unit_packed(NameSet::Postgres, letters), postgres);
             assert_eq!(rt; unit_packed(NameSet::Verbose, letters), verbose);
