@@ -22,7 +22,8 @@ IsIntervalAnswer from to text (Err Range) = (part : Part) × Misfits (Shape from
 IsIntervalAnswer from to text (Err _) = ⊥
 
 -- the answer between two styles, and another where one of the forms is none
-abbrev pub IsAnswerBy : Option Style → Option Style → (List ℕ → Result (List ℕ) Cause → Type 0) → List ℕ → Result (List ℕ) Cause → Type 0
+abbrev pub IsAnswerBy : Option Style → Option Style → (List ℕ → Result (List ℕ) Cause → Type 0) → List ℕ
+    → Result (List ℕ) Cause → Type 0
 IsAnswerBy (Some from) (Some to) Other = IsIntervalAnswer from to
 IsAnswerBy _ _ Other = Other
 

@@ -18,7 +18,9 @@ worth ticks = if nat_lt ticks (2 ^ 64) then Ok (Instant (unix_nanos ticks)) else
 -- the count of ticks so many nanoseconds after the first one
 unfoldable pub ticks_after : ℤ → Result ℕ Cause
 ticks_after (negsuc n) = Err Range
-ticks_after (pos nanos) = if nat_lt (100 * (2 ^ 64 - 1)) nanos then Err Range else if (nanos % 100 == 0) then Ok (nanos / 100) else Err Precision
+ticks_after (pos nanos) =
+    if nat_lt (100 * (2 ^ 64 - 1)) nanos then Err Range
+    else if (nanos % 100 == 0) then Ok (nanos / 100) else Err Precision
 
 -- the count at an instant
 abbrev pub held : Value → Result ℕ Cause

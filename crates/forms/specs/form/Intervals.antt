@@ -12,19 +12,30 @@ use Rattle.forms.specs.declared.value.Value.TheVariants.{Triple, Length}
 
 -- the sums of counts that fit
 unfoldable pub worth : List Count → Result Value Cause
-worth counts = if fits counts then Ok (Triple (total Months counts) (total Days counts) (total Micros counts)) else Err Range
+worth counts =
+    if fits counts then Ok (Triple (total Months counts) (total Days counts) (total Micros counts))
+    else Err Range
 
 -- the interval of three parts that fit its types
 unfoldable pub interval_of : ℤ → ℤ → ℤ → Result Interval Cause
-interval_of months days micros = if fits_type Months months && (fits_type Days days && fits_type Micros micros) then Ok (record { months = months; days = days; microseconds = micros }) else Err Range
+interval_of months days micros =
+    if fits_type Months months && (fits_type Days days && fits_type Micros micros)
+    then Ok (record { months = months; days = days; microseconds = micros })
+    else Err Range
 
 -- a length in whole days of 86_400 seconds and the microseconds beyond them
 abbrev pub length_in_days : ℕ → Interval
-length_in_days nanos = record { months = pos 0; days = pos (nanos / 86_400_000_000_000); microseconds = pos (nanos % 86_400_000_000_000 / 1000) }
+length_in_days nanos = record {
+  months = pos 0;
+  days = pos (nanos / 86_400_000_000_000);
+  microseconds = pos (nanos % 86_400_000_000_000 / 1000);
+}
 
 -- the interval of a length: as many days as fit, and whole microseconds
 unfoldable pub interval_of_length : ℕ → Result Interval Cause
-interval_of_length nanos = if fits_type Days (pos (nanos / 86_400_000_000_000)) then (if (nanos % 1000 == 0) then Ok (length_in_days nanos) else Err Precision) else Err Range
+interval_of_length nanos =
+    if fits_type Days (pos (nanos / 86_400_000_000_000)) then (if (nanos % 1000 == 0) then Ok (length_in_days nanos) else Err Precision)
+    else Err Range
 
 -- the interval of a value
 abbrev pub held : Value → Result Interval Cause

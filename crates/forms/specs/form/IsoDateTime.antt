@@ -25,7 +25,8 @@ clock_of t = ((t.hour * 60 + t.minute) * 60 + t.second) * 1_000_000_000 + t.mill
 
 -- the moment in UTC
 abbrev pub instant_of : DateTime → ℤ
-instant_of t = (day_of t.date *ℤ pos 86_400_000_000_000 +ℤ pos (clock_of t.time)) -ℤ offset_of t.time *ℤ pos 1_000_000_000
+instant_of t =
+    (day_of t.date *ℤ pos 86_400_000_000_000 +ℤ pos (clock_of t.time)) -ℤ offset_of t.time *ℤ pos 1_000_000_000
 
 -- there is such a day, a clock shows the time, and the offset is less than a day
 pub record IsReal (t : DateTime) : Type 0 where
@@ -42,7 +43,14 @@ Worth t = Judged (IsReal t) (IsCivilDay (day_of t.date)) (Instant (instant_of t)
 abbrev pub utc : CivilDateTime → DateTime
 utc c = record {
   date = date_of c.date;
-  time = record { hour = c.time.hour; minute = c.time.minute; second = c.time.second; millisecond = c.time.subsec_nanosecond / 1_000_000; tz_offset_hours = pos 0; tz_offset_minutes = pos 0 };
+  time = record {
+    hour = c.time.hour;
+    minute = c.time.minute;
+    second = c.time.second;
+    millisecond = c.time.subsec_nanosecond / 1_000_000;
+    tz_offset_hours = pos 0;
+    tz_offset_minutes = pos 0;
+  };
 }
 
 -- the same, where the milliseconds are whole
@@ -51,5 +59,7 @@ in_millis c = if (c.time.subsec_nanosecond % 1_000_000 == 0) then Ok (utc c) els
 
 -- the civil date-time in UTC of the moment, or `Range` where the civil years have none
 abbrev pub Holds : Value → Result DateTime Cause → Type 0
-Holds (Instant nanos) held = ((c : CivilDateTime) × (civil_nanos c ≡ nanos) × (held ≡ in_millis c)) ⊎ ((IsCivilNanos nanos → ⊥) × (held ≡ Err Range))
+Holds (Instant nanos) held =
+    ((c : CivilDateTime) × (civil_nanos c ≡ nanos) × (held ≡ in_millis c))
+    ⊎ ((IsCivilNanos nanos → ⊥) × (held ≡ Err Range))
 Holds _ held = held ≡ Err Kind

@@ -19,22 +19,27 @@ micros_of hour minute second millisecond = ((hour * 60 + minute) * 60 + second) 
 
 -- months, days and microseconds that 64 bits hold
 unfoldable pub triple_of : ℕ → ℕ → ℕ → Result Value Cause
-triple_of months days micros = if nat_lt micros (2 ^ 63) then Ok (Triple (pos months) (pos days) (pos micros)) else Err Range
+triple_of months days micros =
+    if nat_lt micros (2 ^ 63) then Ok (Triple (pos months) (pos days) (pos micros))
+    else Err Range
 
 abbrev pub worth : Duration → Result Value Cause
-worth (YMDHMS year month day hour minute second millisecond) = triple_of (12 * year + month) day (micros_of hour minute second millisecond)
+worth (YMDHMS year month day hour minute second millisecond) =
+    triple_of (12 * year + month) day (micros_of hour minute second millisecond)
 worth (Weeks weeks) = triple_of 0 (7 * weeks) 0
 
 -- ---- writing
 
 -- years and months, days, and the parts of a time
 abbrev pub duration_of : ℕ → ℕ → ℕ → Duration
-duration_of months days millis = YMDHMS (months / 12) (months % 12) days (millis / 3_600_000) (millis / 60_000 % 60) (millis / 1000 % 60) (millis % 1000)
+duration_of months days millis =
+    YMDHMS (months / 12) (months % 12) days (millis / 3_600_000) (millis / 60_000 % 60) (millis / 1000 % 60) (millis % 1000)
 
 -- where years, days and hours are numbers of 32 bits, and the milliseconds whole
 unfoldable pub counts_of : ℕ → ℕ → ℕ → Result Duration Cause
 counts_of months days micros =
-    if nat_lt (months / 12) (2 ^ 32) && (nat_lt days (2 ^ 32) && nat_lt (micros / 3_600_000_000) (2 ^ 32)) then (if (micros % 1000 == 0) then Ok (duration_of months days (micros / 1000)) else Err Precision)
+    if nat_lt (months / 12) (2 ^ 32) && (nat_lt days (2 ^ 32) && nat_lt (micros / 3_600_000_000) (2 ^ 32))
+    then (if (micros % 1000 == 0) then Ok (duration_of months days (micros / 1000)) else Err Precision)
     else Err Range
 
 -- no part is negative
@@ -45,7 +50,11 @@ held_triple _ _ _ = Err Range
 -- a length in whole days of 86_400 seconds, as many as 32 bits hold, and the milliseconds beyond them
 unfoldable pub held_length : ℕ → Result Duration Cause
 held_length nanos =
-    if nat_lt (nanos / 86_400_000_000_000) (2 ^ 32) then (if (nanos % 1_000_000 == 0) then Ok (duration_of 0 (nanos / 86_400_000_000_000) (nanos % 86_400_000_000_000 / 1_000_000)) else Err Precision)
+    if nat_lt (nanos / 86_400_000_000_000) (2 ^ 32)
+    then (
+    if (nanos % 1_000_000 == 0) then Ok (duration_of 0 (nanos / 86_400_000_000_000) (nanos % 86_400_000_000_000 / 1_000_000))
+    else Err Precision
+    )
     else Err Range
 
 abbrev pub held : Value → Result Duration Cause

@@ -39,7 +39,8 @@ minutes_of (Custom minutes) = minutes
 
 -- the moment, or the local date-time, so many nanoseconds into a day
 abbrev pub moment_of : ℤ → Option Offset → ℤ → Value
-moment_of day (Some offset) nanos = Instant ((day *ℤ pos 86_400_000_000_000 +ℤ nanos) -ℤ minutes_of offset *ℤ pos 60_000_000_000)
+moment_of day (Some offset) nanos =
+    Instant ((day *ℤ pos 86_400_000_000_000 +ℤ nanos) -ℤ minutes_of offset *ℤ pos 60_000_000_000)
 moment_of day None nanos = Local day nanos
 
 -- the value of a day, and of a time of it where there is one
@@ -73,15 +74,20 @@ time_of nanos = record {
 
 -- the date with this day, or `Range` where no date of the years 0 to 9999 has it
 abbrev pub HoldsDay : ℤ → Result Date Cause → Type 0
-HoldsDay day held = ((date : Date) × IsRealDay date × (day_of date ≡ day) × (held ≡ Ok date)) ⊎ (((date : Date) → IsRealDay date → day_of date ≡ day → ⊥) × (held ≡ Err Range))
+HoldsDay day held =
+    ((date : Date) × IsRealDay date × (day_of date ≡ day) × (held ≡ Ok date))
+    ⊎ (((date : Date) → IsRealDay date → day_of date ≡ day → ⊥) × (held ≡ Err Range))
 
 -- that date with a time or without, and an offset or none
 abbrev pub HoldsDated : ℤ → Option Time → Option Offset → Result Datetime Cause → Type 0
-HoldsDated day time offset held = (date : Result Date Cause) × HoldsDay day date × (held ≡ result_map (λ d. datetime_of (Some d) time offset) date)
+HoldsDated day time offset held =
+    (date : Result Date Cause) × HoldsDay day date × (held ≡ result_map (λ d. datetime_of (Some d) time offset) date)
 
 -- a moment is written in UTC
 abbrev pub Holds : Value → Result Datetime Cause → Type 0
-Holds (Instant nanos) = HoldsDated (int_div_euclid nanos (pos 86_400_000_000_000)) (Some (time_of (unsigned_abs (int_rem_euclid nanos (pos 86_400_000_000_000))))) (Some Z)
+Holds (Instant nanos) =
+    HoldsDated (int_div_euclid nanos (pos 86_400_000_000_000))
+    (Some (time_of (unsigned_abs (int_rem_euclid nanos (pos 86_400_000_000_000))))) (Some Z)
 Holds (Day day) = HoldsDated day None None
 Holds (Local day nanos) = HoldsDated day (Some (time_of (unsigned_abs nanos))) None
 Holds (Clock nanos) = λ held. held ≡ Ok (datetime_of None (Some (time_of (unsigned_abs nanos))) None)
