@@ -1,5 +1,6 @@
 pub mod Denotes
 pub mod Iso
+pub mod IsoWithoutWeeks
 pub mod Parts
 pub mod IsoText
 pub mod ClockText

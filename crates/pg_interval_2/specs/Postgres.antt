@@ -8,7 +8,7 @@ use Rattle.scan_core.specs.Count.{Count}
 use Rattle.scan_core.specs.Join.{IsJoin}
 use Rattle.scan_core.specs.Number.{IsNumber}
 use Rattle.scan_core.specs.declared.share.Unit.{Unit as TimeUnit}
-use Rattle.scan_core.specs.declared.share.Unit.TheVariants.{Year, Month, Day, Hour, Minute, Second}
+use Rattle.scan_core.specs.declared.share.Unit.TheVariants.{Year, Month, Week, Day, Hour, Minute, Second}
 use Rattle.pg_interval_2.specs.Clock.{IsClock}
 use Rattle.pg_interval_2.specs.UnitNames.{postgres_names, unit_named}
 
@@ -30,14 +30,15 @@ abbrev pub all_counts : List (List Count) → List Count
 all_counts [] = []
 all_counts (counts ∷ more) = counts ++ all_counts more
 
--- the place of a unit among the six
+-- the place of a unit among the seven, the longest first
 abbrev pub place_of : TimeUnit → ℕ
 place_of Year = 0
 place_of Month = 1
-place_of Day = 2
-place_of Hour = 3
-place_of Minute = 4
-place_of Second = 5
+place_of Week = 2
+place_of Day = 3
+place_of Hour = 4
+place_of Minute = 5
+place_of Second = 6
 
 -- one of the counts is of the unit
 abbrev pub counts_unit : TimeUnit → List Count → Bool

@@ -2,12 +2,13 @@
 use Rattle.std.specs.Prelude.{ℕ, Bool, List, [], ◌∷◌, codes, bytes_eq, Option, Some, None, if◌then◌else◌}
 use Rattle.std.specs.List.{list_any}
 use Rattle.scan_core.specs.declared.share.Unit.{Unit as TimeUnit}
-use Rattle.scan_core.specs.declared.share.Unit.TheVariants.{Year, Month, Day, Hour, Minute, Second}
+use Rattle.scan_core.specs.declared.share.Unit.TheVariants.{Year, Month, Week, Day, Hour, Minute, Second}
 
--- the names that the `postgres` style reads
+-- the names that the `postgres` style reads: a week has none
 abbrev pub postgres_names : TimeUnit → List (List ℕ)
 postgres_names Year = codes "years" ∷ codes "year" ∷ []
 postgres_names Month = codes "months" ∷ codes "mons" ∷ codes "mon" ∷ []
+postgres_names Week = []
 postgres_names Day = codes "days" ∷ codes "day" ∷ []
 postgres_names Hour = codes "hours" ∷ codes "hour" ∷ []
 postgres_names Minute = codes "minutes" ∷ codes "minute" ∷ []

@@ -1,10 +1,12 @@
 //! Laws of the definitions, each the contract of a function with an empty body.
-ghost use Rattle.std.specs.Prelude.{◌≡◌, ℕ, List};
+ghost use Rattle.std.specs.Prelude.{◌≡◌, ◌↔◌, true, false, ℕ, List};
 ghost use Rattle.scan_core.specs.Count.{Count};
 ghost use Rattle.pg_interval_2.specs.declared.interval.Interval.{Interval};
 ghost use Rattle.pg_interval_2.specs.declared.style.Style.{Style};
 ghost use Rattle.pg_interval_2.specs.Cell.{cell};
-ghost use Rattle.pg_interval_2.specs.Denotes.{Denotes};
+ghost use Rattle.pg_interval_2.specs.Denotes.{Denotes, HasNoShape};
+ghost use Rattle.pg_interval_2.specs.Iso.{IsIso};
+ghost use Rattle.pg_interval_2.specs.IsoWithoutWeeks.{IsIsoWithoutWeeks, has_week};
 ghost use Rattle.pg_interval_2.specs.Ranges.{IsInRange};
 ghost use Rattle.pg_interval_2.specs.Styles.{Shape, written};
 ghost use Rattle.pg_interval_2.specs.Sums.{plus, less};
@@ -21,6 +23,14 @@ pub fn written_text_is_read_back()
         → Denotes (Shape style) (written style t) t }
     ensures alone { (style : Style) (t u : Interval) → IsInRange t
         → Denotes (Shape style) (written style t) u → u ≡ t }
+{}
+
+/// What weeks changed of the ISO style: a text without a `W` spells the counts that it spelled before they were read, and a
+/// text with one spelled none. So every older text has its value, and the new texts are those with a `W`.
+pub fn only_texts_with_weeks_are_new()
+    ensures old { (text : List ℕ) (counts : List Count) → has_week text ≡ false
+        → (IsIso text counts ↔ IsIsoWithoutWeeks text counts) }
+    ensures new { (text : List ℕ) → has_week text ≡ true → HasNoShape IsIsoWithoutWeeks text }
 {}
 
 /// What a text denotes is within the types of the parts, in every style.

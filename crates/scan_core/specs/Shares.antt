@@ -1,17 +1,19 @@
 -- The share of a count: its months, days and microseconds, by PostgreSQL's reckoning of units
--- (its manual, section 8.5.4, "Interval Input"): 12 months a year, 30 days a month, 24 hours a day.
+-- (its manual, section 8.5.4, "Interval Input"): 12 months a year, 30 days a month, 7 days a week, 24 hours a day. The fraction
+-- of a week is counted in whole days, where PostgreSQL counts it in days and hours.
 use Rattle.std.specs.Prelude.{ℕ, ◌+◌, ◌-◌, ◌*◌, ◌/◌, ◌^◌, Bool, nat_lt, List, length, ℤ, pos, negsuc, neg_ℤ, if◌then◌else◌}
 use Rattle.scan_core.specs.Digits.{number_of}
 use Rattle.scan_core.specs.Count.{Count}
 use Rattle.scan_core.specs.declared.share.Unit.{Unit as TimeUnit}
-use Rattle.scan_core.specs.declared.share.Unit.TheVariants.{Year, Month, Day, Hour, Minute, Second}
+use Rattle.scan_core.specs.declared.share.Unit.TheVariants.{Year, Month, Week, Day, Hour, Minute, Second}
 use Rattle.scan_core.specs.declared.share.Part.{Part}
 use Rattle.scan_core.specs.declared.share.Part.TheVariants.{Months, Days, Micros}
 
--- how many of the next smaller unit make one: months, days, hours, minutes, seconds, microseconds
+-- how many of the next smaller unit make one: months, days, days, hours, minutes, seconds, microseconds
 abbrev pub scale_of : TimeUnit → ℕ
 scale_of Year = 12
 scale_of Month = 30
+scale_of Week = 7
 scale_of Day = 24
 scale_of Hour = 60
 scale_of Minute = 60
@@ -28,6 +30,7 @@ magnitude Months Year w r = 12 * w + r
 magnitude Months Month w r = w
 magnitude Months _ w r = 0
 magnitude Days Month w r = r
+magnitude Days Week w r = 7 * w + r
 magnitude Days Day w r = w
 magnitude Days _ w r = 0
 magnitude Micros Day w r = r * 3_600_000_000
@@ -48,6 +51,7 @@ share part c = signed c.negative (magnitude part c.unit (number_of c.whole) (rou
 abbrev pub main_part : TimeUnit → Part
 main_part Year = Months
 main_part Month = Months
+main_part Week = Days
 main_part Day = Days
 main_part Hour = Micros
 main_part Minute = Micros

@@ -15,6 +15,8 @@ pub enum Unit {
     Year,
     /// A month, and 30 days for its fraction.
     Month,
+    /// 7 days.
+    Week,
     /// A day, and 24 hours for its fraction.
     Day,
     /// 60 minutes.
@@ -49,8 +51,8 @@ pub enum Part {
 /// unit, rounded half away from zero. `1.99` of `Unit::Year` is 24 months, `0.5` of `Unit::Day` is 12 hours
 /// in microseconds.
 ///
-/// None exactly where a part leaves its type. That part is months for years and months, days for days, and
-/// microseconds for hours, minutes and seconds; the others always fit.
+/// None exactly where a part leaves its type. That part is months for years and months, days for weeks and days,
+/// and microseconds for hours, minutes and seconds; the others always fit.
 pub fn count_share(whole: &[u8], fraction: &[u8], negative: bool, unit: Unit) -> Option<Share>
     requires whole { AreDigits whole.now }
     requires fraction { AreDigits fraction.now }
