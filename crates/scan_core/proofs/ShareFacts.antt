@@ -7,7 +7,7 @@ use Rattle.scan_core.specs.Shares.{fits_type, is_within, magnitude, main_part, r
 use Rattle.scan_core.specs.declared.share.Part.{Part}
 use Rattle.scan_core.specs.declared.share.Part.TheVariants.{Days, Micros, Months}
 use Rattle.scan_core.specs.declared.share.Unit.{Unit as TimeUnit}
-use Rattle.scan_core.specs.declared.share.Unit.TheVariants.{Day, Hour, Minute, Month, Second, Year}
+use Rattle.scan_core.specs.declared.share.Unit.TheVariants.{Day, Hour, Minute, Month, Second, Week, Year}
 use Rattle.scan_core.proofs.RoundingFacts.{rounded-le}
 
 -- ---- a magnitude below half of the type's range fits with either sign
@@ -39,18 +39,21 @@ bound_64 true (suc n) h = grind (arith, nat_tests)
 main_or_fits : (part : Part) (unit : TimeUnit) (negative : Bool) (w r : ℕ) → r ≤ scale_of unit → (part ≡ main_part unit) ⊎ (fits_type part (signed negative (magnitude part unit w r)) ≡ true)
 main_or_fits Months Year negative w r h = inl refl
 main_or_fits Months Month negative w r h = inl refl
+main_or_fits Months Week negative w r h = inr (small_32 negative 0 (omega arith))
 main_or_fits Months Day negative w r h = inr (small_32 negative 0 (omega arith))
 main_or_fits Months Hour negative w r h = inr (small_32 negative 0 (omega arith))
 main_or_fits Months Minute negative w r h = inr (small_32 negative 0 (omega arith))
 main_or_fits Months Second negative w r h = inr (small_32 negative 0 (omega arith))
 main_or_fits Days Year negative w r h = inr (small_32 negative 0 (omega arith))
 main_or_fits Days Month negative w r h = inr (small_32 negative r (omega arith))
+main_or_fits Days Week negative w r h = inl refl
 main_or_fits Days Day negative w r h = inl refl
 main_or_fits Days Hour negative w r h = inr (small_32 negative 0 (omega arith))
 main_or_fits Days Minute negative w r h = inr (small_32 negative 0 (omega arith))
 main_or_fits Days Second negative w r h = inr (small_32 negative 0 (omega arith))
 main_or_fits Micros Year negative w r h = inr (small_64 negative 0 (omega arith))
 main_or_fits Micros Month negative w r h = inr (small_64 negative 0 (omega arith))
+main_or_fits Micros Week negative w r h = inr (small_64 negative 0 (omega arith))
 main_or_fits Micros Day negative w r h = inr (small_64 negative (r * 3_600_000_000) (omega arith))
 main_or_fits Micros Hour negative w r h = inl refl
 main_or_fits Micros Minute negative w r h = inl refl
@@ -81,6 +84,7 @@ each_part_fits part c digits main =
 pub whole-le : (unit : TimeUnit) (w r : ℕ) → w ≤ magnitude (main_part unit) unit w r
 whole-le Year w r = omega arith
 whole-le Month w r = omega arith
+whole-le Week w r = omega arith
 whole-le Day w r = omega arith
 whole-le Hour w r = omega arith
 whole-le Minute w r = omega arith
@@ -100,6 +104,7 @@ zero_signed true = refl
 no_months : (unit : TimeUnit) (negative : Bool) (w r : ℕ) → main_part unit ≢ Months → signed negative (magnitude Months unit w r) ≡ pos 0
 no_months Year negative w r other = absurd (other refl)
 no_months Month negative w r other = absurd (other refl)
+no_months Week negative w r other = zero_signed negative
 no_months Day negative w r other = zero_signed negative
 no_months Hour negative w r other = zero_signed negative
 no_months Minute negative w r other = zero_signed negative
@@ -108,6 +113,7 @@ no_months Second negative w r other = zero_signed negative
 no_days : (unit : TimeUnit) (negative : Bool) (w r : ℕ) → main_part unit ≡ Micros → signed negative (magnitude Days unit w r) ≡ pos 0
 no_days Year negative w r micros = zero_signed negative
 no_days Month negative w r micros = cc
+no_days Week negative w r micros = cc
 no_days Day negative w r micros = cc
 no_days Hour negative w r micros = zero_signed negative
 no_days Minute negative w r micros = zero_signed negative

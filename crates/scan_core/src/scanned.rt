@@ -147,6 +147,7 @@ mod tests {
         for (text, unit, want) in [
             ("1.99", Unit::Year, Some((-24, 0, 0))),
             ("1.2", Unit::Month, Some((-1, -6, 0))),
+            ("1.5", Unit::Week, Some((0, -11, 0))),
             ("0.5", Unit::Day, Some((0, 0, -43_200_000_000))),
             ("0.999", Unit::Hour, Some((0, 0, -3_600_000_000))),
             ("1.5", Unit::Minute, Some((0, 0, -90_000_000))),
@@ -157,6 +158,8 @@ mod tests {
             ("0.041666666667", Unit::Year, Some((-1, 0, 0))),
             ("0.0416666666666", Unit::Year, Some((0, 0, 0))),
             ("0.0416666666667", Unit::Year, Some((-1, 0, 0))),
+            ("0.071428571428", Unit::Week, Some((0, 0, 0))),
+            ("0.0714285714286", Unit::Week, Some((0, -1, 0))),
             ("0.0000004999999", Unit::Second, Some((0, 0, 0))),
             ("0.0000005000000", Unit::Second, Some((0, 0, -1))),
             // the ends of the types
@@ -164,6 +167,8 @@ mod tests {
             ("2147483649", Unit::Month, None),
             ("9223372036854.775808", Unit::Second, Some((0, 0, i64::MIN))),
             ("9223372036854.775809", Unit::Second, None),
+            ("306783378.3", Unit::Week, Some((0, i32::MIN, 0))),
+            ("306783378.4", Unit::Week, None),
             ("1000000000000000000", Unit::Day, None),
             ("18446744073709551616", Unit::Year, None),
         ] {

@@ -95,6 +95,7 @@ pub(crate) fn share_of(negative: bool, whole: u64, next: u64, unit: Unit) -> Opt
             share.months = signed_i32(negative, whole, 1, 0)?;
             share.days = turned(negative, next) as i32;
         }
+        Unit::Week => share.days = signed_i32(negative, whole, 7, next)?,
         Unit::Day => {
             share.days = signed_i32(negative, whole, 1, 0)?;
             share.micros = turned(negative, next * 3_600_000_000);
@@ -119,6 +120,7 @@ impl Unit {
         match self {
             Unit::Year => 12,
             Unit::Month => 30,
+            Unit::Week => 7,
             Unit::Day => 24,
             Unit::Hour | Unit::Minute => 60,
             Unit::Second => 1_000_000,
@@ -192,6 +194,7 @@ mod tests {
             ("1.99", Unit::Year, Some((24, 0, 0))),
             ("1.2", Unit::Year, Some((14, 0, 0))),
             ("1.2", Unit::Month, Some((1, 6, 0))),
+            ("1.5", Unit::Week, Some((0, 11, 0))),
             ("0.5", Unit::Day, Some((0, 0, 43_200_000_000))),
             ("0.999", Unit::Hour, Some((0, 0, 3_600_000_000))),
             ("1.5", Unit::Minute, Some((0, 0, 90_000_000))),
@@ -210,6 +213,9 @@ mod tests {
             ("0.0000005", Unit::Second, Some((0, 0, 1))),
             ("-0.0000005", Unit::Second, Some((0, 0, -1))),
             ("0.00000049999", Unit::Second, Some((0, 0, 0))),
+            ("0.0714285714285714286", Unit::Week, Some((0, 1, 0))),
+            ("0.0714285714285714285", Unit::Week, Some((0, 0, 0))),
+            ("-1.5", Unit::Week, Some((0, -11, 0))),
             ("0.375", Unit::Year, Some((5, 0, 0))),
             ("-0.375", Unit::Year, Some((-5, 0, 0))),
             // the ends of the types
@@ -217,6 +223,13 @@ mod tests {
             ("178956970.63", Unit::Year, None),
             ("-178956970.63", Unit::Year, Some((i32::MIN, 0, 0))),
             ("18446744073709551616", Unit::Month, None),
+            ("306783378", Unit::Week, Some((0, 2_147_483_646, 0))),
+            ("306783379", Unit::Week, None),
+            ("306783378.2", Unit::Week, Some((0, i32::MAX, 0))),
+            ("306783378.3", Unit::Week, None),
+            ("-306783378.3", Unit::Week, Some((0, i32::MIN, 0))),
+            ("-306783378.4", Unit::Week, None),
+            ("18446744073709551616", Unit::Week, None),
             ("2147483647", Unit::Day, Some((0, i32::MAX, 0))),
             ("2147483648", Unit::Day, None),
             ("-2147483648", Unit::Day, Some((0, i32::MIN, 0))),

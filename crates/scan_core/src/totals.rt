@@ -77,6 +77,7 @@ impl Totals {
         match unit {
             Unit::Year => self.add_some(share_of(negative, whole, next, Unit::Year)),
             Unit::Month => self.add_some(share_of(negative, whole, next, Unit::Month)),
+            Unit::Week => self.add_some(share_of(negative, whole, next, Unit::Week)),
             Unit::Day => self.add_some(share_of(negative, whole, next, Unit::Day)),
             Unit::Hour => self.add_some(share_of(negative, whole, next, Unit::Hour)),
             Unit::Minute => self.add_some(share_of(negative, whole, next, Unit::Minute)),
