@@ -41,6 +41,17 @@ fn iso_lines(rt: HostRuntime) -> Result<(), Fail> {
         ("PgIso PgIso P0.5D\n", "PT12H\n"),
         ("PgIso PgIso PT0.999H\n", "PT1H\n"),
         ("PgIso PgIso PT1.123456S\n", "PT1.123456S\n"),
+        // Weeks are seven days on both sides of the `T`, their fraction is rounded to days, and they are written as days.
+        ("PgIso PgIso P1W\n", "P7D\n"),
+        ("PgIso PgIso PT1W\n", "P7D\n"),
+        ("PgIso PgIso P-1W\n", "P-7D\n"),
+        ("PgIso PgIso P1.5W\n", "P11D\n"),
+        ("PgIso PgIso P0.0714285714285714285W\n", "PT0S\n"),
+        ("PgIso PgIso P0.0714285714285714286W\n", "P1D\n"),
+        ("PgIso PgIso P306783378W\n", "P2147483646D\n"),
+        ("PgIso PgIso P306783379W\n", "refused Range\n"),
+        ("PgIso PgIso PW\n", "refused Syntax\n"),
+        ("Postgres PgIso 1 week\n", "refused Syntax\n"),
         // No requests.
         ("PgIso Other P1D\n", "refused Line\n"),
         ("Other PgIso P1D\n", "refused Line\n"),
