@@ -10,7 +10,7 @@ use Rattle.scan_core.specs.Digits.{AreDigits}
 use Rattle.scan_core.specs.Join.{onto_first, IsJoin}
 use Rattle.scan_core.specs.Number.{IsFraction}
 use Rattle.scan_core.specs.declared.share.Unit.{Unit as TimeUnit}
-use Rattle.scan_core.specs.declared.share.Unit.TheVariants.{Year, Month, Day, Hour, Minute, Second}
+use Rattle.scan_core.specs.declared.share.Unit.TheVariants.{Year, Month, Week, Day, Hour, Minute, Second}
 use Rattle.pg_interval_2.specs.Clock.{IsClock}
 use Rattle.pg_interval_2.specs.Postgres.{IsItem}
 use Rattle.pg_interval_2.specs.UnitNames.{verbose_names, unit_named}
@@ -111,6 +111,7 @@ is_clear name = not (ends_in_o true name) && not (ends_in_o false name)
 all_clear : (unit : TimeUnit) → IsTrue (list_all is_clear (verbose_names unit))
 all_clear Year = refl
 all_clear Month = refl
+all_clear Week = refl
 all_clear Day = refl
 all_clear Hour = refl
 all_clear Minute = refl

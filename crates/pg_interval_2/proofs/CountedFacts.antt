@@ -4,7 +4,7 @@ use Rattle.std.specs.Prelude.{filter}
 use Rattle.std.proofs.lemmas.Bool.Decides.{eqb_tells}
 use Rattle.scan_core.specs.Count.{Count, count_of}
 use Rattle.scan_core.specs.declared.share.Unit.{Unit as TimeUnit}
-use Rattle.scan_core.specs.declared.share.Unit.TheVariants.{Year, Month, Day, Hour, Minute, Second}
+use Rattle.scan_core.specs.declared.share.Unit.TheVariants.{Year, Month, Week, Day, Hour, Minute, Second}
 use Rattle.pg_interval_2.specs.declared.counted.Counted.{Counted}
 use Rattle.pg_interval_2.specs.Clock.{is_nonzero}
 use Rattle.pg_interval_2.specs.inside.CountedItems.{IsCounted, CountsOne, CountsPerhaps, CountsAll}
@@ -34,12 +34,13 @@ or_true true = refl
 or_true false = refl
 
 unit_at : ℕ → TimeUnit
-unit_at n = cond (n == 0) Year (cond (n == 1) Month (cond (n == 2) Day (cond (n == 3) Hour (cond (n == 4) Minute Second))))
+unit_at n = cond (n == 0) Year (cond (n == 1) Month (cond (n == 2) Week (cond (n == 3) Day (cond (n == 4) Hour (cond (n == 5) Minute Second)))))
 
 at_place : (unit : TimeUnit) → unit_at (place_of unit) ≡ unit
 unfolding unit_at
 at_place Year = refl
 at_place Month = refl
+at_place Week = refl
 at_place Day = refl
 at_place Hour = refl
 at_place Minute = refl
@@ -48,6 +49,7 @@ at_place Second = refl
 same_place_test : (unit : TimeUnit) → ((place_of unit == place_of unit) || false) ≡ true
 same_place_test Year = refl
 same_place_test Month = refl
+same_place_test Week = refl
 same_place_test Day = refl
 same_place_test Hour = refl
 same_place_test Minute = refl

@@ -24,6 +24,7 @@ pub mod ItemsInFront
 pub mod ItemsRead
 pub mod ItemWords
 pub mod Verdicts
+pub mod IsoWeeks
 pub mod BadNames
 pub mod NoItems
 pub mod PostgresCounts

@@ -131,15 +131,15 @@ all_counts-clock micros =
 abbrev pub postgres_counts : ℤ → ℤ → ℤ → List Count
 postgres_counts months days micros = date_counts months days ++ clock_part micros
 
-rises_clock : (micros : ℤ) → RisesFrom 3 (clock_part micros)
+rises_clock : (micros : ℤ) → RisesFrom 4 (clock_part micros)
 rises_clock micros =
-    cond_both (int_eq micros (pos 0)) _ _ (RisesFrom 3) (λ _. tt)
-    (λ _. rises_filter is_nonzero 3 (three_counts (is_negative micros) 2 micros) (omega arith, (omega arith, (omega arith, tt))))
+    cond_both (int_eq micros (pos 0)) _ _ (RisesFrom 4) (λ _. tt)
+    (λ _. rises_filter is_nonzero 4 (three_counts (is_negative micros) 2 micros) (omega arith, (omega arith, (omega arith, tt))))
 
 distinct : (months days micros : ℤ) → IsTrue (has_distinct_units (postgres_counts months days micros))
 distinct months days micros =
     distinct_units 0 (postgres_counts months days micros)
-    (rw (append_assoc, append_assoc) (rises_front (years_of months == 0) _ _ (rises_front (months_of months == 0) _ _ (rises_front (unsigned_abs days == 0) _ _ (rises_clock micros)))))
+    (rw (append_assoc, append_assoc) (rises_front (years_of months == 0) _ _ (rises_front (months_of months == 0) _ _ (rises_lower _ _ _ (omega arith) (rises_front (unsigned_abs days == 0) _ _ (rises_clock micros))))))
 
 -- the counts of four runs of items
 counts_of_four : (a b c d : List (List Count)) (x y z w : List Count) → all_counts a ≡ x → all_counts b ≡ y → all_counts c ≡ z → all_counts d ≡ w

@@ -8,7 +8,7 @@ use Rattle.scan_core.specs.Sums.{total}
 use Rattle.scan_core.specs.declared.share.Part.{Part}
 use Rattle.scan_core.specs.declared.share.Part.TheVariants.{Months, Days, Micros}
 use Rattle.scan_core.specs.declared.share.Unit.{Unit as TimeUnit}
-use Rattle.scan_core.specs.declared.share.Unit.TheVariants.{Year, Month, Day, Hour, Minute, Second}
+use Rattle.scan_core.specs.declared.share.Unit.TheVariants.{Year, Month, Week, Day, Hour, Minute, Second}
 use Rattle.scan_core.proofs.ShareFacts.{each_part_fits}
 use Rattle.scan_core.proofs.SumFacts.{each_fits_push, total_push}
 use Rattle.pg_interval_2.proofs.Signs.{signed-zero, fits_type-signed_zero}
@@ -116,6 +116,7 @@ pub tally_mark : (unit : TimeUnit) (negative : Bool) (whole fraction : List ℕ)
     → Tallies (marked (main_part unit) tally) (counts ++ count_of negative whole fraction unit ∷ [])
 tally_mark Year n w f tally counts out h = mark_months tally counts (count_of n w f Year) out h
 tally_mark Month n w f tally counts out h = mark_months tally counts (count_of n w f Month) out h
+tally_mark Week n w f tally counts out h = mark_days tally counts (count_of n w f Week) (zero_fits n) (signed-zero n) out h
 tally_mark Day n w f tally counts out h = mark_days tally counts (count_of n w f Day) (zero_fits n) (signed-zero n) out h
 tally_mark Hour n w f tally counts out h = mark_micros tally counts (count_of n w f Hour) (zero_fits n) (signed-zero n) (zero_fits n) (signed-zero n) out h
 tally_mark Minute n w f tally counts out h = mark_micros tally counts (count_of n w f Minute) (zero_fits n) (signed-zero n) (zero_fits n) (signed-zero n) out h

@@ -5,7 +5,7 @@ use Rattle.std.specs.List.{list_all}
 use Rattle.std.specs.Prelude.{bytes_eq}
 use Rattle.std.proofs.lemmas.Slice.Eq.{bytes_eq-Decides}
 use Rattle.scan_core.specs.declared.share.Unit.{Unit as TimeUnit}
-use Rattle.scan_core.specs.declared.share.Unit.TheVariants.{Year, Month, Day, Hour, Minute, Second}
+use Rattle.scan_core.specs.declared.share.Unit.TheVariants.{Year, Month, Week, Day, Hour, Minute, Second}
 use Rattle.pg_interval_2.specs.inside.ItemReading.{is_name}
 use Rattle.pg_interval_2.specs.inside.NameSets.{names_in}
 use Rattle.pg_interval_2.specs.UnitNames.{is_one_of, unit_named}
@@ -46,12 +46,14 @@ named_passes names test all word unit h =
 set_letters : (set : NameSet) (unit : TimeUnit) → IsTrue (list_all is_name (names_in set unit))
 set_letters Postgres Year = refl
 set_letters Postgres Month = refl
+set_letters Postgres Week = refl
 set_letters Postgres Day = refl
 set_letters Postgres Hour = refl
 set_letters Postgres Minute = refl
 set_letters Postgres Second = refl
 set_letters Verbose Year = refl
 set_letters Verbose Month = refl
+set_letters Verbose Week = refl
 set_letters Verbose Day = refl
 set_letters Verbose Hour = refl
 set_letters Verbose Minute = refl

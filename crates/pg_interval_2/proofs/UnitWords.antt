@@ -9,7 +9,7 @@ use Rattle.std.specs.List.{list_all}
 use Rattle.std.specs.Prelude.{bytes_eq, nat_lt}
 use Rattle.scan_core.specs.Runs.{Knows, packed, packed_behind}
 use Rattle.scan_core.specs.declared.share.Unit.{Unit as TimeUnit}
-use Rattle.scan_core.specs.declared.share.Unit.TheVariants.{Year, Month, Day, Hour, Minute, Second}
+use Rattle.scan_core.specs.declared.share.Unit.TheVariants.{Year, Month, Week, Day, Hour, Minute, Second}
 use Rattle.pg_interval_2.specs.inside.NameSets.{is_packed, names_in, unit_packed}
 use Rattle.pg_interval_2.specs.UnitNames.{is_one_of, unit_named}
 use Rattle.pg_interval_2.specs.declared.unit_names.NameSet.{NameSet}
@@ -113,12 +113,14 @@ one_of_so (name ∷ names) letters value all short known =
 shorts : (names : NameSet) (unit : TimeUnit) → list_all is_short (names_in names unit) ≡ true
 shorts Postgres Year = refl
 shorts Postgres Month = refl
+shorts Postgres Week = refl
 shorts Postgres Day = refl
 shorts Postgres Hour = refl
 shorts Postgres Minute = refl
 shorts Postgres Second = refl
 shorts Verbose Year = refl
 shorts Verbose Month = refl
+shorts Verbose Week = refl
 shorts Verbose Day = refl
 shorts Verbose Hour = refl
 shorts Verbose Minute = refl

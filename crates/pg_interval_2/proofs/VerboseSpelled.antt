@@ -161,15 +161,15 @@ verbose_counts ago months days micros =
     ++ (part_counts (turned_sign ago (is_negative micros)) (minutes_of micros) Minute
     ++ second_counts (turned_sign ago (is_negative micros)) (seconds_of micros) (subsecond_of micros)))))
 
-rises_second : (negative : Bool) (seconds micros : ℕ) → RisesFrom 5 (second_counts negative seconds micros)
+rises_second : (negative : Bool) (seconds micros : ℕ) → RisesFrom 6 (second_counts negative seconds micros)
 rises_second negative seconds micros =
-    cond_both (micros == 0) _ _ (RisesFrom 5) (λ _. cond_both (seconds == 0) _ _ (RisesFrom 5) (λ _. tt) (λ _. (omega arith, tt))) (λ _. (omega arith, tt))
+    cond_both (micros == 0) _ _ (RisesFrom 6) (λ _. cond_both (seconds == 0) _ _ (RisesFrom 6) (λ _. tt) (λ _. (omega arith, tt))) (λ _. (omega arith, tt))
 
 distinct : (ago : Bool) (months days micros : ℤ) → IsTrue (has_distinct_units (verbose_counts ago months days micros))
 distinct ago months days micros =
     distinct_units 0 (verbose_counts ago months days micros)
-    (rises_front (years_of months == 0) _ _ (rises_front (months_of months == 0) _ _ (rises_front (unsigned_abs days == 0) _ _
-    (rises_front (hours_of micros == 0) _ _ (rises_front (minutes_of micros == 0) _ _ (rises_second (turned_sign ago (is_negative micros)) (seconds_of micros) (subsecond_of micros)))))))
+    (rises_front (years_of months == 0) _ _ (rises_front (months_of months == 0) _ _ (rises_lower _ _ _ (omega arith) (rises_front (unsigned_abs days == 0) _ _
+    (rises_front (hours_of micros == 0) _ _ (rises_front (minutes_of micros == 0) _ _ (rises_second (turned_sign ago (is_negative micros)) (seconds_of micros) (subsecond_of micros))))))))
 
 -- words in front of words, and what they come to
 record Spells (all : List (List ℕ)) (counts : List Count) : Type 0 where

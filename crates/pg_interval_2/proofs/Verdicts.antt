@@ -49,7 +49,7 @@ number_kind negative whole fraction number h =
 pub counts_unit-append : (unit : TimeUnit) (xs ys : List Count) → counts_unit unit (xs ++ ys) ≡ (counts_unit unit xs || counts_unit unit ys)
 counts_unit-append unit xs ys = list_any-append (λ c. place_of c.unit == place_of unit) xs ys
 
-neither : (x y : Bool) → (x || y) ≡ false → (x ≡ false) × (y ≡ false)
+pub neither : (x y : Bool) → (x || y) ≡ false → (x ≡ false) × (y ≡ false)
 neither true y h = cc
 neither false y h = (refl, h)
 

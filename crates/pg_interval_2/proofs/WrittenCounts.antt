@@ -8,7 +8,7 @@ use Rattle.scan_core.specs.Digits.{number_of}
 use Rattle.scan_core.specs.Padded.{padded}
 use Rattle.scan_core.specs.Shares.{signed, magnitude, fits_type}
 use Rattle.scan_core.specs.declared.share.Unit.{Unit as TimeUnit}
-use Rattle.scan_core.specs.declared.share.Unit.TheVariants.{Year, Month, Day, Hour, Minute, Second}
+use Rattle.scan_core.specs.declared.share.Unit.TheVariants.{Year, Month, Week, Day, Hour, Minute, Second}
 use Rattle.scan_core.specs.declared.share.Part.{Part}
 use Rattle.scan_core.specs.declared.share.Part.TheVariants.{Months, Days, Micros}
 use Rattle.pg_interval_2.specs.declared.interval.Interval.{Interval}
@@ -40,6 +40,7 @@ magnitude-zero Months Year = refl
 magnitude-zero Months Month = refl
 magnitude-zero Months _ = refl
 magnitude-zero Days Month = refl
+magnitude-zero Days Week = refl
 magnitude-zero Days Day = refl
 magnitude-zero Days _ = refl
 magnitude-zero Micros Day = refl

@@ -106,7 +106,7 @@ impl Tally {
     {
         match unit {
             Unit::Year | Unit::Month => self.months_fit = false,
-            Unit::Day => self.days_fit = false,
+            Unit::Week | Unit::Day => self.days_fit = false,
             Unit::Hour | Unit::Minute | Unit::Second => self.micros_fit = false,
         }
     }

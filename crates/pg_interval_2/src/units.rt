@@ -41,16 +41,17 @@ impl Units {
     }
 }
 
-/// The place of a unit among the six.
+/// The place of a unit among the seven.
 fn place_of(unit: Unit) -> u8
     ensures { result ≡ place_of unit }
 {
     match unit {
         Unit::Year => 0,
         Unit::Month => 1,
-        Unit::Day => 2,
-        Unit::Hour => 3,
-        Unit::Minute => 4,
-        Unit::Second => 5,
+        Unit::Week => 2,
+        Unit::Day => 3,
+        Unit::Hour => 4,
+        Unit::Minute => 5,
+        Unit::Second => 6,
     }
 }
