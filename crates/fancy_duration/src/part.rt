@@ -1,5 +1,5 @@
 //! The ten parts of a written length.
-ghost use Rattle.std.specs.Prelude.{◌≡◌, ◌≢◌, Option, IfSome, IfNone};
+ghost use Rattle.std.specs.Prelude.{◌≡◌, ◌≢◌, IfSome, IfNone};
 ghost use Rattle.fancy_duration.specs.Parts.{unit_of, weight_of};
 
 /// One of the ten parts of a written duration, from the greatest to the least.

@@ -1,5 +1,5 @@
 -- The interval forms: what counts are worth, what interval is held of a value, and that it is read back. What is said is said of any style.
-use Rattle.std.proofs.Common.{◌≡◌, ℕ, ◌/◌, ◌%◌, ◌==◌, ◌&&◌, Bool, true, false, IsTrue, List, Option, Some, None, Result, Ok, Err, IfErr, FitsSigned, w32, w64, refl, sym, ◌∙◌, ap, subst, inl, inr, arith}
+use Rattle.std.proofs.Common.{◌≡◌, ℕ, ◌/◌, ◌%◌, ◌==◌, ◌&&◌, Bool, true, false, IsTrue, List, Option, Some, None, Ok, Err, FitsSigned, w32, w64, refl, sym, ◌∙◌, ap, subst, inl, inr, arith}
 use Rattle.std.specs.Prelude.{ℤ, pos}
 use Rattle.std.proofs.lemmas.Bool.Decides.{nat_tests}
 use Rattle.std.proofs.lemmas.Int.{ints}
@@ -73,10 +73,6 @@ error_says s IsBadPlace message text (BadUnit start end) h = record { range = λ
 error_says s IsBadPlace message text (InvalidYearMonth m) h = record { range = λ r. (Months, h.0); no_range = λ n. absurd (n tt) }
 error_says s IsBadPlace message text (InvalidDay m) h = record { range = λ r. (Days, h.0); no_range = λ n. absurd (n tt) }
 error_says s IsBadPlace message text (InvalidTime m) h = record { range = λ r. (Micros, h.0); no_range = λ n. absurd (n tt) }
-
-means_refusal : (s : Style) (IsBadPlace : List ℕ → ℕ → ℕ → Type 0) (message text : List ℕ) (read : Result Interval ParseError) → IfErr read (Refuses (Shape s) IsBadPlace message text) → IfErr read (IsRefusedBy s text)
-means_refusal s IsBadPlace message text (Ok t) h = tt
-means_refusal s IsBadPlace message text (Err e) h = error_says s IsBadPlace message text e h
 
 -- ---- the interval of a value
 

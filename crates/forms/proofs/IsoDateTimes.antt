@@ -22,7 +22,7 @@ use Rattle.iso8601.specs.declared.types.Date.TheVariants.{YMD}
 use Rattle.iso8601.specs.declared.types.DateTime.{DateTime}
 use Rattle.iso8601.specs.declared.types.FixedMoment.{FixedMoment}
 use Rattle.forms.specs.declared.cause.Cause.{Cause}
-use Rattle.forms.specs.declared.cause.Cause.TheVariants.{NoSuchMoment, Range, Kind, Precision}
+use Rattle.forms.specs.declared.cause.Cause.TheVariants.{Range, Kind, Precision}
 use Rattle.forms.specs.declared.form.Form.TheVariants.{IsoDateTime}
 use Rattle.forms.specs.declared.value.Value.{Value}
 use Rattle.forms.specs.declared.value.Value.TheVariants.{Instant, Day, Local, Clock, Triple, Length}
@@ -51,9 +51,6 @@ moment_value t m h =
 
 pub is_worth : (t : DateTime) (m : FixedMoment) → IsMoment t → IsMomentOf t m → Worth t (Ok (Instant (civil_nanos m.local -ℤ m.offset_seconds *ℤ pos 1_000_000_000)))
 is_worth t m real of = inl (record { day = real.0; clock = real.2; offset = real.3 }, real.1, ap (λ (z : ℤ). Ok (Instant z)) (moment_value t m of))
-
-pub is_unreal : (t : DateTime) → (IsReal t → ⊥) → Worth t (Err NoSuchMoment)
-is_unreal t isnt = inr (inl (isnt, refl))
 
 pub is_out : (t : DateTime) → IsReal t → (IsMoment t → ⊥) → Worth t (Err Range)
 is_out t real isnt = inr (inr (real, (λ day. isnt (real.day, day, real.clock, real.offset)), refl))

@@ -1,6 +1,6 @@
 -- Durations of ISO 8601 as a form: the triple of a duration, the duration of a value, and that it is read back.
 use Rattle.std.proofs.Common.{◌≡◌, ℕ, ◌+◌, ◌*◌, ◌/◌, ◌%◌, ◌^◌, ◌<◌, ◌≤◌, ◌==◌, ◌&&◌, Bool, true, false, List, Ok, Err, refl, sym, ◌∙◌, ap, subst, inl, inr, arith}
-use Rattle.std.specs.Prelude.{ℤ, pos, negsuc, ◌+ℤ◌, ◌*ℤ◌, ◌<ℤ◌, nat_lt}
+use Rattle.std.specs.Prelude.{pos, negsuc, ◌+ℤ◌, ◌*ℤ◌, nat_lt}
 use Rattle.std.proofs.lemmas.Bool.Decides.{nat_tests}
 use Rattle.std.proofs.lemmas.Int.{ints}
 use Rattle.iso8601.specs.Durations.{IsCount, IsBody, IsDuration}
@@ -14,7 +14,7 @@ use Rattle.forms.specs.declared.value.Value.{Value}
 use Rattle.forms.specs.declared.value.Value.TheVariants.{Triple, Length}
 use Rattle.forms.specs.Answers.{Is}
 use Rattle.forms.specs.Values.{IsWithinBounds, Same}
-use Rattle.forms.specs.form.IsoDuration.{Spells, micros_of, triple_of, worth, duration_of, counts_of, held_triple, held_length, held}
+use Rattle.forms.specs.form.IsoDuration.{Spells, micros_of, triple_of, worth, duration_of, counts_of, held_length, held}
 use Rattle.forms.specs.inside.Lawful.{Lawful}
 use Rattle.forms.proofs.Fitting.{below, tested, not_tested, both, not_true}
 use Rattle.forms.proofs.Lawful.{then_ok, same_ok, one_image, IsHeldBack, lawful_by}
@@ -83,21 +83,6 @@ counts_beyond months days micros isnt =
     (λ h. let all = all_three (nat_lt (months / 12) (2 ^ 32)) (nat_lt days (2 ^ 32)) (nat_lt (micros / 3_600_000_000) (2 ^ 32)) h in
     isnt (below (months / 12) (2 ^ 32) all.0) (below days (2 ^ 32) all.1.0) (below (micros / 3_600_000_000) (2 ^ 32) all.1.1)) in
     rw test refl
-
-pub negative_months : (months days micros : ℤ) → months <ℤ pos 0 → held_triple months days micros ≡ Err Range
-negative_months (pos m) days micros h = absurd (omega (arith, ints))
-negative_months (negsuc m) days micros h = refl
-
-pub negative_days : (months days micros : ℤ) → days <ℤ pos 0 → held_triple months days micros ≡ Err Range
-negative_days (pos m) (pos d) micros h = absurd (omega (arith, ints))
-negative_days (pos m) (negsuc d) micros h = refl
-negative_days (negsuc m) days micros h = refl
-
-pub negative_micros : (months days micros : ℤ) → micros <ℤ pos 0 → held_triple months days micros ≡ Err Range
-negative_micros (pos m) (pos d) (pos u) h = absurd (omega (arith, ints))
-negative_micros (pos m) (pos d) (negsuc u) h = refl
-negative_micros (pos m) (negsuc d) micros h = refl
-negative_micros (negsuc m) days micros h = refl
 
 pub length_fits : (nanos : ℕ) → nanos / 86_400_000_000_000 < 2 ^ 32 → nanos % 1_000_000 ≡ 0 → held_length nanos ≡ Ok (duration_of 0 (nanos / 86_400_000_000_000) (nanos % 86_400_000_000_000 / 1_000_000))
 unfolding held_length

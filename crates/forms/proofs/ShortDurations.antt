@@ -1,5 +1,5 @@
 -- Short durations as a form: what a length is worth, which lengths are held, and that they are read back.
-use Rattle.std.proofs.Common.{◌≡◌, ℕ, ◌*◌, ◌^◌, ◌<◌, ◌≤◌, ◌==◌, ◌&&◌, Bool, true, false, List, Result, Ok, Err, refl, sym, ◌∙◌, ap, subst, inl, inr, arith}
+use Rattle.std.proofs.Common.{◌≡◌, ℕ, ◌*◌, ◌^◌, ◌<◌, ◌≤◌, ◌==◌, ◌&&◌, Bool, true, false, List, Result, Ok, Err, refl, sym, ◌∙◌, ap, subst, inl, arith}
 use Rattle.std.specs.Prelude.{ℤ, pos, negsuc, ◌<ℤ◌, nat_lt, IsErrOf, ◌↔◌}
 use Rattle.std.specs.Ordering.{int_eq}
 use Rattle.std.proofs.lemmas.Bool.Decides.{nat_tests}
@@ -14,7 +14,7 @@ use Rattle.fancy_duration.specs.Written.{written}
 use Rattle.fancy_duration.specs.declared.error.FancyError.{FancyError}
 use Rattle.fancy_duration.specs.declared.error.FancyError.TheVariants.{TooBig, NotHeld}
 use Rattle.fancy_duration.specs.declared.part.DurationPart.TheVariants.{Months, Weeks, Days, Hours, Minutes}
-use Rattle.forms.specs.declared.cause.Cause.TheVariants.{Syntax, Range, Kind, Ambiguous}
+use Rattle.forms.specs.declared.cause.Cause.TheVariants.{Range, Kind, Ambiguous}
 use Rattle.forms.specs.declared.form.Form.TheVariants.{Fancy}
 use Rattle.forms.specs.declared.value.Value.{Value}
 use Rattle.forms.specs.declared.value.Value.TheVariants.{Triple, Length}
@@ -47,9 +47,6 @@ reads_too_big text strict h =
     let beyond = h.beyond in
     let fits : 2 ^ 64 * 1_000_000_000 ≤ h.nanos = omega arith in
     inl (h.nanos, (strict, h.sums), sym (worth_beyond h.nanos fits))
-
-pub reads_no_strict : (text : List ℕ) → (IsStrict text → ⊥) → ReadsBy Spells (Is worth) text (Err Syntax)
-reads_no_strict text isnt = inr (λ nanos spelled. isnt spelled.0, refl)
 
 -- ---- the length of a value
 

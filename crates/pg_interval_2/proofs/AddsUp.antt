@@ -9,15 +9,12 @@ use Rattle.scan_core.specs.Digits.{number_of}
 use Rattle.scan_core.specs.Shares.{share, signed, magnitude, scale_of, rounded, fits_type}
 use Rattle.scan_core.specs.Sums.{total, part_fits}
 use Rattle.scan_core.specs.declared.share.Part.{Part}
+use Rattle.scan_core.proofs.SumFacts.{total-append}
 
 -- this part of each count fits, and their sum is this number
 pub record AddsUp (part : Part) (counts : List Count) (sum : ℤ) : Type 0 where
   pub each : IsTrue (list_all (λ c. fits_type part (share part c)) counts)
   pub total_is : total part counts ≡ sum
-
-total-append : (part : Part) (xs ys : List Count) → total part (xs ++ ys) ≡ total part xs +ℤ total part ys
-total-append part [] ys = omega (arith, ints)
-total-append part (x ∷ xs) ys = omega (arith, ints, total-append part xs ys)
 
 pub AddsUp-append : (part : Part) (xs ys : List Count) (y z : ℤ) → AddsUp part xs y → AddsUp part ys z → AddsUp part (xs ++ ys) (y +ℤ z)
 AddsUp-append part xs ys y z h k = record {

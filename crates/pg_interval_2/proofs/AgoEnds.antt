@@ -4,6 +4,7 @@ use Rattle.std.proofs.lemmas.Bool.Decides.{nat_tests}
 use Rattle.std.proofs.lemmas.Str.Parse.{digit_from_value}
 use Rattle.std.specs.Char.{digit_value}
 use Rattle.std.specs.List.{list_all}
+use Rattle.std.proofs.lemmas.Bool.{not-true, and_parts}
 use Rattle.scan_core.specs.Blanks.{is_blank, words}
 use Rattle.scan_core.specs.Count.{Count}
 use Rattle.scan_core.specs.Digits.{AreDigits}
@@ -15,7 +16,7 @@ use Rattle.pg_interval_2.specs.Clock.{IsClock}
 use Rattle.pg_interval_2.specs.Postgres.{IsItem}
 use Rattle.pg_interval_2.specs.UnitNames.{verbose_names, unit_named}
 use Rattle.pg_interval_2.specs.Verbose.{IsFramed, IsBody, EndsInAgo}
-use Rattle.pg_interval_2.proofs.ItemFacts.{AreBlanks, both}
+use Rattle.pg_interval_2.proofs.ItemFacts.{AreBlanks}
 use Rattle.pg_interval_2.proofs.UnitNameFacts.{named_passes}
 
 -- ---- the last byte that isn't blank
@@ -35,7 +36,7 @@ ends-append t (x ∷ xs) ys = ends-append (after_byte t x) xs ys
 ends-blanks : (t : Bool) (blanks : List ℕ) → AreBlanks blanks → ends_in_o t blanks ≡ t
 ends-blanks t [] h = refl
 ends-blanks t (b ∷ bs) h =
-    let split = both (is_blank b) (list_all is_blank bs) h in
+    let split = and_parts (is_blank b) (list_all is_blank bs) h in
     let first = split.0 in
     rw first (ends-blanks t bs split.1)
 
@@ -117,13 +118,9 @@ all_clear Hour = refl
 all_clear Minute = refl
 all_clear Second = refl
 
-not_true : (x : Bool) → not x ≡ true → x ≡ false
-not_true true h = cc
-not_true false h = refl
-
 name_end : (name : List ℕ) (unit : TimeUnit) → unit_named verbose_names name ≡ Some unit → Ends name
-name_end name unit h true = not_true _ (both (not (ends_in_o true name)) (not (ends_in_o false name)) (named_passes verbose_names is_clear all_clear name unit h)).0
-name_end name unit h false = not_true _ (both (not (ends_in_o true name)) (not (ends_in_o false name)) (named_passes verbose_names is_clear all_clear name unit h)).1
+name_end name unit h true = not-true _ (and_parts (not (ends_in_o true name)) (not (ends_in_o false name)) (named_passes verbose_names is_clear all_clear name unit h)).0
+name_end name unit h false = not-true _ (and_parts (not (ends_in_o true name)) (not (ends_in_o false name)) (named_passes verbose_names is_clear all_clear name unit h)).1
 
 item_end : (item : List (List ℕ)) (counts : List Count) → IsItem verbose_names item counts → (t : Bool) → words_end t item ≡ false
 item_end item counts (inl (c, named, one)) t =

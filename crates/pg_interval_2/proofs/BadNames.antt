@@ -1,6 +1,7 @@
 -- Where words spell no counts: letters that are no fresh name, and what begins no item.
 use Rattle.std.proofs.Common.{◌≡◌, ℕ, ◌+◌, ◌-◌, ◌<◌, Bool, true, false, cond, List, [], ◌∷◌, ◌++◌, length, Option, Some, None, refl, sym, ◌∙◌, ap, subst, append_assoc, append-nil, length-append, arith}
 use Rattle.std.specs.List.{list_all}
+use Rattle.std.proofs.lemmas.Bool.{and_parts}
 use Rattle.scan_core.specs.Blanks.{is_blank, words, EndsInBlank}
 use Rattle.scan_core.specs.Count.{Count}
 use Rattle.scan_core.specs.declared.share.Unit.{Unit as TimeUnit}
@@ -9,7 +10,7 @@ use Rattle.pg_interval_2.specs.Postgres.{AreItems, IsFreshName, IsBadName, all_c
 use Rattle.pg_interval_2.specs.inside.Reading.{Numeral}
 use Rattle.pg_interval_2.specs.inside.ItemReading.{Verdict, Spelled, BadLetters, judge_unit, verdict}
 use Rattle.pg_interval_2.specs.UnitNames.{unit_named}
-use Rattle.pg_interval_2.proofs.ItemFacts.{AreLetters, AreBlanks, both, letter_no_blank, first_letter}
+use Rattle.pg_interval_2.proofs.ItemFacts.{AreLetters, AreBlanks, letter_no_blank, first_letter}
 use Rattle.pg_interval_2.proofs.ItemsRead.{StandsNamed}
 use Rattle.pg_interval_2.proofs.ItemWords.{number_no_blanks, number_some, letters_no_blanks, no_blanks-append, words_in_front, words-blanks}
 use Rattle.pg_interval_2.proofs.Verdicts.{Names, AreNames, glued_kind, number_kind, verdict-word, is_name_of, advance}
@@ -32,7 +33,7 @@ named_split names counts total bytes n letters rest h [] none =
 named_split names counts total bytes n letters rest h (b ∷ bs) some =
     let blank : AreBlanks (b ∷ bs) = subst AreBlanks some h.blank in
     let split : bytes ≡ h.number ++ ((b ∷ bs) ++ (letters ++ rest)) = h.split ∙ ap (λ (l : List ℕ). h.number ++ (l ++ (letters ++ rest))) some in
-    let first = words_in_front h.number ((b ∷ bs) ++ (letters ++ rest)) (number_some n.negative n.whole n.fraction h.number h.digits) (number_no_blanks n.negative n.whole n.fraction h.number h.digits) (both (is_blank b) (list_all is_blank bs) blank).0 in
+    let first = words_in_front h.number ((b ∷ bs) ++ (letters ++ rest)) (number_some n.negative n.whole n.fraction h.number h.digits) (number_no_blanks n.negative n.whole n.fraction h.number h.digits) (and_parts (is_blank b) (list_all is_blank bs) blank).0 in
     let second = words-blanks (b ∷ bs) (letters ++ rest) blank ∙ words_in_front letters rest h.some (letters_no_blanks letters h.ascii) h.ends in
     let front : words bytes ≡ h.number ∷ letters ∷ words rest = ap words split ∙ first ∙ ap (λ (l : List (List ℕ)). h.number ∷ l) second in
     let kind = number_kind n.negative n.whole n.fraction h.number h.digits in
@@ -107,7 +108,7 @@ ink_solid (b ∷ bs) h = let first = h.0 in let below = ink_solid bs h.1 in rw f
 
 pub ink_blanks : (blanks : List ℕ) → AreBlanks blanks → ink blanks ≡ 0
 ink_blanks [] h = refl
-ink_blanks (b ∷ bs) h = let split = both (is_blank b) (list_all is_blank bs) h in let first = split.0 in let below = ink_blanks bs split.1 in rw first (omega (arith, below))
+ink_blanks (b ∷ bs) h = let split = and_parts (is_blank b) (list_all is_blank bs) h in let first = split.0 in let below = ink_blanks bs split.1 in rw first (omega (arith, below))
 
 -- what stands before a bad name
 abbrev pub before_name : (names : Names) (text : List ℕ) (start end : ℕ) → IsBadName names text start end → List ℕ

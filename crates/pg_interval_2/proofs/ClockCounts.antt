@@ -15,12 +15,13 @@ use Rattle.scan_core.specs.declared.share.Unit.TheVariants.{Hour, Minute, Second
 use Rattle.scan_core.specs.declared.share.Part.{Part}
 use Rattle.scan_core.specs.declared.share.Part.TheVariants.{Months, Days, Micros}
 use Rattle.scan_core.proofs.RoundingFacts.{rounded-nil, power-pos}
+use Rattle.scan_core.proofs.PaddedFacts.{number_of-padded, length-padded}
 use Rattle.pg_interval_2.specs.Clock.{is_nonzero}
 use Rattle.pg_interval_2.specs.declared.interval.Interval.{Interval}
 use Rattle.pg_interval_2.specs.Ranges.{IsInRange}
 use Rattle.pg_interval_2.specs.Parts.{hours_of, minutes_of, seconds_of, subsecond_of}
 use Rattle.pg_interval_2.proofs.Widths.{length_decimal_micros}
-use Rattle.pg_interval_2.proofs.WrittenDigits.{number_of-padded, length-padded, rounded-padded}
+use Rattle.pg_interval_2.proofs.WrittenDigits.{rounded-padded}
 use Rattle.pg_interval_2.proofs.Signs.{Serves, signed-zero, signed-abs, fits_type-serves, fits_type-signed_zero, abs_fits, signed_three}
 use Rattle.pg_interval_2.proofs.AddsUp.{AddsUp, AddsUp-one, AddsUp-append, AddsUp-same}
 use Rattle.pg_interval_2.proofs.SumsTo.{SumsTo, time_of, fits_micros}

@@ -7,7 +7,7 @@ use Rattle.scan_core.specs.declared.share.Unit.{Unit as TimeUnit}
 use Rattle.scan_core.specs.declared.share.Unit.TheVariants.{Year, Month, Week, Day, Hour, Minute, Second}
 use Rattle.pg_interval_2.specs.declared.counted.Counted.{Counted}
 use Rattle.pg_interval_2.specs.Clock.{is_nonzero}
-use Rattle.pg_interval_2.specs.inside.CountedItems.{IsCounted, CountsOne, CountsPerhaps, CountsAll}
+use Rattle.pg_interval_2.specs.inside.CountedItems.{IsCounted, CountsPerhaps, CountsAll}
 use Rattle.pg_interval_2.specs.inside.ItemReading.{ClockFields, ClockItem, NamedItem, read_item}
 use Rattle.scan_core.specs.Runs.{digits_of}
 use Rattle.scan_core.specs.declared.runs.Run.{Run}
@@ -89,10 +89,6 @@ again counts c more h = again_if (has_distinct_units (counts ++ (c ∷ more))) (
 -- a count that isn't 0, or none
 abbrev pub nonzero : Count → List Count
 nonzero c = filter is_nonzero (c ∷ [])
-
-pub perhaps_one : (counts : List Count) (c : Count) (new : Counted) (result : Bool) → is_nonzero c ≡ true → CountsOne counts c new result → CountsPerhaps counts c new result
-perhaps_one counts c new true some h = let counted = h.1 in rw some counted
-perhaps_one counts c new false some h = (some, h)
 
 pub perhaps_none : (counts : List Count) (c : Count) (old : Counted) → is_nonzero c ≡ false → IsCounted old counts → IsCounted old (counts ++ nonzero c)
 perhaps_none counts c old none h = rw none (subst (IsCounted old) (sym (append-nil counts)) h)

@@ -2,11 +2,12 @@
 use Rattle.std.proofs.Common.{◌≡◌, ℕ, Bool, true, false, List, [], ◌∷◌, ◌++◌, codes, refl, sym, ◌∙◌, ap, append_assoc, append-nil, arith}
 use Rattle.std.proofs.lemmas.List.{append_cancel_left}
 use Rattle.std.specs.List.{list_all}
+use Rattle.std.proofs.lemmas.Bool.{and_parts}
 use Rattle.scan_core.specs.Blanks.{is_blank, words}
 use Rattle.scan_core.proofs.WordFacts.{ink, ink-append, same_place, words-behind}
 use Rattle.pg_interval_2.specs.Verbose.{ago_or_none, IsFramed, EndsInAgo}
 use Rattle.pg_interval_2.proofs.BadNames.{ink_blanks}
-use Rattle.pg_interval_2.proofs.ItemFacts.{AreBlanks, both}
+use Rattle.pg_interval_2.proofs.ItemFacts.{AreBlanks}
 use Rattle.pg_interval_2.proofs.ItemWords.{words-blanks}
 
 -- the body with the blanks behind it, where no `ago` stands between
@@ -63,7 +64,7 @@ only_blanks blanks h = ap words (sym (append-nil blanks)) ∙ words-blanks blank
 pub words_before : (body after : List ℕ) → AreBlanks after → words (body ++ after) ≡ words body
 words_before body [] h = ap words (append-nil body)
 words_before body (b ∷ bs) h =
-    let split = both (is_blank b) (list_all is_blank bs) h in
+    let split = and_parts (is_blank b) (list_all is_blank bs) h in
     words-behind body b bs split.0 ∙ ap (λ (l : List (List ℕ)). words body ++ l) (only_blanks bs split.1) ∙ append-nil (words body)
 
 pub whole_words : (ago : Bool) (body after : List ℕ) → AreBlanks after → words (whole_body ago body after) ≡ words body

@@ -14,7 +14,7 @@ use Rattle.pg_interval_2.specs.Iso.{IsPair, ArePairs, IsIso, date_unit, time_uni
 use Rattle.pg_interval_2.specs.IsoText.{iso_part, nonzero_digits, iso_decimal, iso_seconds, iso_date, iso_time, iso_text}
 use Rattle.pg_interval_2.specs.Parts.{minus, years_of, months_of, hours_of, minutes_of, seconds_of, subsecond_of}
 use Rattle.scan_core.proofs.Joins.{IsJoin-append, IsJoin-one}
-use Rattle.pg_interval_2.proofs.WrittenDigits.{AreDigits-padded, length-padded}
+use Rattle.scan_core.proofs.PaddedFacts.{digits-padded, length-padded}
 use Rattle.pg_interval_2.proofs.WrittenNumbers.{cond_two, IsNumber-whole, IsNumber-point}
 use Rattle.pg_interval_2.proofs.Signs.{abs_zero}
 use Rattle.pg_interval_2.proofs.WrittenCounts.{part_counts, seconds_counts, zero_count, date_counts, time_counts}
@@ -44,7 +44,7 @@ unfolding iso_decimal
 point_pair negative seconds micros small below = record {
   number = minus negative ++ (nonzero_digits seconds ++ (codes "." ++ padded 6 micros));
   letter = 83;
-  digits = IsNumber-point false negative _ (padded 6 micros) (whole_digits seconds small) (AreDigits-padded 6 micros (omega arith)) (omega (arith, length-padded 6 micros));
+  digits = IsNumber-point false negative _ (padded 6 micros) (whole_digits seconds small) (digits-padded 6 micros (omega arith)) (omega (arith, length-padded 6 micros));
   unit = refl;
   joined = simp append_assoc;
 }

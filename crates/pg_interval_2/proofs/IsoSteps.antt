@@ -1,5 +1,5 @@
 -- One more pair, read and counted.
-use Rattle.std.proofs.Common.{◌≡◌, ℕ, ◌<◌, Bool, true, false, List, [], ◌∷◌, ◌++◌, length, Option, Some, None, IfSome, IfNone, refl, sym, ◌∙◌, ap, subst, append_assoc, append-nil, length-append, arith, inl, inr, codes, ◌≢◌, ◌==◌}
+use Rattle.std.proofs.Common.{◌≡◌, ℕ, Bool, true, false, List, [], ◌∷◌, ◌++◌, Option, Some, None, IfSome, IfNone, refl, sym, ◌∙◌, ap, subst, append_assoc, append-nil, arith, inl, inr, codes, ◌≢◌, ◌==◌}
 use Rattle.std.proofs.lemmas.Bool.Decides.{nat_tests}
 use Rattle.scan_core.specs.Count.{Count}
 use Rattle.scan_core.specs.Digits.{AreDigits}
@@ -17,20 +17,6 @@ use Rattle.pg_interval_2.proofs.IsoCounts.{is_pair, finds_pair, nothing_read, ti
 fraction_digits : (fraction tail : List ℕ) → IsFraction fraction tail → AreDigits fraction
 fraction_digits fraction tail (inl none) = rw none.0 tt
 fraction_digits fraction tail (inr some) = some.0
-
--- a pair's digits
-pub pair_digits : (in_time : Bool) (bytes rest : List ℕ) (c : Count) → read_pair (unit_in in_time) bytes ≡ Some (c, rest) → AreDigits c.whole × AreDigits c.fraction
-pair_digits in_time bytes rest c h =
-    let pair = is_pair in_time bytes c rest h in
-    (pair.1.digits.digits, fraction_digits c.fraction pair.1.digits.tail pair.1.digits.point)
-
--- what follows a pair is shorter
-pub pair_shorter : (in_time : Bool) (bytes rest : List ℕ) (c : Count) → read_pair (unit_in in_time) bytes ≡ Some (c, rest) → length rest < length bytes
-pair_shorter in_time bytes rest c h =
-    let pair = is_pair in_time bytes c rest h in
-    let whole = ap (λ (l : List ℕ). length l) pair.2 ∙ length-append pair.0 rest in
-    let piece = ap (λ (l : List ℕ). length l) pair.1.joined ∙ length-append pair.1.number (pair.1.letter ∷ []) in
-    omega (arith, whole, piece)
 
 pub no_pairs : (in_time : Bool) (bytes : List ℕ) (tally : Tally) → TakesPairs in_time bytes bytes tally tally
 no_pairs in_time bytes tally = record {
@@ -55,15 +41,6 @@ one_more_pair in_time bytes rest after old mid new c taken read adds =
     }
 
 -- ---- whole texts
-
--- what a test of emptiness tells
-pub is_nothing : (l : List ℕ) → true ≡ (length l == 0) → l ≡ []
-is_nothing [] h = refl
-is_nothing (b ∷ bs) h = grind (arith, nat_tests)
-
-pub is_something : (l : List ℕ) → false ≡ (length l == 0) → l ≢ []
-is_something [] h e = cc
-is_something (b ∷ bs) h e = cc
 
 pub alone_tallied : (text date : List ℕ) (old new : Tally) → text ≡ codes "P" ++ date → date ≢ [] → TakesPairs false date [] old new → Tallies old [] → IsTallied text new
 alone_tallied text date old new spelled some taken none =

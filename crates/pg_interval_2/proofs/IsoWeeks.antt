@@ -4,6 +4,7 @@ use Rattle.std.specs.Char.{is_ascii_digit}
 use Rattle.std.specs.List.{list_all}
 use Rattle.std.proofs.lemmas.Bool.Decides.{nat_tests}
 use Rattle.std.proofs.lemmas.List.Folds.{list_any-append}
+use Rattle.std.proofs.lemmas.Bool.{and_parts}
 use Rattle.scan_core.specs.Count.{Count}
 use Rattle.scan_core.specs.Digits.{AreDigits}
 use Rattle.scan_core.specs.Number.{IsFraction, IsNumber, IsSign}
@@ -12,7 +13,6 @@ use Rattle.scan_core.specs.declared.share.Unit.{Unit as TimeUnit}
 use Rattle.pg_interval_2.specs.Denotes.{HasNoShape}
 use Rattle.pg_interval_2.specs.Iso.{ArePairs, IsDateAlone, IsDateAndTime, IsIso, IsPair, unit_in}
 use Rattle.pg_interval_2.specs.IsoWithoutWeeks.{IsIsoWithoutWeeks, has_week, unit_without_weeks}
-use Rattle.pg_interval_2.proofs.ItemFacts.{both}
 use Rattle.pg_interval_2.proofs.Verdicts.{neither}
 
 -- ---- a text without the letter
@@ -24,7 +24,7 @@ week_append xs ys = list_any-append (λ byte. byte == 87) xs ys
 apart : (whole xs ys : List ℕ) → has_week whole ≡ false → whole ≡ xs ++ ys → (has_week xs ≡ false) × (has_week ys ≡ false)
 apart whole xs ys none split = neither (has_week xs) (has_week ys) (sym (ap has_week split ∙ week_append xs ys) ∙ none)
 
--- without the letter, both tables mean the same
+-- without the letter, and_parts tables mean the same
 same_unit : (in_time : Bool) (letter : ℕ) → (letter == 87) ≡ false → unit_in in_time letter ≡ unit_without_weeks in_time letter
 same_unit false letter other = rw other refl
 same_unit true letter other = rw other refl
@@ -86,7 +86,7 @@ no_digit b digit = grind (arith, nat_tests)
 no_digits : (bytes : List ℕ) → list_all is_ascii_digit bytes ≡ true → has_week bytes ≡ false
 no_digits [] all = refl
 no_digits (b ∷ bs) all =
-    let split = both (is_ascii_digit b) (list_all is_ascii_digit bs) all in
+    let split = and_parts (is_ascii_digit b) (list_all is_ascii_digit bs) all in
     let first = no_digit b split.0 in
     rw first (no_digits bs split.1)
 

@@ -1,5 +1,5 @@
 -- How reading the items of a text ends: at its end, at a bad name, or at what is no item.
-use Rattle.std.proofs.Common.{◌≡◌, ◌≢◌, ℕ, ◌+◌, ◌-◌, ◌<◌, ◌≤◌, Bool, false, List, [], ◌∷◌, ◌++◌, length, refl, sym, ◌∙◌, ap, subst, append-nil, length-append, arith, inl, inr}
+use Rattle.std.proofs.Common.{◌≡◌, ◌≢◌, ℕ, ◌+◌, ◌-◌, ◌<◌, ◌≤◌, Bool, false, List, [], ◌∷◌, ◌++◌, length, refl, sym, ◌∙◌, ap, subst, length-append, arith, inl, inr}
 use Rattle.scan_core.specs.Blanks.{is_blank, words}
 use Rattle.scan_core.specs.Count.{Count}
 use Rattle.scan_core.specs.declared.share.Unit.TheVariants.{Year}
@@ -7,20 +7,14 @@ use Rattle.scan_core.proofs.WordFacts.{total_length}
 use Rattle.pg_interval_2.specs.declared.counted.Counted.{Counted}
 use Rattle.pg_interval_2.specs.inside.ItemReading.{NamedItem, read_item, verdict, Spelled, BadLetters, Unspelled}
 use Rattle.pg_interval_2.specs.inside.CountedItems.{IsNoItem}
-use Rattle.pg_interval_2.specs.Postgres.{AreItems, IsBadName, IsFreshName}
-use Rattle.pg_interval_2.specs.inside.ItemsTally.{HasNoBadName, HasNoItems, IsItemsTally}
+use Rattle.pg_interval_2.specs.Postgres.{IsBadName, IsFreshName}
+use Rattle.pg_interval_2.specs.inside.ItemsTally.{HasNoBadName, HasNoItems}
 use Rattle.pg_interval_2.specs.inside.Reading.{Numeral, count_with}
 use Rattle.pg_interval_2.proofs.BadNames.{behind_items, items_verdict, bad_verdict}
 use Rattle.pg_interval_2.proofs.ItemsRead.{StandsNamed, Stands, item_stands}
 use Rattle.pg_interval_2.proofs.NoItems.{no_item_verdict, clock_again_verdict}
 use Rattle.pg_interval_2.proofs.Verdicts.{AreNames, Names}
 use Rattle.pg_interval_2.proofs.ItemSteps.{ItemsTaken, closed_now}
-
--- the end of the text
-pub all_taken : (names : Names) (turned : Bool) (text rest : List ℕ) (state : Counted) → ItemsTaken names turned text rest state → rest ≡ [] → IsItemsTally names turned text state.tally
-all_taken names turned text rest state taken none =
-    let whole : text ≡ taken.consumed = taken.split ∙ ap (λ (l : List ℕ). taken.consumed ++ l) none ∙ append-nil taken.consumed in
-    (taken.counts, subst (λ (l : List ℕ). AreItems names (words l) taken.counts) (sym whole) taken.items, taken.counted.tallied)
 
 -- ---- no item
 

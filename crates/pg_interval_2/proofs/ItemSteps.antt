@@ -1,11 +1,12 @@
 -- Item after item of a text, with any names of units.
 use Rattle.std.proofs.Common.{◌≡◌, ◌≢◌, ℕ, ◌<◌, ◌≤◌, ◌⊎◌, Bool, true, false, IsTrue, List, [], ◌∷◌, ◌++◌, length, Some, refl, sym, ◌∙◌, ap, subst, append_assoc, append-nil, length-append, arith, inl, inr}
 use Rattle.std.specs.List.{list_all}
+use Rattle.std.proofs.lemmas.Bool.{and_parts}
 use Rattle.scan_core.specs.Blanks.{is_blank, words, EndsWord, EndsInBlank}
 use Rattle.scan_core.specs.Count.{Count}
 use Rattle.scan_core.specs.declared.share.Unit.{Unit as TimeUnit}
 use Rattle.scan_core.proofs.Joins.{join_push}
-use Rattle.scan_core.proofs.WordFacts.{words-closed, words-behind}
+use Rattle.scan_core.proofs.WordFacts.{words-closed}
 use Rattle.pg_interval_2.specs.declared.counted.Counted.{Counted}
 use Rattle.pg_interval_2.specs.inside.CountedItems.{IsCounted, TakesItem}
 use Rattle.pg_interval_2.specs.inside.ItemReading.{ClockFields, clock_of, after_blanks}
@@ -14,12 +15,13 @@ use Rattle.pg_interval_2.specs.inside.Reading.{Numeral, count_with}
 use Rattle.pg_interval_2.specs.Turned.{turned_counts}
 use Rattle.pg_interval_2.specs.UnitNames.{unit_named}
 use Rattle.pg_interval_2.proofs.CountedFacts.{clock_long, named_long}
-use Rattle.pg_interval_2.proofs.ItemFacts.{AreBlanks, both, are_skipped}
+use Rattle.pg_interval_2.proofs.ItemFacts.{AreBlanks, are_skipped}
 use Rattle.pg_interval_2.proofs.ItemsRead.{StandsNamed, StandsClock, Stands, item_stands}
 use Rattle.pg_interval_2.proofs.ItemWords.{number_no_blanks, clock_no_blanks, number_some, clock_some, letters_no_blanks, no_blanks-append, words_in_front, words-blanks}
 use Rattle.pg_interval_2.proofs.NoItems.{after_solid}
 use Rattle.pg_interval_2.proofs.Turning.{distinct-turned}
 use Rattle.pg_interval_2.proofs.Verdicts.{Names}
+use Rattle.pg_interval_2.proofs.Frames.{words_before}
 
 -- ---- an item and the words that it is
 
@@ -47,7 +49,7 @@ named_item names n letters bytes rest h unit found [] none =
     inl (count_with n unit, record { number = h.number; name = letters; digits = h.digits; unit = found; spelled = inr spelled }, refl)
 named_item names n letters bytes rest h unit found (b ∷ bs) some =
     let blank : AreBlanks (b ∷ bs) = subst AreBlanks some h.blank in
-    let first = words_in_front h.number ((b ∷ bs) ++ letters) (number_some n.negative n.whole n.fraction h.number h.digits) (number_no_blanks n.negative n.whole n.fraction h.number h.digits) (both (is_blank b) (list_all is_blank bs) blank).0 in
+    let first = words_in_front h.number ((b ∷ bs) ++ letters) (number_some n.negative n.whole n.fraction h.number h.digits) (number_no_blanks n.negative n.whole n.fraction h.number h.digits) (and_parts (is_blank b) (list_all is_blank bs) blank).0 in
     let second = words-blanks (b ∷ bs) letters blank ∙ ap words (sym (append-nil letters)) ∙ words_in_front letters [] h.some (letters_no_blanks letters h.ascii) tt in
     let spelled : words (h.number ++ (h.blanks ++ letters)) ≡ h.number ∷ letters ∷ [] =
     ap (λ (l : List ℕ). words (h.number ++ (l ++ letters))) some ∙ first ∙ ap (λ (l : List (List ℕ)). h.number ∷ l) second in
@@ -65,9 +67,9 @@ named_front names bytes n letters rest unit h found = record {
 -- ---- blanks behind an item
 
 last_blank : (b : ℕ) (bs : List ℕ) → AreBlanks (b ∷ bs) → (front : List ℕ) × (last : ℕ) × IsTrue (is_blank last) × (b ∷ bs ≡ front ++ last ∷ [])
-last_blank b [] all = ([], b, (both (is_blank b) true all).0, refl)
+last_blank b [] all = ([], b, (and_parts (is_blank b) true all).0, refl)
 last_blank b (c ∷ cs) all =
-    let below = last_blank c cs (both (is_blank b) (list_all is_blank (c ∷ cs)) all).1 in (b ∷ below.0, below.1, below.2, ap (λ (l : List ℕ). b ∷ l) below.3)
+    let below = last_blank c cs (and_parts (is_blank b) (list_all is_blank (c ∷ cs)) all).1 in (b ∷ below.0, below.1, below.2, ap (λ (l : List ℕ). b ∷ l) below.3)
 
 -- blanks end what stands before them
 blanks_end : (front : List ℕ) (b : ℕ) (bs : List ℕ) → AreBlanks (b ∷ bs) → EndsInBlank (front ++ (b ∷ bs))
@@ -82,12 +84,6 @@ closed_after : (front after blanks : List ℕ) → EndsWord after → AreBlanks 
 closed_after front after (b ∷ bs) ends all split = inr (blanks_end front b bs all)
 closed_after front [] [] ends all split = inl refl
 closed_after front (c ∷ cs) [] ends all split = let solid = after_solid (c ∷ cs) c cs (sym split) in let clash : true ≡ false = sym ends ∙ solid in cc
-
-words-trailing : (front blanks : List ℕ) → AreBlanks blanks → words (front ++ blanks) ≡ words front
-words-trailing front [] all = ap words (append-nil front)
-words-trailing front (b ∷ bs) all =
-    let split = both (is_blank b) (list_all is_blank bs) all in
-    words-behind front b bs split.0 ∙ ap (λ (l : List (List ℕ)). words front ++ l) (ap words (sym (append-nil bs)) ∙ words-blanks bs [] split.1) ∙ append-nil (words front)
 
 -- ---- items so far
 
@@ -132,7 +128,7 @@ front_taken names turned text rest after cs old new taken some item counted =
     let skip = are_skipped after in
     let closed = closed_now names turned text rest old taken some in
     let seen : words (taken.consumed ++ (item.front ++ skip.0)) ≡ words taken.consumed ++ words item.front =
-    words-closed taken.consumed (item.front ++ skip.0) closed ∙ ap (λ (l : List (List ℕ)). words taken.consumed ++ l) (words-trailing item.front skip.0 skip.1) in
+    words-closed taken.consumed (item.front ++ skip.0) closed ∙ ap (λ (l : List (List ℕ)). words taken.consumed ++ l) (words_before item.front skip.0 skip.1) in
     let pushed = items_push names (words taken.consumed) (words item.front) taken.counts cs taken.items item.item (sym (distinct-turned turned (taken.counts ++ cs)) ∙ counted.distinct) in
     record {
       consumed = taken.consumed ++ (item.front ++ skip.0);

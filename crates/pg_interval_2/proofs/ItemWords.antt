@@ -4,6 +4,7 @@ use Rattle.std.specs.Char.{is_ascii_alphabetic, digit_value}
 use Rattle.std.specs.List.{list_all}
 use Rattle.std.proofs.lemmas.Bool.Decides.{nat_tests}
 use Rattle.std.proofs.lemmas.Str.Parse.{digit_from_value}
+use Rattle.std.proofs.lemmas.Bool.{and_parts}
 use Rattle.scan_core.specs.Blanks.{is_blank, words, EndsWord}
 use Rattle.scan_core.specs.Count.{Count}
 use Rattle.scan_core.specs.Digits.{AreDigits}
@@ -11,7 +12,7 @@ use Rattle.scan_core.specs.Number.{IsSign, IsFraction, IsNumber}
 use Rattle.scan_core.proofs.WordFacts.{NoBlanks, words-blank, words-first}
 use Rattle.pg_interval_2.specs.Clock.{IsClock}
 use Rattle.pg_interval_2.specs.inside.ItemReading.{after_blanks}
-use Rattle.pg_interval_2.proofs.ItemFacts.{AreLetters, AreBlanks, both, letter_no_blank, are_skipped}
+use Rattle.pg_interval_2.proofs.ItemFacts.{AreLetters, AreBlanks, letter_no_blank, are_skipped}
 
 -- ---- bytes that aren't blank
 
@@ -28,7 +29,7 @@ digits_no_blanks (c ∷ cs) h = (digit_no_blank c h.0, digits_no_blanks cs h.1)
 
 pub letters_no_blanks : (letters : List ℕ) → AreLetters letters → NoBlanks letters
 letters_no_blanks [] h = tt
-letters_no_blanks (c ∷ cs) h = let split = both (is_ascii_alphabetic c) (list_all is_ascii_alphabetic cs) h in (letter_no_blank c split.0, letters_no_blanks cs split.1)
+letters_no_blanks (c ∷ cs) h = let split = and_parts (is_ascii_alphabetic c) (list_all is_ascii_alphabetic cs) h in (letter_no_blank c split.0, letters_no_blanks cs split.1)
 
 sign_no_blanks : (negative : Bool) (sign : List ℕ) → IsSign true negative sign → NoBlanks sign
 sign_no_blanks true sign h = rw h (refl, tt)
@@ -82,7 +83,7 @@ words_in_front (b ∷ word) rest some h e = words-first b word rest h e
 
 pub words-blanks : (blanks rest : List ℕ) → AreBlanks blanks → words (blanks ++ rest) ≡ words rest
 words-blanks [] rest h = refl
-words-blanks (b ∷ bs) rest h = let split = both (is_blank b) (list_all is_blank bs) h in words-blank b (bs ++ rest) split.0 ∙ words-blanks bs rest split.1
+words-blanks (b ∷ bs) rest h = let split = and_parts (is_blank b) (list_all is_blank bs) h in words-blank b (bs ++ rest) split.0 ∙ words-blanks bs rest split.1
 
 pub words-after_blanks : (rest : List ℕ) → words (after_blanks rest) ≡ words rest
 words-after_blanks rest = let skip = are_skipped rest in sym (ap words skip.2 ∙ words-blanks skip.0 (after_blanks rest) skip.1)

@@ -1,6 +1,5 @@
 -- An item that stands in front is read.
-use Rattle.std.proofs.Common.{◌≡◌, ℕ, ◌+◌, ◌<◌, Bool, true, nat_lt, List, [], ◌∷◌, ◌++◌, length, Some, None, refl, sym, ◌∙◌, ap, append_assoc, append-nil, arith, inl, inr, codes}
-use Rattle.std.proofs.lemmas.Bool.Decides.{nat_tests}
+use Rattle.std.proofs.Common.{◌≡◌, ℕ, ◌+◌, ◌<◌, Bool, true, List, [], ◌∷◌, ◌++◌, length, Some, None, refl, sym, ◌∙◌, ap, append_assoc, append-nil, arith, inl, inr, codes, lt-ltb}
 use Rattle.scan_core.specs.Blanks.{EndsWord}
 use Rattle.scan_core.specs.Count.{Count}
 use Rattle.scan_core.specs.Number.{IsFraction, IsNumber}
@@ -38,9 +37,6 @@ tail_no_colon : (fraction tail rest : List ℕ) → IsFraction fraction tail →
 tail_no_colon fraction tail rest (inl none) colon = rw none.1 colon
 tail_no_colon fraction tail rest (inr point) colon = rw point.1 refl
 
-pub positive : (n : ℕ) → 0 < n → nat_lt 0 n ≡ true
-positive n h = grind (arith, nat_tests)
-
 -- a number in front of anything that closes it
 pub number_read : (negative : Bool) (whole fraction number rest : List ℕ) → IsNumber true negative whole fraction number → ClosesNumber rest
     → read_item (number ++ rest) ≡ named_item (record { negative = negative; whole = whole; fraction = fraction }) (after_blanks rest)
@@ -55,7 +51,7 @@ number_read negative whole fraction number rest h closes =
     let after = after_of whole (h.tail ++ rest) h.digits no_digit in
     let colon = tail_no_colon fraction h.tail rest h.point closes.colon in
     let behind = fraction_of fraction h.tail rest h.point closes.digit closes.point in
-    let some = positive (length whole + length fraction) h.some in
+    let some = lt-ltb 0 (length whole + length fraction) h.some in
     rw (sign, front, after, colon, behind, some) refl
 
 -- a number alone is no item
@@ -71,13 +67,13 @@ named_read negative whole fraction number blanks letters rest h blank some l end
     let skip = skipped blanks (letters ++ rest) blank ∙ no_skip letters rest some l in
     let front = front_letters_of letters rest l ends in
     let after = after_letters_of letters rest l ends in
-    let counted = positive (length letters) some in
+    let counted = lt-ltb 0 (length letters) some in
     let ended = ends_test rest ends in
     read ∙ rw (skip, front, after, counted, ended) refl
 
 -- ---- a clock
 
-field_no_sign : (field rest : List ℕ) → IsField field → NoSignFirst (field ++ rest)
+pub field_no_sign : (field rest : List ℕ) → IsField field → NoSignFirst (field ++ rest)
 field_no_sign field rest h = digits_no_sign field [] [] rest h.1 (inl (refl, refl)) (let some = h.0 in omega arith)
 
 -- the seconds behind the second colon
@@ -90,9 +86,9 @@ seconds_read negative hours minutes seconds fraction tail rest h m s point ends 
     let front = front_of seconds (tail ++ rest) s.1 no_digit in
     let after = after_of seconds (tail ++ rest) s.1 no_digit in
     let behind = fraction_of fraction tail rest point closes.digit closes.point in
-    let hour = positive (length hours) h.0 in
-    let minute = positive (length minutes) m.0 in
-    let second = positive (length seconds) s.0 in
+    let hour = lt-ltb 0 (length hours) h.0 in
+    let minute = lt-ltb 0 (length minutes) m.0 in
+    let second = lt-ltb 0 (length seconds) s.0 in
     let ended = ends_test rest ends in
     rw (front, after, behind, hour, minute, second, ended) refl
 

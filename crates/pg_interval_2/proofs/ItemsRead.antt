@@ -1,6 +1,6 @@
 -- What is read as an item stands in front.
-use Rattle.std.proofs.Common.{◌≡◌, ℕ, ◌+◌, ◌<◌, ◌&&◌, ◌==◌, Bool, true, false, cond, nat_lt, List, [], ◌∷◌, ◌++◌, length, Option, Some, None, refl, sym, ◌∙◌, ap, append_assoc, arith, inl, inr, codes}
-use Rattle.std.proofs.lemmas.Bool.Decides.{nat_tests}
+use Rattle.std.proofs.Common.{◌≡◌, ℕ, ◌+◌, ◌<◌, ◌&&◌, ◌==◌, Bool, true, false, cond, nat_lt, List, [], ◌∷◌, ◌++◌, length, Option, Some, None, refl, sym, ◌∙◌, ap, append_assoc, inl, inr, codes, eqb-true}
+use Rattle.std.proofs.lemmas.Bool.{and_parts}
 use Rattle.scan_core.specs.Blanks.{EndsWord}
 use Rattle.scan_core.specs.Digits.{AreDigits}
 use Rattle.scan_core.specs.Number.{IsSign, IsFraction, IsNumber}
@@ -10,7 +10,7 @@ use Rattle.scan_core.proofs.FrontFacts.{front_are_digits, front_and_after}
 use Rattle.pg_interval_2.specs.inside.Reading.{Numeral, read_sign, read_fraction}
 use Rattle.pg_interval_2.specs.inside.ItemReading.{after_blanks, front_letters, after_letters, ends_word, ClockFields, NextItem, ClockItem, NamedItem, NoItem, read_byte, read_seconds, read_clock, named_item, read_named, read_behind_digits, read_item}
 use Rattle.pg_interval_2.proofs.Numbers.{is_fraction, is_sign, above_zero}
-use Rattle.pg_interval_2.proofs.ItemFacts.{AreLetters, AreBlanks, both, front_are_letters, letters_and_after, are_skipped, ends_from}
+use Rattle.pg_interval_2.proofs.ItemFacts.{AreLetters, AreBlanks, front_are_letters, letters_and_after, are_skipped, ends_from}
 
 -- a number stands in front, and letters behind blanks or none
 pub record StandsNamed (bytes : List ℕ) (n : Numeral) (letters rest : List ℕ) : Type 0 where
@@ -51,7 +51,7 @@ letters_stand : (bytes number rest : List ℕ) (n : Numeral) → IsNumber true n
 letters_stand bytes number rest n digits split =
     let name = after_blanks rest in
     chosen (nat_lt 0 (length (front_letters name)) && ends_word (after_letters name)) bytes (NamedItem n (front_letters name) (after_letters name)) (λ test.
-    let tests = both (nat_lt 0 (length (front_letters name))) (ends_word (after_letters name)) test in
+    let tests = and_parts (nat_lt 0 (length (front_letters name))) (ends_word (after_letters name)) test in
     let skip = are_skipped rest in
     record {
       number = number;
@@ -78,16 +78,13 @@ named_stands negative sign whole rest bytes signed digits split =
 
 -- ---- a clock
 
-is_byte : (b byte : ℕ) → (b == byte) ≡ true → b ≡ byte
-is_byte b byte h = grind (arith, nat_tests)
-
 byte_if : (t : Bool) (b byte : ℕ) (bs rest : List ℕ) → (t ≡ true → b ≡ byte) → cond t (Some bs) None ≡ Some rest → b ∷ bs ≡ byte ∷ rest
 byte_if true b byte bs rest is h = let first = is refl in let tails : bs ≡ rest = cc in cc
 byte_if false b byte bs rest is h = cc
 
 byte_in_front : (byte : ℕ) (bytes rest : List ℕ) → read_byte byte bytes ≡ Some rest → bytes ≡ byte ∷ rest
 byte_in_front byte [] rest h = cc
-byte_in_front byte (b ∷ bs) rest h = byte_if (b == byte) b byte bs rest (is_byte b byte) h
+byte_in_front byte (b ∷ bs) rest h = byte_if (b == byte) b byte bs rest (eqb-true b byte) h
 
 pub fraction_digits : (fraction tail : List ℕ) → IsFraction fraction tail → AreDigits fraction
 fraction_digits fraction tail (inl none) = rw none.0 tt
@@ -103,9 +100,9 @@ seconds_stand negative sign hours minutes after bytes (Some last) colon signed h
     let fraction = read_fraction behind in
     let fields : ClockFields = record { negative = negative; hours = hours; minutes = minutes; seconds = seconds; fraction = fraction.0 } in
     chosen (nat_lt 0 (length hours) && (nat_lt 0 (length minutes) && (nat_lt 0 (length seconds) && ends_word fraction.1))) bytes (ClockItem fields fraction.1) (λ test.
-    let first = both (nat_lt 0 (length hours)) (nat_lt 0 (length minutes) && (nat_lt 0 (length seconds) && ends_word fraction.1)) test in
-    let second = both (nat_lt 0 (length minutes)) (nat_lt 0 (length seconds) && ends_word fraction.1) first.1 in
-    let third = both (nat_lt 0 (length seconds)) (ends_word fraction.1) second.1 in
+    let first = and_parts (nat_lt 0 (length hours)) (nat_lt 0 (length minutes) && (nat_lt 0 (length seconds) && ends_word fraction.1)) test in
+    let second = and_parts (nat_lt 0 (length minutes)) (nat_lt 0 (length seconds) && ends_word fraction.1) first.1 in
+    let third = and_parts (nat_lt 0 (length seconds)) (ends_word fraction.1) second.1 in
     let point = is_fraction behind in
     let tail = seconds ++ point.0 in
     let word = sign ++ (hours ++ (codes ":" ++ (minutes ++ (codes ":" ++ tail)))) in

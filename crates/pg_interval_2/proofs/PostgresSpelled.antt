@@ -19,11 +19,11 @@ use Rattle.pg_interval_2.specs.PostgresText.{counted_name, number_words, part_wo
 use Rattle.pg_interval_2.specs.UnitNames.{postgres_names, unit_named}
 use Rattle.pg_interval_2.proofs.ClockCounts.{micros_digits, three_counts}
 use Rattle.scan_core.proofs.Joins.{IsJoin-append, IsJoin-one}
+use Rattle.scan_core.proofs.PaddedFacts.{digits-padded, length-padded}
 use Rattle.pg_interval_2.proofs.PostgresWords.{AreWords-postgres_words}
 use Rattle.pg_interval_2.proofs.Spaces.{words-join}
-use Rattle.pg_interval_2.proofs.UnitOrder.{RisesFrom, rises_front, rises_filter, distinct_units}
+use Rattle.pg_interval_2.proofs.UnitOrder.{RisesFrom, rises_lower, rises_front, rises_filter, distinct_units}
 use Rattle.pg_interval_2.proofs.WrittenCounts.{part_counts, date_counts}
-use Rattle.pg_interval_2.proofs.WrittenDigits.{AreDigits-padded, length-padded}
 use Rattle.pg_interval_2.proofs.WrittenNumbers.{cond_two, IsSign-minus, IsNumber-whole}
 
 -- ---- a number and its name
@@ -83,11 +83,11 @@ day_names = (refl, refl)
 -- ---- a clock
 
 pub padded_field : (width n : ℕ) → n < 2 ^ 64 → IsField (padded width n)
-padded_field width n small = (omega (arith, length-padded width n, decimal_nonempty n small), AreDigits-padded width n small)
+padded_field width n small = (omega (arith, length-padded width n, decimal_nonempty n small), digits-padded width n small)
 
 pub fraction_is : (micros : ℕ) → micros < 2 ^ 64 → IsFraction (micros_digits micros) (fraction_text micros)
 unfolding fraction_text
-fraction_is micros small = cond_two (micros == 0) IsFraction _ _ _ _ (λ _. inl (refl, refl)) (λ _. inr (AreDigits-padded 6 micros small, refl))
+fraction_is micros small = cond_two (micros == 0) IsFraction _ _ _ _ (λ _. inl (refl, refl)) (λ _. inr (digits-padded 6 micros small, refl))
 
 clock_is : (micros : ℤ) → unsigned_abs micros ≤ 2 ^ 63 → IsClock (minus (is_negative micros) ++ clock_text 2 micros) (filter is_nonzero (three_counts (is_negative micros) 2 micros))
 unfolding clock_text hours_text field_text

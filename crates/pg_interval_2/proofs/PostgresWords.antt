@@ -1,32 +1,17 @@
 -- The words of a text written in `postgres` style are words: none is empty, and none has a blank.
-use Rattle.std.proofs.Common.{◌≡◌, ℕ, ◌<◌, ◌^◌, Bool, true, false, List, [], ◌∷◌, ◌++◌, length, length-append, codes, decimal, ◌==◌, not, ◌&&◌, ℤ, pos, int_eq, unsigned_abs, ◌≤◌, refl, arith}
+use Rattle.std.proofs.Common.{ℕ, ◌<◌, ◌^◌, Bool, true, false, List, [], ◌∷◌, ◌++◌, length, length-append, codes, decimal, ◌==◌, not, ◌&&◌, ℤ, pos, int_eq, unsigned_abs, ◌≤◌, refl, arith}
 use Rattle.std.proofs.lemmas.Bool.{cond_both}
-use Rattle.std.proofs.lemmas.Bool.Decides.{nat_tests}
 use Rattle.std.proofs.lemmas.Fmt.{decimal_nonempty}
-use Rattle.std.proofs.lemmas.Str.Parse.{digit_from_value}
-use Rattle.std.specs.Char.{digit_value}
 use Rattle.std.specs.Int.{is_negative}
-use Rattle.scan_core.specs.Blanks.{is_blank}
-use Rattle.scan_core.specs.Digits.{AreDigits}
 use Rattle.scan_core.specs.Padded.{padded}
 use Rattle.scan_core.proofs.DigitFacts.{digits_decimal}
 use Rattle.scan_core.proofs.WordFacts.{NoBlanks}
+use Rattle.scan_core.proofs.PaddedFacts.{digits-padded, length-padded}
 use Rattle.pg_interval_2.specs.Parts.{minus, years_of, months_of, hours_of, minutes_of, seconds_of, subsecond_of}
 use Rattle.pg_interval_2.specs.PostgresText.{counted_name, number_words, part_words, clock_words, postgres_words}
 use Rattle.pg_interval_2.specs.ClockText.{hours_text, field_text, fraction_text, clock_text}
-use Rattle.pg_interval_2.proofs.WrittenDigits.{AreDigits-padded, length-padded}
 use Rattle.pg_interval_2.proofs.Spaces.{AreWords}
-
-pub no_blank-append : (xs ys : List ℕ) → NoBlanks xs → NoBlanks ys → NoBlanks (xs ++ ys)
-no_blank-append [] ys left right = right
-no_blank-append (x ∷ xs) ys left right = (left.0, no_blank-append xs ys left.1 right)
-
-digit_no_blank : (c : ℕ) → digit_value c < 10 → is_blank c ≡ false
-digit_no_blank c digit = let range = digit_from_value c digit in grind (arith, nat_tests)
-
-pub no_blank-digits : (digits : List ℕ) → AreDigits digits → NoBlanks digits
-no_blank-digits [] are = tt
-no_blank-digits (d ∷ ds) are = (digit_no_blank d are.0, no_blank-digits ds are.1)
+use Rattle.pg_interval_2.proofs.ItemWords.{no_blanks-append, digits_no_blanks}
 
 pub no_blank-minus : (negative : Bool) → NoBlanks (minus negative)
 no_blank-minus true = (refl, tt)
@@ -36,7 +21,7 @@ pub counted_name_is : (negative : Bool) (n : ℕ) (name : List ℕ) → 0 < leng
 unfolding counted_name
 counted_name_is negative n name some clear =
     cond_both (not negative && n == 1) _ _ (λ (word : List ℕ). (0 < length word) × NoBlanks word) (λ _. (some, clear))
-    (λ _. (omega (arith, length-append name (codes "s")), no_blank-append name (codes "s") clear (refl, tt)))
+    (λ _. (omega (arith, length-append name (codes "s")), no_blanks-append name (codes "s") clear (refl, tt)))
 
 -- the words of a number and a word behind it
 pub AreWords-number_words : (negative : Bool) (n : ℕ) (word : List ℕ) → n < 2 ^ 64 → (0 < length word) × NoBlanks word → AreWords (number_words negative n word)
@@ -45,7 +30,7 @@ AreWords-number_words negative n word small behind =
     cond_both (n == 0) _ _ AreWords (λ _. tt)
     (λ _. (
       omega (arith, length-append (minus negative) (decimal n), decimal_nonempty n small),
-      no_blank-append (minus negative) (decimal n) (no_blank-minus negative) (no_blank-digits (decimal n) (digits_decimal n small)),
+      no_blanks-append (minus negative) (decimal n) (no_blank-minus negative) (digits_no_blanks (decimal n) (digits_decimal n small)),
       (behind.0, behind.1, tt),
     ))
 
@@ -64,23 +49,23 @@ day_words days small = AreWords-part_words (is_negative days) (unsigned_abs days
 -- ---- the word of a clock
 
 no_blank-padded : (width n : ℕ) → n < 2 ^ 64 → NoBlanks (padded width n)
-no_blank-padded width n small = no_blank-digits (padded width n) (AreDigits-padded width n small)
+no_blank-padded width n small = digits_no_blanks (padded width n) (digits-padded width n small)
 
 no_blank-field : (n : ℕ) → n < 2 ^ 64 → NoBlanks (field_text n)
 unfolding field_text
-no_blank-field n small = no_blank-append (codes ":") (padded 2 n) (refl, tt) (no_blank-padded 2 n small)
+no_blank-field n small = no_blanks-append (codes ":") (padded 2 n) (refl, tt) (no_blank-padded 2 n small)
 
 no_blank-fraction : (micros : ℕ) → micros < 2 ^ 64 → NoBlanks (fraction_text micros)
 unfolding fraction_text
 no_blank-fraction micros small =
-    cond_both (micros == 0) _ _ (λ text. NoBlanks text) (λ _. tt) (λ _. no_blank-append (codes ".") (padded 6 micros) (refl, tt) (no_blank-padded 6 micros small))
+    cond_both (micros == 0) _ _ (λ text. NoBlanks text) (λ _. tt) (λ _. no_blanks-append (codes ".") (padded 6 micros) (refl, tt) (no_blank-padded 6 micros small))
 
 no_blank-clock : (width : ℕ) (micros : ℤ) → unsigned_abs micros ≤ 2 ^ 63 → NoBlanks (clock_text width micros)
 unfolding clock_text hours_text
 no_blank-clock width micros small =
-    no_blank-append (padded width (hours_of micros)) _ (no_blank-padded width (hours_of micros) (omega arith))
-    (no_blank-append (field_text (minutes_of micros)) _ (no_blank-field (minutes_of micros) (omega arith))
-    (no_blank-append (field_text (seconds_of micros)) _ (no_blank-field (seconds_of micros) (omega arith)) (no_blank-fraction (subsecond_of micros) (omega arith))))
+    no_blanks-append (padded width (hours_of micros)) _ (no_blank-padded width (hours_of micros) (omega arith))
+    (no_blanks-append (field_text (minutes_of micros)) _ (no_blank-field (minutes_of micros) (omega arith))
+    (no_blanks-append (field_text (seconds_of micros)) _ (no_blank-field (seconds_of micros) (omega arith)) (no_blank-fraction (subsecond_of micros) (omega arith))))
 
 clock_some : (width : ℕ) (micros : ℤ) → unsigned_abs micros ≤ 2 ^ 63 → 0 < length (clock_text width micros)
 unfolding clock_text hours_text
@@ -93,7 +78,7 @@ time_words micros small =
     cond_both (int_eq micros (pos 0)) _ _ AreWords (λ _. tt)
     (λ _. (
       omega (arith, length-append (minus (is_negative micros)) (clock_text 2 micros), clock_some 2 micros small),
-      no_blank-append (minus (is_negative micros)) (clock_text 2 micros) (no_blank-minus (is_negative micros)) (no_blank-clock 2 micros small),
+      no_blanks-append (minus (is_negative micros)) (clock_text 2 micros) (no_blank-minus (is_negative micros)) (no_blank-clock 2 micros small),
       tt,
     ))
 

@@ -1,5 +1,5 @@
 -- What is read as a text in `sql_standard` style is one.
-use Rattle.std.proofs.Common.{◌≡◌, ℕ, ◌≤◌, ◌==◌, cond, Bool, true, false, nat_le, List, [], ◌∷◌, ◌++◌, Option, Some, None, option_map, refl, sym, ◌∙◌, ap, subst, append_assoc, append-nil, arith, inl, inr, codes}
+use Rattle.std.proofs.Common.{◌≡◌, ℕ, ◌≤◌, ◌==◌, cond, Bool, true, false, nat_le, List, [], ◌∷◌, ◌++◌, Option, Some, None, option_map, refl, sym, ◌∙◌, ap, subst, append_assoc, append-nil, arith, inl, inr, codes, eqb-true}
 use Rattle.std.proofs.lemmas.Bool.Decides.{nat_tests}
 use Rattle.std.proofs.lemmas.Option.{same_Some, cond_some, option_and_then_some}
 use Rattle.scan_core.specs.Blanks.{EndsWord}
@@ -15,9 +15,6 @@ use Rattle.pg_interval_2.proofs.SqlSpelled.{governed}
 
 -- ---- a sign and digits
 
-is_byte : (b byte : ℕ) → (b == byte) ≡ true → b ≡ byte
-is_byte b byte h = grind (arith, nat_tests)
-
 sign_if : (t u default : Bool) (b : ℕ) (bs : List ℕ) → (t ≡ true → b ≡ 45) → (u ≡ true → b ≡ 43)
     → (sign : List ℕ) × IsSignOr default (cond {A = Bool × List ℕ} t (true, bs) (cond u (false, bs) (default, b ∷ bs))).0 sign
     × (b ∷ bs ≡ sign ++ (cond {A = Bool × List ℕ} t (true, bs) (cond u (false, bs) (default, b ∷ bs))).1)
@@ -27,7 +24,7 @@ sign_if false false default b bs minus plus = ([], governed default, refl)
 
 sign_stands : (default : Bool) (bytes : List ℕ) → (sign : List ℕ) × IsSignOr default (read_sign_or default bytes).0 sign × (bytes ≡ sign ++ (read_sign_or default bytes).1)
 sign_stands default [] = ([], governed default, refl)
-sign_stands default (b ∷ bs) = sign_if (b == 45) (b == 43) default b bs (is_byte b 45) (is_byte b 43)
+sign_stands default (b ∷ bs) = sign_if (b == 45) (b == 43) default b bs (eqb-true b 45) (eqb-true b 43)
 
 field_stands : (bytes : List ℕ) (r : List ℕ × List ℕ) → read_field bytes ≡ Some r → IsField r.0 × (bytes ≡ r.0 ++ r.1)
 unfolding read_field
@@ -82,7 +79,7 @@ seconds_if false negative b bs r colon h = subst (SecondsStand negative (b ∷ b
 
 seconds_stand : (negative : Bool) (bytes : List ℕ) (r : Option (List ℕ × List ℕ) × List ℕ) → read_perhaps_seconds bytes ≡ Some r → SecondsStand negative bytes r
 seconds_stand negative [] r h = subst (SecondsStand negative []) (same_Some _ _ h) ([], inl (refl, refl), refl)
-seconds_stand negative (b ∷ bs) r h = seconds_if (b == 58) negative b bs r (is_byte b 58) h
+seconds_stand negative (b ∷ bs) r h = seconds_if (b == 58) negative b bs r (eqb-true b 58) h
 
 -- ---- a word
 
@@ -140,7 +137,7 @@ behind_if false false negative digits b bs r field minus colon h = days_stand ne
 
 behind_stands : (negative : Bool) (digits bytes : List ℕ) (r : SqlWord × List ℕ) → IsField digits → read_behind negative digits bytes ≡ Some r → BodyStands negative (digits ++ bytes) r
 behind_stands negative digits [] r field h = days_stand negative digits [] r field h
-behind_stands negative digits (b ∷ bs) r field h = behind_if (b == 45) (b == 58) negative digits b bs r field (is_byte b 45) (is_byte b 58) h
+behind_stands negative digits (b ∷ bs) r field h = behind_if (b == 45) (b == 58) negative digits b bs r field (eqb-true b 45) (eqb-true b 58) h
 
 -- a word stands in front, and blanks behind it
 pub record StandsWord (default : Bool) (bytes : List ℕ) (r : SqlWord × List ℕ) : Type 0 where

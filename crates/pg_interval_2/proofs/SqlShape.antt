@@ -2,6 +2,7 @@
 use Rattle.std.proofs.Common.{◌≡◌, ℕ, ◌<◌, ◌==◌, Bool, true, false, List, [], ◌∷◌, ◌++◌, length, length-append, Option, Some, None, option_and_then, refl, sym, ◌∙◌, ap, subst, append-nil, arith, inl, inr, codes}
 use Rattle.std.proofs.lemmas.Bool.Decides.{nat_tests}
 use Rattle.std.proofs.lemmas.Option.{same_Some, cond_some, option_and_then_some}
+use Rattle.std.proofs.lemmas.Bool.{and_parts}
 use Rattle.scan_core.specs.Blanks.{words}
 use Rattle.scan_core.specs.Count.{Count}
 use Rattle.scan_core.specs.Digits.{AreDigits, number_of}
@@ -10,7 +11,7 @@ use Rattle.pg_interval_2.specs.Denotes.{HasNoShape}
 use Rattle.pg_interval_2.specs.inside.ItemReading.{after_blanks}
 use Rattle.pg_interval_2.specs.Sql.{IsSignOr, IsYearMonth, IsDays, IsTime, AreSqlWords, IsSql}
 use Rattle.pg_interval_2.specs.inside.SqlReading.{SqlWord, YearMonth, Days, Time, word_counts, read_word, last_time, days_and_time, behind_date, behind_days, read_words, read_sql}
-use Rattle.pg_interval_2.proofs.ItemFacts.{both, are_skipped}
+use Rattle.pg_interval_2.proofs.ItemFacts.{are_skipped}
 use Rattle.pg_interval_2.proofs.ItemWords.{words-after_blanks, words_in_front, no_blanks-append, digits_no_blanks}
 use Rattle.pg_interval_2.proofs.SqlCounts.{sql_read}
 use Rattle.pg_interval_2.proofs.SqlFound.{negative_of, IsBody, StandsWord, word_stands}
@@ -149,7 +150,7 @@ zero_shape : (text : List ℕ) (negative : Bool) (days : List ℕ) (counts : Lis
 unfolding behind_days
 zero_shape text negative days counts h e =
     let found = cond_some _ _ _ e in
-    let tests = both (length text == 1) (number_of days == 0) found.0 in
+    let tests = and_parts (length text == 1) (number_of days == 0) found.0 in
     let skip = are_skipped text in
     let body = h.is.1 in
     let split : text ≡ skip.0 ++ ((h.sign ++ (days ++ [])) ++ h.after) =

@@ -8,6 +8,7 @@ use Rattle.scan_core.specs.Count.{Count, count_of}
 use Rattle.scan_core.specs.Padded.{padded}
 use Rattle.scan_core.specs.declared.share.Unit.TheVariants.{Year, Month, Day, Hour, Minute, Second}
 use Rattle.scan_core.proofs.DigitFacts.{digits_decimal}
+use Rattle.scan_core.proofs.PaddedFacts.{length-padded}
 use Rattle.pg_interval_2.specs.Clock.{IsField}
 use Rattle.pg_interval_2.specs.ClockText.{hours_text, field_text, fraction_text, clock_text}
 use Rattle.pg_interval_2.specs.Parts.{minus, years_of, months_of, hours_of, minutes_of, seconds_of, subsecond_of}
@@ -18,7 +19,6 @@ use Rattle.pg_interval_2.proofs.PostgresSpelled.{padded_field, fraction_is}
 use Rattle.pg_interval_2.proofs.Spaces.{AreWords, words-join}
 use Rattle.pg_interval_2.proofs.SqlSolid.{year_month_solid, days_solid, time_solid}
 use Rattle.pg_interval_2.proofs.Widths.{length_decimal_micros}
-use Rattle.pg_interval_2.proofs.WrittenDigits.{length-padded}
 use Rattle.pg_interval_2.proofs.WrittenNumbers.{cond_two}
 
 -- ---- signs

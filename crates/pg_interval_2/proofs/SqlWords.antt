@@ -1,5 +1,5 @@
 -- A word of a text in `sql_standard` style that stands in front is read.
-use Rattle.std.proofs.Common.{◌≤◌, ◌≡◌, ℕ, ◌==◌, Bool, true, false, nat_le, List, [], ◌∷◌, ◌++◌, length, Option, Some, None, option_and_then, refl, ◌∙◌, ap, append_assoc, arith, inl, inr, codes}
+use Rattle.std.proofs.Common.{◌≤◌, ◌≡◌, ℕ, ◌==◌, Bool, true, false, nat_le, List, [], ◌∷◌, ◌++◌, length, Option, Some, None, option_and_then, refl, ◌∙◌, ap, append_assoc, arith, inl, inr, codes, lt-ltb}
 use Rattle.std.proofs.lemmas.Bool.Decides.{nat_tests}
 use Rattle.scan_core.specs.Blanks.{is_blank, EndsWord}
 use Rattle.scan_core.specs.Count.{Count, count_of}
@@ -11,9 +11,9 @@ use Rattle.pg_interval_2.specs.Sql.{IsSignOr, IsYearMonth, IsDays, HasSeconds, I
 use Rattle.pg_interval_2.specs.inside.SqlReading.{SqlWord, YearMonth, Days, Time, seconds_counts, word_counts, read_sign_or, read_field, read_seconds, read_perhaps_seconds, read_time, read_months, read_behind, closed_word, read_word}
 use Rattle.scan_core.specs.Fronts.{NoDigitFirst}
 use Rattle.scan_core.proofs.FrontFacts.{front_of, after_of}
-use Rattle.pg_interval_2.proofs.Numbers.{NoSignFirst, fraction_of, digits_no_sign, tail_no_digit}
+use Rattle.pg_interval_2.proofs.Numbers.{NoSignFirst, fraction_of, tail_no_digit}
 use Rattle.pg_interval_2.proofs.ItemFacts.{blank_is_no, ends_test}
-use Rattle.pg_interval_2.proofs.ItemsInFront.{end_closes, positive}
+use Rattle.pg_interval_2.proofs.ItemsInFront.{end_closes, field_no_sign}
 
 -- ---- a sign and digits
 
@@ -27,15 +27,12 @@ sign_read default true sign rest (inr none) n = rw (none.0, none.1) (no_sign_or 
 sign_read default false sign rest (inl plus) n = rw plus refl
 sign_read default false sign rest (inr none) n = rw (none.0, none.1) (no_sign_or false rest n)
 
-field_no_sign : (field rest : List ℕ) → IsField field → NoSignFirst (field ++ rest)
-field_no_sign field rest h = digits_no_sign field [] [] rest h.1 (inl (refl, refl)) (let some = h.0 in omega arith)
-
 pub field_read : (field rest : List ℕ) → IsField field → NoDigitFirst rest → read_field (field ++ rest) ≡ Some (field, rest)
 unfolding read_field
 field_read field rest h n =
     let front = front_of field rest h.1 n in
     let after = after_of field rest h.1 n in
-    let some = positive (length field) h.0 in
+    let some = lt-ltb 0 (length field) h.0 in
     rw (front, after, some) refl
 
 -- the first digits of a word are read, and what they are is told by what follows them

@@ -1,11 +1,12 @@
 -- The end of a text, looked at from its last byte on: blanks, and `ago` or none.
-use Rattle.std.proofs.Common.{◌≡◌, ℕ, ◌-◌, Bool, true, false, not, List, [], ◌∷◌, ◌++◌, length, take, codes, refl, sym, ◌∙◌, ap, append_assoc, append-nil, take_all, arith}
+use Rattle.std.proofs.Common.{◌≡◌, ℕ, ◌-◌, Bool, true, false, not, List, [], ◌∷◌, ◌++◌, length, take, codes, refl, sym, ◌∙◌, ap, append_assoc, take_all, arith}
 use Rattle.std.proofs.lemmas.List.{append_cancel_right}
 use Rattle.std.specs.List.{list_all}
+use Rattle.std.proofs.lemmas.Bool.{and_parts}
 use Rattle.scan_core.specs.Blanks.{is_blank}
 use Rattle.pg_interval_2.specs.Verbose.{EndsInAgo}
 use Rattle.pg_interval_2.specs.inside.VerboseReading.{solid_behind, ends_solid, AreBlanksBetween, IsEnding}
-use Rattle.pg_interval_2.proofs.ItemFacts.{AreBlanks, both}
+use Rattle.pg_interval_2.proofs.ItemFacts.{AreBlanks}
 
 -- ---- no blank at the end
 
@@ -16,7 +17,7 @@ solid-append t (x ∷ xs) ys = solid-append (not (is_blank x)) xs ys
 blanks_left : (xs ys : List ℕ) → AreBlanks (xs ++ ys) → AreBlanks xs
 blanks_left [] ys h = refl
 blanks_left (x ∷ xs) ys h =
-    let split = both (is_blank x) (list_all is_blank (xs ++ ys)) h in
+    let split = and_parts (is_blank x) (list_all is_blank (xs ++ ys)) h in
     let first = split.0 in
     let below = blanks_left xs ys split.1 in
     rw (first, below) refl
@@ -24,13 +25,13 @@ blanks_left (x ∷ xs) ys h =
 pub blanks_no_solid : (blanks : List ℕ) → AreBlanks blanks → solid_behind false blanks ≡ false
 blanks_no_solid [] h = refl
 blanks_no_solid (b ∷ bs) h =
-    let split = both (is_blank b) (list_all is_blank bs) h in
+    let split = and_parts (is_blank b) (list_all is_blank bs) h in
     let first = split.0 in
     rw first (blanks_no_solid bs split.1)
 
 some_blanks : (t : Bool) (b : ℕ) (bs more : List ℕ) → AreBlanks ((b ∷ bs) ++ more) → solid_behind t (b ∷ bs) ≡ true → ⊥
 some_blanks t b bs more h solid =
-    let all = both (is_blank b) (list_all is_blank bs) (blanks_left (b ∷ bs) more h) in
+    let all = and_parts (is_blank b) (list_all is_blank bs) (blanks_left (b ∷ bs) more h) in
     let first = all.0 in
     let none : solid_behind t (b ∷ bs) ≡ false = rw first (blanks_no_solid bs all.1) in
     let clash : true ≡ false = sym solid ∙ none in cc
@@ -47,19 +48,6 @@ same_solid t u (x ∷ xs) (y ∷ ys) r s h k hx hy e =
 
 -- ---- the places before the end
 
--- nothing stands between a place and itself
-pub no_blanks_between : (text : List ℕ) (end : ℕ) → AreBlanksBetween text end end
-no_blanks_between text end = record { blanks = []; blank = refl; split = sym (append-nil (take end text)) }
-
--- one more blank
-pub one_blank_more : (text : List ℕ) (last end b : ℕ) → is_blank b ≡ true → take last text ≡ take (last - 1) text ++ b ∷ [] → AreBlanksBetween text last end → AreBlanksBetween text (last - 1) end
-one_blank_more text last end b blank before h =
-    let all = h.blank in record {
-      blanks = b ∷ h.blanks;
-      blank = rw (blank, all) refl;
-      split = h.split ∙ ap (λ (l : List ℕ). l ++ h.blanks) before ∙ append_assoc (take (last - 1) text) (b ∷ []) h.blanks;
-    }
-
 pub solid_byte : (text : List ℕ) (last b : ℕ) → is_blank b ≡ false → take last text ≡ take (last - 1) text ++ b ∷ [] → ends_solid (take last text) ≡ true
 solid_byte text last b solid before = ap ends_solid before ∙ solid-append true (take (last - 1) text) (b ∷ []) ∙ rw solid refl
 
@@ -68,14 +56,6 @@ solid_byte text last b solid before = ap ends_solid before ∙ solid-append true
 -- no text ends in these bytes
 abbrev pub Lacks : List ℕ → List ℕ → Type 0
 Lacks bytes end = (front : List ℕ) → bytes ≡ front ++ end → ⊥
-
-pub no_o : (bytes : List ℕ) → Lacks bytes (111 ∷ []) → Lacks bytes (codes "ago")
-no_o bytes lacks front e = lacks (front ++ (97 ∷ 103 ∷ [])) (e ∙ sym (append_assoc front (97 ∷ 103 ∷ []) (111 ∷ [])))
-
-pub no_g : (bytes before : List ℕ) → bytes ≡ before ++ 111 ∷ [] → Lacks before (103 ∷ []) → Lacks bytes (codes "ago")
-no_g bytes before o lacks front e =
-    let less = append_cancel_right before (front ++ (97 ∷ 103 ∷ [])) (111 ∷ []) (sym o ∙ e ∙ sym (append_assoc front (97 ∷ 103 ∷ []) (111 ∷ []))) in
-    lacks (front ++ (97 ∷ [])) (less ∙ sym (append_assoc front (97 ∷ []) (103 ∷ [])))
 
 pub no_a : (bytes before first : List ℕ) → bytes ≡ before ++ 111 ∷ [] → before ≡ first ++ 103 ∷ [] → Lacks first (97 ∷ []) → Lacks bytes (codes "ago")
 no_a bytes before first o g lacks front e =
@@ -108,15 +88,4 @@ ends_without text last h solid lacks = record {
   blank_after = h.blank;
   split = sym (take_all (length text) text (omega arith)) ∙ h.split;
   whole = λ none. none_at_end text last h solid lacks;
-}
-
-pub ends_with : (text : List ℕ) (last before end : ℕ) → AreBlanksBetween text last (length text) → take last text ≡ take before text ++ codes "ago" → AreBlanksBetween text end before → IsEnding text end true
-ends_with text last before end h ago gap = record {
-  gap = gap.blanks;
-  after = h.blanks;
-  blank_gap = gap.blank;
-  blank_after = h.blank;
-  split = sym (take_all (length text) text (omega arith)) ∙ h.split ∙ ap (λ (l : List ℕ). l ++ h.blanks) (ago ∙ ap (λ (l : List ℕ). l ++ codes "ago") gap.split)
-      ∙ append_assoc (take end text ++ gap.blanks) (codes "ago") h.blanks ∙ append_assoc (take end text) gap.blanks (codes "ago" ++ h.blanks);
-  whole = λ none. cc;
 }

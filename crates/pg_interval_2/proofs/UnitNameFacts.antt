@@ -4,6 +4,7 @@ use Rattle.std.specs.Char.{is_ascii_alphabetic}
 use Rattle.std.specs.List.{list_all}
 use Rattle.std.specs.Prelude.{bytes_eq}
 use Rattle.std.proofs.lemmas.Slice.Eq.{bytes_eq-Decides}
+use Rattle.std.proofs.lemmas.Bool.{and_parts}
 use Rattle.scan_core.specs.declared.share.Unit.{Unit as TimeUnit}
 use Rattle.scan_core.specs.declared.share.Unit.TheVariants.{Year, Month, Week, Day, Hour, Minute, Second}
 use Rattle.pg_interval_2.specs.inside.ItemReading.{is_name}
@@ -11,7 +12,6 @@ use Rattle.pg_interval_2.specs.inside.NameSets.{names_in}
 use Rattle.pg_interval_2.specs.UnitNames.{is_one_of, unit_named}
 use Rattle.pg_interval_2.specs.declared.unit_names.NameSet.{NameSet}
 use Rattle.pg_interval_2.specs.declared.unit_names.NameSet.TheVariants.{Postgres, Verbose}
-use Rattle.pg_interval_2.proofs.ItemFacts.{both}
 use Rattle.pg_interval_2.proofs.Numbers.{above_zero}
 use Rattle.pg_interval_2.proofs.Verdicts.{AreNames, Names}
 
@@ -22,7 +22,7 @@ either_case false y h f g = g h
 one_of_names : (test : List ℕ → Bool) (names : List (List ℕ)) (word : List ℕ) → IsTrue (list_all test names) → is_one_of names word ≡ true → test word ≡ true
 one_of_names test [] word all h = cc
 one_of_names test (name ∷ names) word all h =
-    let split = both (test name) (list_all test names) all in
+    let split = and_parts (test name) (list_all test names) all in
     either_case (bytes_eq word name) (is_one_of names word) h
     (λ same. let equal : word ≡ name = (bytes_eq-Decides word name).0 same in ap test equal ∙ split.0)
     (λ below. one_of_names test names word split.1 below)
@@ -62,4 +62,4 @@ set_letters Verbose Second = refl
 -- the names of a set are letters
 pub set_names : (set : NameSet) → AreNames (names_in set)
 set_names set word unit h =
-    let split = both (nat_lt 0 (length word)) (list_all is_ascii_alphabetic word) (named_passes (names_in set) is_name (set_letters set) word unit h) in (above_zero _ split.0, split.1)
+    let split = and_parts (nat_lt 0 (length word)) (list_all is_ascii_alphabetic word) (named_passes (names_in set) is_name (set_letters set) word unit h) in (above_zero _ split.0, split.1)

@@ -1,7 +1,7 @@
 -- Letters packed into one number: names of few letters are told by it.
-use Rattle.std.proofs.Common.{◌≡◌, ℕ, ◌+◌, ◌*◌, ◌^◌, ◌<◌, ◌≤◌, inl, inr, Bool, true, false, ◌&&◌, ◌||◌, ◌==◌, List, [], ◌∷◌, length, refl, sym, ◌∙◌, ap, ap₂, arith}
+use Rattle.std.proofs.Common.{◌≡◌, ℕ, ◌+◌, ◌*◌, ◌^◌, ◌<◌, ◌≤◌, inl, inr, Bool, true, false, ◌&&◌, ◌||◌, ◌==◌, List, [], ◌∷◌, length, refl, sym, ◌∙◌, ap, ap₂, arith, eqb-true}
 use Rattle.std.proofs.Math.Nat.{mul-le-mul_right, pow-le-pow_right, pow-suc}
-use Rattle.std.proofs.lemmas.Bool.{cases_lt}
+use Rattle.std.proofs.lemmas.Bool.{cases_lt, and_parts}
 use Rattle.std.proofs.lemmas.Bool.Decides.{nat_tests}
 use Rattle.std.proofs.lemmas.Slice.Eq.{bytes_eq-Decides}
 use Rattle.std.specs.Char.{is_ascii_alphabetic}
@@ -14,7 +14,7 @@ use Rattle.pg_interval_2.specs.inside.NameSets.{is_packed, names_in, unit_packed
 use Rattle.pg_interval_2.specs.UnitNames.{is_one_of, unit_named}
 use Rattle.pg_interval_2.specs.declared.unit_names.NameSet.{NameSet}
 use Rattle.pg_interval_2.specs.declared.unit_names.NameSet.TheVariants.{Postgres, Verbose}
-use Rattle.pg_interval_2.proofs.ItemFacts.{AreLetters, both}
+use Rattle.pg_interval_2.proofs.ItemFacts.{AreLetters}
 
 letter_bounds : (c : ℕ) → is_ascii_alphabetic c ≡ true → (1 ≤ c) × (c < 256)
 letter_bounds c h = grind (arith, nat_tests)
@@ -28,7 +28,7 @@ low n (x ∷ xs) = let below = low (n * 256 + x) xs in rw (pow-suc 256 (length x
 high : (n : ℕ) (xs : List ℕ) → AreLetters xs → packed_behind n xs < (n + 1) * 256 ^ length xs
 high n [] all = omega arith
 high n (x ∷ xs) all =
-    let split = both (is_ascii_alphabetic x) (list_all is_ascii_alphabetic xs) all in
+    let split = and_parts (is_ascii_alphabetic x) (list_all is_ascii_alphabetic xs) all in
     let below = high (n * 256 + x) xs split.1 in
     let small = mul-le-mul_right (256 ^ length xs) (letter_bounds x split.0).1 in
     rw (pow-suc 256 (length xs)) (omega (arith, below, small))
@@ -36,7 +36,7 @@ high n (x ∷ xs) all =
 longer : (xs ys : List ℕ) → AreLetters xs → AreLetters ys → length xs < length ys → packed xs < packed ys
 longer xs [] all more less = absurd (omega arith)
 longer xs (y ∷ ys) all more less =
-    let split = both (is_ascii_alphabetic y) (list_all is_ascii_alphabetic ys) more in
+    let split = and_parts (is_ascii_alphabetic y) (list_all is_ascii_alphabetic ys) more in
     let above = low (0 * 256 + y) ys in
     let below = high 0 xs all in
     let some = mul-le-mul_right (256 ^ length ys) (letter_bounds y split.0).0 in
@@ -48,8 +48,8 @@ same_packed m n [] [] long all more h = (h, refl)
 same_packed m n [] (y ∷ ys) long all more h = absurd (omega arith)
 same_packed m n (x ∷ xs) [] long all more h = absurd (omega arith)
 same_packed m n (x ∷ xs) (y ∷ ys) long all more h =
-    let first = both (is_ascii_alphabetic x) (list_all is_ascii_alphabetic xs) all in
-    let second = both (is_ascii_alphabetic y) (list_all is_ascii_alphabetic ys) more in
+    let first = and_parts (is_ascii_alphabetic x) (list_all is_ascii_alphabetic xs) all in
+    let second = and_parts (is_ascii_alphabetic y) (list_all is_ascii_alphabetic ys) more in
     let below = same_packed (m * 256 + x) (n * 256 + y) xs ys (omega arith) first.1 second.1 h in
     let a = letter_bounds x first.0 in
     let b = letter_bounds y second.0 in
@@ -83,30 +83,27 @@ same_tests false false f g = refl
 below_bound : (n : ℕ) → nat_lt n (2 ^ 56) ≡ true → n < 2 ^ 56
 below_bound n h = grind (arith, nat_tests)
 
-number_is : (a b : ℕ) → (a == b) ≡ true → a ≡ b
-number_is a b h = grind (arith, nat_tests)
-
 is_number : (a b : ℕ) → a ≡ b → (a == b) ≡ true
 is_number a b h = grind (arith, nat_tests)
 
 -- a short name is told by the packed number
 named_so : (letters name : List ℕ) (value : ℕ) → AreLetters letters → is_short name ≡ true → Knows (2 ^ 56) value (packed letters) → (value == packed name) ≡ bytes_eq letters name
 named_so letters name value all short (inl known) =
-    let split = both (list_all is_ascii_alphabetic name) (nat_lt (packed name) (2 ^ 56)) short in
+    let split = and_parts (list_all is_ascii_alphabetic name) (nat_lt (packed name) (2 ^ 56)) short in
     same_tests (value == packed name) (bytes_eq letters name)
-    (λ h. (bytes_eq-Decides letters name).1 (one_word letters name all split.0 (sym known ∙ number_is value (packed name) h)))
+    (λ h. (bytes_eq-Decides letters name).1 (one_word letters name all split.0 (sym known ∙ eqb-true value (packed name) h)))
     (λ h. is_number value (packed name) (known ∙ ap packed ((bytes_eq-Decides letters name).0 h)))
 named_so letters name value all short (inr great) =
-    let split = both (list_all is_ascii_alphabetic name) (nat_lt (packed name) (2 ^ 56)) short in
+    let split = and_parts (list_all is_ascii_alphabetic name) (nat_lt (packed name) (2 ^ 56)) short in
     let small = below_bound (packed name) split.1 in
     same_tests (value == packed name) (bytes_eq letters name)
-    (λ h. absurd (let same = number_is value (packed name) h in omega (arith, great.0, small, same)))
+    (λ h. absurd (let same = eqb-true value (packed name) h in omega (arith, great.0, small, same)))
     (λ h. absurd (let same = ap packed ((bytes_eq-Decides letters name).0 h) in omega (arith, great.1, small, same)))
 
 one_of_so : (names : List (List ℕ)) (letters : List ℕ) (value : ℕ) → AreLetters letters → list_all is_short names ≡ true → Knows (2 ^ 56) value (packed letters) → is_packed value names ≡ is_one_of names letters
 one_of_so [] letters value all short known = refl
 one_of_so (name ∷ names) letters value all short known =
-    let split = both (is_short name) (list_all is_short names) short in
+    let split = and_parts (is_short name) (list_all is_short names) short in
     ap₂ (λ (a b : Bool). a || b) (named_so letters name value all split.0 known) (one_of_so names letters value all split.1 known)
 
 -- every name of a set is short

@@ -2,6 +2,7 @@
 use Rattle.std.proofs.Common.{◌≡◌, ◌≢◌, ℕ, ◌+◌, ◌≤◌, ◌==◌, Bool, true, false, not, cond, List, [], ◌∷◌, ◌++◌, length, take, codes, Some, Result, Ok, Err, IfErr, IfOk, refl, sym, ◌∙◌, ap, ap₂, subst, inl, inr, append_assoc, append-nil, length-append, arith}
 use Rattle.std.proofs.lemmas.Bool.Decides.{nat_tests}
 use Rattle.std.specs.List.{list_all}
+use Rattle.std.proofs.lemmas.Bool.{and_parts}
 use Rattle.scan_core.specs.Blanks.{is_blank, words}
 use Rattle.scan_core.specs.Count.{Count}
 use Rattle.scan_core.specs.Fronts.{leading}
@@ -22,7 +23,7 @@ use Rattle.pg_interval_2.specs.inside.Tallies.{Tallies}
 use Rattle.pg_interval_2.specs.inside.VerboseReading.{solid_behind, ends_solid, IsEnding, IsBehindAt, IsFrontTally, IsFrontMisread}
 use Rattle.pg_interval_2.proofs.BadNames.{bad_verdict, items_verdict}
 use Rattle.pg_interval_2.proofs.Frames.{same_before, same_behind, one_frame, whole_words, words_before}
-use Rattle.pg_interval_2.proofs.ItemFacts.{AreBlanks, both, skipped}
+use Rattle.pg_interval_2.proofs.ItemFacts.{AreBlanks, skipped}
 use Rattle.pg_interval_2.proofs.ItemWords.{words-blanks}
 use Rattle.pg_interval_2.proofs.NoItems.{after_solid}
 use Rattle.pg_interval_2.proofs.TextEnds.{solid-append, blanks_no_solid}
@@ -45,7 +46,7 @@ no_ink (c ∷ cs) h =
 no_more : (t : Bool) (bs : List ℕ) → AreBlanks bs → solid_behind t bs ≡ true → bs ≡ []
 no_more t [] h solid = refl
 no_more t (c ∷ cs) h solid =
-    let split = both (is_blank c) (list_all is_blank cs) h in
+    let split = and_parts (is_blank c) (list_all is_blank cs) h in
     let first = split.0 in
     let none : solid_behind t (c ∷ cs) ≡ false = rw first (blanks_no_solid cs split.1) in
     let clash : true ≡ false = sym solid ∙ none in cc
@@ -200,7 +201,7 @@ lacks_at bytes = list_all (λ b. not (b == 64)) bytes
 
 at_within : (before rest : List ℕ) → lacks_at (before ++ (64 ∷ rest)) ≡ true → ⊥
 at_within [] rest h = cc
-at_within (b ∷ bs) rest h = at_within bs rest (both (not (b == 64)) (lacks_at (bs ++ (64 ∷ rest))) h).1
+at_within (b ∷ bs) rest h = at_within bs rest (and_parts (not (b == 64)) (lacks_at (bs ++ (64 ∷ rest))) h).1
 
 split_at : (front tail before rest : List ℕ) → lacks_at tail ≡ true → front ++ tail ≡ before ++ (64 ∷ rest) → (bytes : List ℕ) × (front ≡ before ++ (64 ∷ bytes))
 split_at [] tail before rest none e = absurd (at_within before rest (ap lacks_at (sym e) ∙ none))
@@ -217,7 +218,7 @@ blank_no_at b h = grind (arith, nat_tests)
 blanks_lack : (blanks rest : List ℕ) → AreBlanks blanks → lacks_at rest ≡ true → lacks_at (blanks ++ rest) ≡ true
 blanks_lack [] rest h none = none
 blanks_lack (b ∷ bs) rest h none =
-    let split = both (is_blank b) (list_all is_blank bs) h in
+    let split = and_parts (is_blank b) (list_all is_blank bs) h in
     let first = blank_no_at b split.0 in
     rw first (blanks_lack bs rest split.1 none)
 

@@ -22,12 +22,13 @@ use Rattle.pg_interval_2.specs.UnitNames.{verbose_names, unit_named}
 use Rattle.pg_interval_2.specs.Verbose.{IsVerbose}
 use Rattle.pg_interval_2.specs.VerboseText.{behind_spaces, has_ago, unit_words, second_digits, second_words, verbose_date, verbose_time, parts_text, verbose_text}
 use Rattle.pg_interval_2.proofs.PostgresSpelled.{counted_unit, part_items, number_join, all_counts-part, all_counts-append}
-use Rattle.pg_interval_2.proofs.PostgresWords.{no_blank-append, no_blank-digits, no_blank-minus, counted_name_is, AreWords-number_words, AreWords-append}
+use Rattle.pg_interval_2.proofs.PostgresWords.{no_blank-minus, counted_name_is, AreWords-number_words, AreWords-append}
 use Rattle.pg_interval_2.proofs.Spaces.{AreWords}
 use Rattle.pg_interval_2.proofs.SpacedWords.{behind_spaces-append, words-spaces}
-use Rattle.pg_interval_2.proofs.UnitOrder.{RisesFrom, rises_front, distinct_units}
+use Rattle.pg_interval_2.proofs.UnitOrder.{RisesFrom, rises_lower, rises_front, distinct_units}
 use Rattle.pg_interval_2.proofs.WrittenCounts.{part_counts}
 use Rattle.pg_interval_2.proofs.WrittenNumbers.{cond_two, IsNumber-point}
+use Rattle.pg_interval_2.proofs.ItemWords.{no_blanks-append, digits_no_blanks}
 
 -- ---- the words
 
@@ -41,8 +42,8 @@ micros_behind micros = trimmed (padded 6 micros)
 no_blank-second : (seconds micros : ℕ) → seconds < 2 ^ 64 → micros < 2 ^ 64 → NoBlanks (second_digits seconds micros)
 unfolding second_digits
 no_blank-second seconds micros small below =
-    no_blank-append (decimal seconds) _ (no_blank-digits (decimal seconds) (digits_decimal seconds small))
-    (no_blank-append (codes ".") (micros_behind micros) (refl, tt) (no_blank-digits (micros_behind micros) (digits-trimmed (padded 6 micros) (digits-padded 6 micros below))))
+    no_blanks-append (decimal seconds) _ (digits_no_blanks (decimal seconds) (digits_decimal seconds small))
+    (no_blanks-append (codes ".") (micros_behind micros) (refl, tt) (digits_no_blanks (micros_behind micros) (digits-trimmed (padded 6 micros) (digits-padded 6 micros below))))
 
 some-second : (negative : Bool) (seconds micros : ℕ) → seconds < 2 ^ 64 → 0 < length (minus negative ++ second_digits seconds micros)
 unfolding second_digits
@@ -56,7 +57,7 @@ second_are_words negative seconds micros small below =
     (λ _. unit_are_words negative seconds (codes "sec") small (omega arith) (refl, (refl, (refl, tt))))
     (λ _. (
       some-second negative seconds micros small,
-      no_blank-append (minus negative) (second_digits seconds micros) (no_blank-minus negative) (no_blank-second seconds micros small below),
+      no_blanks-append (minus negative) (second_digits seconds micros) (no_blank-minus negative) (no_blank-second seconds micros small below),
       (omega arith, (refl, (refl, (refl, (refl, tt)))), tt),
     ))
 

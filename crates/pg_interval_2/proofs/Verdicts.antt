@@ -1,7 +1,8 @@
 -- What words spell: items are gone over, a bad name is found, and what begins no item spells nothing.
-use Rattle.std.proofs.Common.{◌≡◌, if◌then◌else◌, ℕ, ◌+◌, ◌<◌, ◌||◌, ◌==◌, Bool, true, false, not, List, [], ◌∷◌, ◌++◌, length, Some, refl, sym, ◌∙◌, ap, append_assoc, append-nil, arith, inl, inr}
+use Rattle.std.proofs.Common.{◌≡◌, if◌then◌else◌, ℕ, ◌+◌, ◌<◌, ◌||◌, ◌==◌, Bool, true, false, not, List, [], ◌∷◌, ◌++◌, length, Some, refl, sym, ◌∙◌, ap, append_assoc, append-nil, arith, inl, inr, lt-ltb}
 use Rattle.std.proofs.lemmas.Bool.Decides.{nat_tests}
 use Rattle.std.proofs.lemmas.List.Folds.{list_any-append}
+use Rattle.std.proofs.lemmas.Bool.{not-true, and_parts}
 use Rattle.scan_core.specs.Count.{Count}
 use Rattle.scan_core.specs.Join.{IsJoin}
 use Rattle.scan_core.specs.Number.{IsNumber}
@@ -13,8 +14,8 @@ use Rattle.pg_interval_2.specs.inside.Reading.{Numeral, read_number}
 use Rattle.pg_interval_2.specs.inside.ItemReading.{read_item, ClockWord, GluedWord, NumberWord, word_kind, Verdict, Unspelled, judge_unit, judge_word, is_name, verdict}
 use Rattle.pg_interval_2.specs.UnitNames.{unit_named}
 use Rattle.pg_interval_2.proofs.Numbers.{finds_number}
-use Rattle.pg_interval_2.proofs.ItemFacts.{AreLetters, both}
-use Rattle.pg_interval_2.proofs.ItemsInFront.{number_alone, named_read, clock_read, positive}
+use Rattle.pg_interval_2.proofs.ItemFacts.{AreLetters}
+use Rattle.pg_interval_2.proofs.ItemsInFront.{number_alone, named_read, clock_read}
 
 -- ---- kinds of words
 
@@ -53,16 +54,12 @@ pub neither : (x y : Bool) → (x || y) ≡ false → (x ≡ false) × (y ≡ fa
 neither true y h = cc
 neither false y h = (refl, h)
 
-not_true : (x : Bool) → not x ≡ true → x ≡ false
-not_true true h = cc
-not_true false h = refl
-
 pub same_both : (a b : ℕ) → (a == b) ≡ false → (b == a) ≡ false
 same_both a b h = grind (arith, nat_tests)
 
 -- the first of counts of which no unit is in two
 first_alone : (x : Count) (xs : List Count) → has_distinct_units (x ∷ xs) ≡ true → (counts_unit x.unit xs ≡ false) × (has_distinct_units xs ≡ true)
-first_alone x xs h = let split = both (not (counts_unit x.unit xs)) (has_distinct_units xs) h in (not_true _ split.0, split.1)
+first_alone x xs h = let split = and_parts (not (counts_unit x.unit xs)) (has_distinct_units xs) h in (not-true _ split.0, split.1)
 
 -- counts of which no unit is in two, with more of them behind
 pub distinct_front : (xs ys : List Count) → has_distinct_units (xs ++ ys) ≡ true → has_distinct_units xs ≡ true
@@ -117,7 +114,7 @@ elsewhere : (names : Names) (counts : List Count) (m n : ℕ) (more : List (List
 elsewhere names counts m n more h = ap (λ (k : ℕ). verdict names counts k more) h
 
 pub is_name_of : (letters : List ℕ) → 0 < length letters → AreLetters letters → is_name letters ≡ true
-is_name_of letters some l = let first = positive (length letters) some in rw (first, l) refl
+is_name_of letters some l = let first = lt-ltb 0 (length letters) some in rw (first, l) refl
 
 clock_item : (names : Names) (word : List ℕ) (more : List (List ℕ)) (cs counts : List Count) (ink : ℕ) → IsClock word cs → has_distinct_units (counts ++ cs) ≡ true
     → verdict names counts ink (word ∷ more) ≡ verdict names (counts ++ cs) (ink + length word) more

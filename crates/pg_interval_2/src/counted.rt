@@ -1,5 +1,5 @@
 //! The tally of items in which no unit may be counted twice.
-ghost use Rattle.std.specs.Prelude.{◌≡◌, ◌+◌, ◌-◌, ◌<◌, ◌≤◌, ◌^◌, ◌==◌, ◌&&◌, [], ◌∷◌, List, ℕ, length};
+ghost use Rattle.std.specs.Prelude.{◌≡◌, ◌+◌, ◌-◌, ◌<◌, ◌≤◌, ◌^◌, ◌==◌, ◌&&◌, [], List, ℕ, length};
 ghost use Rattle.scan_core.specs.Count.{Count};
 ghost use Rattle.scan_core.specs.Digits.{number_of};
 ghost use Rattle.scan_core.specs.Runs.{digits_of};

@@ -1,5 +1,5 @@
 //! Texts in `sql_standard` style: `+1-2 -3 +4:05:06`.
-ghost use Rattle.std.specs.Prelude.{◌≡◌, ◌+◌, ◌≤◌, ◌++◌, decimal, codes, unsigned_abs};
+ghost use Rattle.std.specs.Prelude.{◌≡◌, ◌+◌, ◌≤◌, ◌++◌, codes, unsigned_abs};
 ghost use Rattle.std.specs.Int.{is_negative};
 ghost use Rattle.arrayvec.specs.ArrayString.{array_string_len};
 ghost use Rattle.pg_interval_2.specs.SqlText.{minus_or_plus, has_positive, has_all_signs, year_month_text, signed_text, months_text, days_text, time_text, plain_text, sql_text};

@@ -2,7 +2,7 @@
 ghost use Rattle.std.specs.Prelude.{◌≡◌, ◌+◌, ◌≤◌, None, Some, IfSome, IfNone, length};
 ghost use Rattle.scan_core.specs.Runs.{IsRun, digits_of};
 ghost use Rattle.scan_core.specs.Scanning.{ahead, unseen};
-ghost use Rattle.pg_interval_2.specs.inside.SqlReading.{closed_word, read_behind, read_field, read_months, read_seconds, read_sign_or, read_time, read_word};
+ghost use Rattle.pg_interval_2.specs.inside.SqlReading.{read_behind, read_field, read_months, read_seconds, read_sign_or, read_time, read_word};
 ghost use Rattle.pg_interval_2.specs.inside.SqlViews.{AreRuns, AreSecondRuns, seen_seconds, seen_word};
 
 use crate::number::fraction;

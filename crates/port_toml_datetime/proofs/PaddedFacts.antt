@@ -1,9 +1,7 @@
 -- Decimal digits with leading zeros, from the last digit on.
-use Rattle.std.proofs.Common.{◌≡◌, ◌≢◌, ℕ, ◌+◌, ◌-◌, ◌/◌, ◌%◌, ◌^◌, ◌<◌, ◌≤◌, ◌==◌, inl, inr, false, List, [], ◌∷◌, ◌++◌, length, codes, decimal, replicate, max, append_assoc, length-append, refl, sym, ◌∙◌, ap, arith}
-use Rattle.std.proofs.lemmas.Fmt.{decimal_digit, decimal_step, decimal_nonempty, length-decimal-le}
-use Rattle.std.proofs.lemmas.List.{length-replicate, replicate-append-replicate}
+use Rattle.std.proofs.Common.{◌≡◌, ◌≢◌, ℕ, ◌+◌, ◌-◌, ◌/◌, ◌%◌, ◌^◌, ◌<◌, ◌≤◌, inl, inr, List, [], ◌∷◌, ◌++◌, length, codes, replicate, append_assoc, refl, sym, ◌∙◌, ap, arith}
+use Rattle.std.proofs.lemmas.List.{replicate-append-replicate}
 use Rattle.std.proofs.lemmas.Bool.{cases_lt}
-use Rattle.std.proofs.lemmas.Bool.Decides.{nat_tests}
 use Rattle.scan_core.specs.Padded.{padded, trimmed}
 use Rattle.scan_core.proofs.PaddedFacts.{padded_digit, padded_more}
 use Rattle.scan_core.proofs.TrimmedFacts.{trimmed_nothing, trimmed_some}

@@ -1,6 +1,6 @@
 -- Written texts, by the same sections of the TOML specification 1.1: `1979-05-27T07:32:00.5-07:00`. Each width is a least width: a number
 -- with more digits is written whole.
-use Rattle.std.specs.Prelude.{ℕ, ◌+◌, ◌/◌, ◌%◌, ◌==◌, true, false, ℤ, pos, negsuc, List, [], ◌∷◌, ◌++◌, codes, Option, Some, None, if◌then◌else◌}
+use Rattle.std.specs.Prelude.{ℕ, ◌+◌, ◌/◌, ◌%◌, true, false, ℤ, pos, negsuc, List, [], ◌∷◌, ◌++◌, codes, Option, Some, None}
 use Rattle.scan_core.specs.Padded.{padded, trimmed}
 use Rattle.port_toml_datetime.specs.Offsets.{sign_text}
 use Rattle.port_toml_datetime.specs.declared.date.Date.{Date}

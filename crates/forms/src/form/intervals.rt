@@ -1,5 +1,5 @@
 //! The interval forms, each a style of PostgreSQL.
-ghost use Rattle.std.specs.Prelude.{◌≡◌, ◌+◌, ◌*◌, ◌^◌, ◌<◌, ◌≤◌, IfOk, length};
+ghost use Rattle.std.specs.Prelude.{◌≡◌, ◌+◌, ◌*◌, ◌<◌, ◌≤◌, IfOk, length};
 ghost use Rattle.arrayvec.specs.ArrayString.{array_string_len};
 ghost use Rattle.pg_interval_2.specs.Styles.{Shape, written};
 ghost use Rattle.forms.specs.Answers.{Is, ReadsBy, WritesBy, bytes_of};

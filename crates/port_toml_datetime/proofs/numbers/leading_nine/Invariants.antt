@@ -1,5 +1,5 @@
-use Rattle.std.proofs.Common.{◌≡◌, ◌≤◌, ◌-◌, ◌++◌, length, min, take, drop}
-use Rattle.scan_core.specs.Digits.{AreDigits, number_of}
+use Rattle.std.proofs.Common.{◌≡◌, ◌≤◌, ◌-◌, ◌++◌, length, take, drop}
+use Rattle.scan_core.specs.Digits.{number_of}
 use Rattle.scan_core.specs.Fronts.{front_digits, after_digits}
 use Rattle.port_toml_datetime.proofs.numbers.leading_nine.Given as goal
 

@@ -1,4 +1,4 @@
-use Rattle.std.proofs.Common.{◌∙◌, ap, arith}
+use Rattle.std.proofs.Common.{arith}
 use Rattle.port_toml_datetime.proofs.FractionFacts.{front_short, scaled_front}
 use Rattle.port_toml_datetime.proofs.numbers.split_nanoseconds.Goals as goal
 

@@ -1,7 +1,7 @@
 use Rattle.std.proofs.Common.{arith}
 use Rattle.std.proofs.lemmas.Int.{ints}
 use Rattle.pg_interval_2.specs.Styles.{IsBadPlace, not_in}
-use Rattle.forms.proofs.Intervals.{reads_as, reads_misfit, reads_no_shape, denoted_in_range, error_says}
+use Rattle.forms.proofs.Intervals.{reads_as, reads_misfit, denoted_in_range, error_says}
 use Rattle.forms.proofs.form.intervals.read_counted.Goals as goal
 
 pub returns-in-Ok-clause-read : goal.returns-in-Ok-clause-read
