@@ -1,31 +1,14 @@
--- Numbers that fit their types.
+-- Tests of numbers, and orders.
 use Rattle.std.proofs.Common.{◌≡◌, ℕ, ◌<◌, ◌≤◌, true, Bool, false, ◌&&◌, FitsSigned, w32, w64, refl, arith}
 use Rattle.std.specs.Prelude.{ℤ, pos, negsuc, ◌≤ℤ◌, ◌<ℤ◌, nat_lt}
 use Rattle.std.proofs.lemmas.Bool.Decides.{nat_tests}
 use Rattle.std.proofs.lemmas.Int.{ints}
-use Rattle.scan_core.specs.Shares.{is_within}
 
 pub below : (a b : ℕ) → nat_lt a b ≡ true → a < b
 below a b h = grind (arith, nat_tests)
 
 pub tested : (a b : ℕ) → a < b → nat_lt a b ≡ true
 tested a b h = grind (arith, nat_tests)
-
-pub within_32 : (z : ℤ) → is_within 32 z ≡ true → FitsSigned w32 z
-within_32 (pos n) h = record { sfits = below _ _ h }
-within_32 (negsuc n) h = record { sfits = below _ _ h }
-
-pub within_64 : (z : ℤ) → is_within 64 z ≡ true → FitsSigned w64 z
-within_64 (pos n) h = record { sfits = below _ _ h }
-within_64 (negsuc n) h = record { sfits = below _ _ h }
-
-pub fits_32 : (z : ℤ) → FitsSigned w32 z → is_within 32 z ≡ true
-fits_32 (pos n) h = tested _ _ h.sfits
-fits_32 (negsuc n) h = tested _ _ h.sfits
-
-pub fits_64 : (z : ℤ) → FitsSigned w64 z → is_within 64 z ≡ true
-fits_64 (pos n) h = tested _ _ h.sfits
-fits_64 (negsuc n) h = tested _ _ h.sfits
 
 -- 64 bits hold what 32 bits do
 pub widen : (z : ℤ) → FitsSigned w32 z → FitsSigned w64 z

@@ -25,7 +25,8 @@ use Rattle.forms.specs.Values.{IsWithinBounds, Same, IsLength}
 use Rattle.forms.specs.form.Intervals.{worth, interval_of, length_in_days, interval_of_length, held}
 use Rattle.forms.specs.inside.Lawful.{Lawful}
 use Rattle.forms.specs.inside.Readers.{IsRefusedBy}
-use Rattle.forms.proofs.Fitting.{within_32, within_64, fits_32, fits_64, widen, both, not_true}
+use Rattle.scan_core.proofs.FitFacts.{within_32, within_64, fits_32, fits_64}
+use Rattle.forms.proofs.Fitting.{widen, both, not_true}
 use Rattle.forms.proofs.Lawful.{then_ok, same_ok, one_image, IsHeldBack, HasRows, lawful_by}
 
 -- the triple of an interval

@@ -1,5 +1,5 @@
 -- Digits and the number that they write: one more digit, a front, a join, and the decimal text of a number.
-use Rattle.std.proofs.Common.{◌≡◌, ℕ, zero, suc, ◌+◌, ◌-◌, ◌*◌, ◌^◌, ◌<◌, ◌≤◌, Bool, true, false, cond, ◌&&◌, List, [], ◌∷◌, ◌++◌, length, get_or, take, drop, decimal, replicate, append_assoc, refl, ap, sym, ◌∙◌, arith}
+use Rattle.std.proofs.Common.{◌≡◌, ℕ, zero, suc, ◌+◌, ◌-◌, ◌*◌, ◌^◌, ◌<◌, ◌≤◌, Bool, true, ◌&&◌, List, [], ◌∷◌, ◌++◌, length, get_or, take, drop, decimal, replicate, append_assoc, refl, ap, sym, ◌∙◌, arith}
 use Rattle.std.proofs.Math.Nat.{pow-suc}
 use Rattle.std.proofs.lemmas.Bool.Decides.{nat_tests}
 use Rattle.std.proofs.lemmas.Fmt.{decimal_is_IsNumeral, length-decimal-le}
@@ -8,7 +8,7 @@ use Rattle.std.proofs.lemmas.List.{drop_more, take_rest}
 use Rattle.std.proofs.lemmas.Str.{digit_value_digit}
 use Rattle.std.proofs.lemmas.Str.Parse.{digit_at, digit_from_value, digits_value-take-le}
 use Rattle.std.specs.Char.{digit_value, is_ascii_digit}
-use Rattle.std.specs.List.{list_all, prefix_len}
+use Rattle.std.specs.List.{list_all}
 use Rattle.std.specs.Str.Parse.{digits_value_after}
 use Rattle.scan_core.specs.Digits.{AreDigits, number_of}
 
@@ -68,14 +68,6 @@ digits-take zero ds p = tt
 digits-take (suc i) [] p = tt
 digits-take (suc i) (d ∷ ds) p = (p.0, digits-take i ds p.1)
 
-pub digits-drop : (i : ℕ) (ds : List ℕ) → AreDigits ds → AreDigits (drop i ds)
-digits-drop zero ds p = p
-digits-drop (suc i) [] p = tt
-digits-drop (suc i) (d ∷ ds) p = digits-drop i ds p.1
-
-digit_value_test : (d : ℕ) → is_ascii_digit d ≡ true → digit_value d < 10
-digit_value_test d h = grind (arith, nat_tests)
-
 digit_from_test : (d : ℕ) (t all : Bool) → is_ascii_digit d ≡ t → (t && all) ≡ true → (digit_value d < 10) × (all ≡ true)
 digit_from_test d t all e h = grind (arith, nat_tests)
 
@@ -99,15 +91,6 @@ moved front some passed all d e h = sym (append_assoc front (d ∷ []) passed) �
 -- some digits are their first and the rest
 pub first_and_rest : (ds : List ℕ) → 1 ≤ length ds → ds ≡ get_or ds 0 0 ∷ take (length ds - 1) (drop 1 ds)
 first_and_rest ds h = drop_more ds 0 0 (omega arith) ∙ ap (λ (xs : List ℕ). get_or ds 0 0 ∷ xs) (sym (take_rest ds 1))
-
-digits_onto : (t : Bool) (b n : ℕ) (bs : List ℕ) → is_ascii_digit b ≡ t → AreDigits (take n bs) → AreDigits (take (cond t (1 + n) 0) (b ∷ bs))
-digits_onto false b n bs e all = tt
-digits_onto true b n bs e all = let one_more : 1 + n ≡ suc n = omega arith in rw one_more (digit_value_test b e, all)
-
--- the digits at the front of a text
-pub digits_prefix : (text : List ℕ) → AreDigits (take (prefix_len is_ascii_digit text) text)
-digits_prefix [] = tt
-digits_prefix (b ∷ bs) = digits_onto (is_ascii_digit b) b (prefix_len is_ascii_digit bs) bs refl (digits_prefix bs)
 
 -- ---- leading zeros
 

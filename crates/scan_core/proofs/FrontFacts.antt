@@ -31,10 +31,6 @@ parts_if : (t : Bool) (b : ℕ) (bs front rest : List ℕ) → front ++ rest ≡
 parts_if true b bs front rest h = ap (λ (l : List ℕ). b ∷ l) h
 parts_if false b bs front rest h = refl
 
-without_if : (test : ℕ → Bool) (t : Bool) (b : ℕ) (bs rest : List ℕ) → test b ≡ t → BeginsWithout test rest → BeginsWithout test (cond t rest (b ∷ bs))
-without_if test true b bs rest e h = h
-without_if test false b bs rest e h = e
-
 shorter_if : (t : Bool) (b : ℕ) (bs rest : List ℕ) → length rest ≤ length bs → length (cond t rest (b ∷ bs)) ≤ length (b ∷ bs)
 shorter_if true b bs rest h = omega (arith, h)
 shorter_if false b bs rest h = omega arith
@@ -46,10 +42,6 @@ leading_passes test (b ∷ bs) = all_if test (test b) b (leading test bs) refl (
 pub leading_and_behind : (test : ℕ → Bool) (bytes : List ℕ) → leading test bytes ++ behind test bytes ≡ bytes
 leading_and_behind test [] = refl
 leading_and_behind test (b ∷ bs) = parts_if (test b) b bs (leading test bs) (behind test bs) (leading_and_behind test bs)
-
-pub behind_without : (test : ℕ → Bool) (bytes : List ℕ) → BeginsWithout test (behind test bytes)
-behind_without test [] = tt
-behind_without test (b ∷ bs) = without_if test (test b) b bs (behind test bs) refl (behind_without test bs)
 
 pub length-behind : (test : ℕ → Bool) (bytes : List ℕ) → length (behind test bytes) ≤ length bytes
 length-behind test [] = omega arith

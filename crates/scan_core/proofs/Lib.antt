@@ -7,7 +7,9 @@ pub mod Scans
 pub mod RunFacts
 pub mod Spending
 pub mod ShareFacts
+pub mod FitFacts
 pub mod SumFacts
 pub mod WordFacts
 pub mod PaddedFacts
+pub mod PairFacts
 pub mod TrimmedFacts

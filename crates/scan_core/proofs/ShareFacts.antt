@@ -22,18 +22,6 @@ small_64 false n h = grind (arith, nat_tests)
 small_64 true zero h = refl
 small_64 true (suc n) h = grind (arith, nat_tests)
 
--- ---- what fits is at most half of the type's range
-
-pub bound_32 : (negative : Bool) (n : ℕ) → is_within 32 (signed negative n) ≡ true → n ≤ 2 ^ 31
-bound_32 false n h = grind (arith, nat_tests)
-bound_32 true zero h = omega arith
-bound_32 true (suc n) h = grind (arith, nat_tests)
-
-pub bound_64 : (negative : Bool) (n : ℕ) → is_within 64 (signed negative n) ≡ true → n ≤ 2 ^ 63
-bound_64 false n h = grind (arith, nat_tests)
-bound_64 true zero h = omega arith
-bound_64 true (suc n) h = grind (arith, nat_tests)
-
 -- ---- the parts beside the main one
 
 main_or_fits : (part : Part) (unit : TimeUnit) (negative : Bool) (w r : ℕ) → r ≤ scale_of unit → (part ≡ main_part unit) ⊎ (fits_type part (signed negative (magnitude part unit w r)) ≡ true)
@@ -78,22 +66,6 @@ each_part_fits part c digits main =
       | inl same ↦ subst (λ (p : Part). fits_type p (share p c) ≡ true) (sym same) main
       | inr fits ↦ fits
     ]
-
--- ---- the main part grows with the whole units
-
-pub whole-le : (unit : TimeUnit) (w r : ℕ) → w ≤ magnitude (main_part unit) unit w r
-whole-le Year w r = omega arith
-whole-le Month w r = omega arith
-whole-le Week w r = omega arith
-whole-le Day w r = omega arith
-whole-le Hour w r = omega arith
-whole-le Minute w r = omega arith
-whole-le Second w r = omega arith
-
-fits_64 : (part : Part) (negative : Bool) (n : ℕ) → fits_type part (signed negative n) ≡ true → n < 2 ^ 64
-fits_64 Months negative n h = omega (arith, bound_32 negative n h)
-fits_64 Days negative n h = omega (arith, bound_32 negative n h)
-fits_64 Micros negative n h = omega (arith, bound_64 negative n h)
 
 -- ---- the parts above the main one are 0
 

@@ -9,9 +9,17 @@ use itoa::Buffer;
 /// A text of at most 128 bytes that takes no memory.
 pub type Short = ArrayString<128>;
 
+/// The two digits of each number below 100.
+const PAIRS: &str = "\
+0001020304050607080910111213141516171819\
+2021222324252627282930313233343536373839\
+4041424344454647484950515253545556575859\
+6061626364656667686970717273747576777879\
+8081828384858687888990919293949596979899";
+
 /// Appends the text: `push_text(&mut out, "T")`.
-pub fn push_text(out: &mut Short, text: &str)
-    requires { array_string_len out.old + length text.now ≤ 128 }
+pub fn push_text<const CAP: usize>(out: &mut ArrayString<CAP>, text: &str)
+    requires { array_string_len out.old + length text.now ≤ CAP }
     ensures bytes { out.new.bytes ≡ out.old.bytes ++ text.now }
     ensures len { array_string_len out.new ≡ array_string_len out.old + length text.now }
 {
@@ -19,22 +27,35 @@ pub fn push_text(out: &mut Short, text: &str)
 }
 
 /// Appends the decimal digits of the value, without leading zeros: 7 is `7`.
-pub fn push_num(out: &mut Short, value: u64)
-    requires { array_string_len out.old + length (decimal value) ≤ 128 }
+pub fn push_num<const CAP: usize>(out: &mut ArrayString<CAP>, value: u64)
+    requires { array_string_len out.old + length (decimal value) ≤ CAP }
     ensures bytes { out.new.bytes ≡ out.old.bytes ++ decimal value }
     ensures len { array_string_len out.new ≡ array_string_len out.old + length (decimal value) }
 {
-    out.push_str(Buffer::new().format(value));
+    push_padded(out, value, 0);
 }
 
 /// Appends the decimal digits of the value with leading zeros to at least `width` digits, `width` at most 20: 7 in width 2 is `07`.
-pub fn push_padded(out: &mut Short, value: u64, width: usize)
+pub fn push_padded<const CAP: usize>(out: &mut ArrayString<CAP>, value: u64, width: usize)
     requires width { width ≤ 20 }
-    requires room { array_string_len out.old + max width (length (decimal value)) ≤ 128 }
+    requires room { array_string_len out.old + max width (length (decimal value)) ≤ CAP }
     ensures bytes { out.new.bytes
         ≡ out.old.bytes ++ (replicate (width - length (decimal value)) 48 ++ decimal value) }
     ensures len { array_string_len out.new
         ≡ array_string_len out.old + max width (length (decimal value)) }
+{
+    if value < 100_000_000 && width < 9 {
+        push_up_to_eight(out, value, width);
+    } else {
+        push_long(out, value, width);
+    }
+}
+
+/// Appends the digits of a number as `push_padded` does, however many they are.
+fn push_long<const CAP: usize>(out: &mut ArrayString<CAP>, value: u64, width: usize)
+    requires width { width ≤ 20 }
+    requires room { array_string_len out.old + max width (length (decimal value)) ≤ CAP }
+    ensures bytes { out.new.bytes ≡ out.old.bytes ++ padded width value }
 {
     let mut buffer = Buffer::new();
     let digits = buffer.format(value);
@@ -42,6 +63,76 @@ pub fn push_padded(out: &mut Short, value: u64, width: usize)
         out.push('0');
     }
     out.push_str(digits);
+}
+
+/// Appends one to eight digits.
+#[inline(always)]
+fn push_up_to_eight<const CAP: usize>(out: &mut ArrayString<CAP>, value: u64, width: usize)
+    requires value { value < 100_000_000 }
+    requires width { width < 9 }
+    requires room { array_string_len out.old + length (padded width value) ≤ CAP }
+    ensures bytes { out.new.bytes ≡ out.old.bytes ++ padded width value }
+{
+    if value < 10_000 && width < 5 {
+        push_up_to_four(out, value, width);
+    } else {
+        push_up_to_four(out, value / 10_000, width.saturating_sub(4));
+        push_pair(out, value / 100 % 100);
+        push_pair(out, value % 100);
+    }
+}
+
+/// Appends one to four digits.
+#[inline(always)]
+fn push_up_to_four<const CAP: usize>(out: &mut ArrayString<CAP>, value: u64, width: usize)
+    requires value { value < 10_000 }
+    requires width { width < 5 }
+    requires room { array_string_len out.old + length (padded width value) ≤ CAP }
+    ensures bytes { out.new.bytes ≡ out.old.bytes ++ padded width value }
+{
+    if value < 100 && width < 3 {
+        push_up_to_two(out, value, width);
+    } else {
+        push_up_to_two(out, value / 100, width.saturating_sub(2));
+        push_pair(out, value % 100);
+    }
+}
+
+/// Appends one digit or two.
+#[inline(always)]
+fn push_up_to_two<const CAP: usize>(out: &mut ArrayString<CAP>, value: u64, width: usize)
+    requires value { value < 100 }
+    requires width { width < 3 }
+    requires room { array_string_len out.old + length (padded width value) ≤ CAP }
+    ensures bytes { out.new.bytes ≡ out.old.bytes ++ padded width value }
+{
+    if value < 10 && width < 2 {
+        push_digit(out, value);
+    } else {
+        push_pair(out, value);
+    }
+}
+
+/// Appends the digit of a number below 10, which is the second of its pair.
+#[inline(always)]
+fn push_digit<const CAP: usize>(out: &mut ArrayString<CAP>, value: u64)
+    requires value { value < 10 }
+    requires room { array_string_len out.old + 1 ≤ CAP }
+    ensures bytes { out.new.bytes ≡ out.old.bytes ++ decimal value }
+{
+    let at = value as usize * 2 + 1;
+    out.push_str(&PAIRS[at..at + 1]);
+}
+
+/// Appends the two digits of a number below 100.
+#[inline(always)]
+fn push_pair<const CAP: usize>(out: &mut ArrayString<CAP>, value: u64)
+    requires value { value < 100 }
+    requires room { array_string_len out.old + 2 ≤ CAP }
+    ensures bytes { out.new.bytes ≡ out.old.bytes ++ padded 2 value }
+{
+    let at = value as usize * 2;
+    out.push_str(&PAIRS[at..at + 2]);
 }
 
 /// The number without the zeros at its end, and how many digits of so many are left.
@@ -62,9 +153,9 @@ fn without_zeros(value: u64, width: usize) -> (u64, usize)
 
 /// Appends the decimal digits of the value as `push_padded` does, without the zeros at their end: 250 in width 6 is `00025`, and
 /// of 0 nothing is left.
-pub fn push_trimmed(out: &mut Short, value: u64, width: usize)
+pub fn push_trimmed<const CAP: usize>(out: &mut ArrayString<CAP>, value: u64, width: usize)
     requires width { width ≤ 20 }
-    requires room { array_string_len out.old + max width (length (decimal value)) ≤ 128 }
+    requires room { array_string_len out.old + max width (length (decimal value)) ≤ CAP }
     ensures bytes { out.new.bytes ≡ out.old.bytes ++ trimmed (padded width value) }
     ensures len { array_string_len out.new
         ≤ array_string_len out.old + max width (length (decimal value)) }
@@ -89,6 +180,16 @@ mod tests {
             (123, 2, "T123 123"),
             (5, 6, "T5 000005"),
             (9, 0, "T9 9"),
+            (10, 1, "T10 10"),
+            (99, 3, "T99 099"),
+            (100, 2, "T100 100"),
+            (2015, 4, "T2015 2015"),
+            (9_999, 5, "T9999 09999"),
+            (10_000, 4, "T10000 10000"),
+            (60_504, 6, "T60504 060504"),
+            (12_345_678, 8, "T12345678 12345678"),
+            (99_999_999, 9, "T99999999 099999999"),
+            (100_000_000, 8, "T100000000 100000000"),
             (u64::MAX, 20, "T18446744073709551615 18446744073709551615"),
         ] {
             assert!(rt; width <= 20);

@@ -3,6 +3,6 @@ use Rattle.scan_core.proofs.TrimmedFacts.{trimmed_nothing}
 use Rattle.scan_core.proofs.text.push_trimmed.Goals as goal
 
 pub returns-else-value-ne0-clause-bytes : goal.returns-else-value-ne0-clause-bytes
-returns-else-value-ne0-clause-bytes c =
+returns-else-value-ne0-clause-bytes g c =
     let zero = c.if-value-ne0.false in
     rw (zero, trimmed_nothing) (sym (append-nil c.args.out.now.bytes))
