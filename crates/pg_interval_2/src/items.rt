@@ -61,7 +61,7 @@ fn named_behind<L: Ledger>(
 /// The item in front: a sign and digits begin both kinds, and a colon behind them tells a clock.
 #[inline(always)]
 #[tactic(auto, unfolding(crate::specs::inside::ItemReading::read_item))]
-pub(crate) fn next_item<L: Ledger>(scan: &mut Scan<'_>, steps: &mut Steps<L>) -> Item
+fn item_ahead<L: Ledger>(scan: &mut Scan<'_>, steps: &mut Steps<L>) -> Item
     ensures read { IsReadAs scan.new.text (ahead scan.new) result (read_item (ahead scan.old)) }
     ensures runs { AreItemRuns scan.new.text (ahead scan.new) result }
     ensures same { scan.new.text ≡ scan.old.text }
@@ -77,4 +77,19 @@ pub(crate) fn next_item<L: Ledger>(scan: &mut Scan<'_>, steps: &mut Steps<L>) ->
         Some(clock) => Item::Clock(clock),
         None => Item::Neither,
     }
+}
+
+/// The item in front, which is passed. It is scanned on a copy, whose place stays in registers from byte to byte.
+#[inline(always)]
+pub(crate) fn next_item<L: Ledger>(scan: &mut Scan<'_>, steps: &mut Steps<L>) -> Item
+    ensures read { IsReadAs scan.new.text (ahead scan.new) result (read_item (ahead scan.old)) }
+    ensures runs { AreItemRuns scan.new.text (ahead scan.new) result }
+    ensures same { scan.new.text ≡ scan.old.text }
+    ensures onward { fraction_length result + length (ahead scan.new) ≤ length (ahead scan.old) }
+    ensures ticks { steps.new + unseen (ahead scan.new) ≡ steps.old + unseen (ahead scan.old) }
+{
+    let mut here = scan.here();
+    let item = item_ahead(&mut here, steps);
+    *scan = here;
+    item
 }

@@ -85,6 +85,18 @@ impl<'a> Scan<'a> {
         Scan { text, at: 0, front }
     }
 
+    /// Another scan of the text at the same place. A loop over one of its own has the place in registers.
+    #[inline(always)]
+    pub fn here(&self) -> Scan<'a>
+        ensures { result ≡ self.now }
+    {
+        Scan {
+            text: self.text,
+            at: self.at,
+            front: self.front,
+        }
+    }
+
     /// The text that is scanned.
     #[inline(always)]
     pub fn text(&self) -> &'a Looked<'a>
