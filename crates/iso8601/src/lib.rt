@@ -10,6 +10,7 @@
 
 mod civil;
 mod counted;
+mod counted_time;
 mod duration_text;
 pub mod laws;
 pub mod parsers;

@@ -1,22 +1,14 @@
 //! Numbers as decimal digits, each appended to a text.
-ghost use Rattle.std.specs.Prelude.{◌≡◌, ◌+◌, ◌<◌, ◌≤◌, ◌++◌, [], ◌∷◌};
+ghost use Rattle.std.specs.Prelude.{◌≡◌, ◌+◌, ◌<◌, ◌≤◌, ◌++◌};
 ghost use Rattle.arrayvec.specs.ArrayString.{array_string_len};
 ghost use Rattle.scan_core.specs.Padded.{padded};
 ghost use Rattle.port_toml_datetime.specs.Texts.{fraction_text};
 
 use scan_core::{Short, push_padded, push_trimmed};
 
-fn push_digit(out: &mut Short, digit: u16)
-    requires digit { digit < 10 }
-    requires room { array_string_len out.old + 1 ≤ 128 }
-    ensures bytes { out.new.bytes ≡ out.old.bytes ++ (48 + digit) ∷ [] }
-    ensures len { array_string_len out.new ≡ array_string_len out.old + 1 }
-{
-    out.push(char::from(b'0' + digit as u8));
-}
-
 /// At least two digits.
-#[tactic(auto, using(crate::proofs::TextFacts::short_hours))]
+#[inline(always)]
+#[tactic(auto, using(crate::proofs::TextFacts::short_hours, crate::proofs::TextFacts::short_two))]
 pub(crate) fn push_two(out: &mut Short, value: u16)
     requires value { value < 1000 }
     requires room { array_string_len out.old + 3 ≤ 128 }
@@ -24,27 +16,18 @@ pub(crate) fn push_two(out: &mut Short, value: u16)
     ensures len { array_string_len out.new ≤ array_string_len out.old + 3 }
     ensures two { value < 100 → array_string_len out.new ≡ array_string_len out.old + 2 }
 {
-    if value < 100 {
-        push_digit(out, value / 10);
-        push_digit(out, value % 10);
-    } else {
-        push_padded(out, u64::from(value), 2);
-    }
+    push_padded(out, u64::from(value), 2);
 }
 
 /// At least four digits.
+#[inline(always)]
 #[tactic(auto, using(crate::proofs::TextFacts::short_year))]
 pub(crate) fn push_four(out: &mut Short, value: u16)
     requires { array_string_len out.old + 5 ≤ 128 }
     ensures bytes { out.new.bytes ≡ out.old.bytes ++ padded 4 value }
     ensures len { array_string_len out.new ≤ array_string_len out.old + 5 }
 {
-    if value < 10_000 {
-        push_two(out, value / 100);
-        push_two(out, value % 100);
-    } else {
-        push_padded(out, u64::from(value), 4);
-    }
+    push_padded(out, u64::from(value), 4);
 }
 
 /// The digits of a nanosecond without the zeros at the end, at least one.

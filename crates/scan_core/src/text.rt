@@ -1,5 +1,5 @@
 //! Short texts, and what is appended to them.
-ghost use Rattle.std.specs.Prelude.{◌≡◌, ◌+◌, ◌-◌, ◌<◌, ◌≤◌, ◌++◌, length, decimal, replicate, max};
+ghost use Rattle.std.specs.Prelude.{◌≡◌, ◌⊎◌, ◌+◌, ◌-◌, ◌<◌, ◌≤◌, ◌++◌, length, decimal, replicate, max};
 ghost use Rattle.arrayvec.specs.ArrayString.{array_string_len};
 ghost use Rattle.scan_core.specs.Padded.{padded, trimmed};
 
@@ -27,6 +27,7 @@ pub fn push_text<const CAP: usize>(out: &mut ArrayString<CAP>, text: &str)
 }
 
 /// Appends the decimal digits of the value, without leading zeros: 7 is `7`.
+#[inline(always)]
 pub fn push_num<const CAP: usize>(out: &mut ArrayString<CAP>, value: u64)
     requires { array_string_len out.old + length (decimal value) ≤ CAP }
     ensures bytes { out.new.bytes ≡ out.old.bytes ++ decimal value }
@@ -36,6 +37,7 @@ pub fn push_num<const CAP: usize>(out: &mut ArrayString<CAP>, value: u64)
 }
 
 /// Appends the decimal digits of the value with leading zeros to at least `width` digits, `width` at most 20: 7 in width 2 is `07`.
+#[inline(always)] // nearly all widths are constants, and nearly all numbers have at most four digits
 pub fn push_padded<const CAP: usize>(out: &mut ArrayString<CAP>, value: u64, width: usize)
     requires width { width ≤ 20 }
     requires room { array_string_len out.old + max width (length (decimal value)) ≤ CAP }
@@ -44,8 +46,24 @@ pub fn push_padded<const CAP: usize>(out: &mut ArrayString<CAP>, value: u64, wid
     ensures len { array_string_len out.new
         ≡ array_string_len out.old + max width (length (decimal value)) }
 {
+    if value < 10_000 && width < 5 {
+        push_up_to_four(out, value, width);
+    } else {
+        push_many(out, value, width);
+    }
+}
+
+/// Appends five digits or more.
+fn push_many<const CAP: usize>(out: &mut ArrayString<CAP>, value: u64, width: usize)
+    requires many { ((value < 10_000) × (5 ≤ width)) ⊎ (10_000 ≤ value) }
+    requires width { width ≤ 20 }
+    requires room { array_string_len out.old + length (padded width value) ≤ CAP }
+    ensures bytes { out.new.bytes ≡ out.old.bytes ++ padded width value }
+{
     if value < 100_000_000 && width < 9 {
-        push_up_to_eight(out, value, width);
+        push_up_to_four(out, value / 10_000, width.saturating_sub(4));
+        push_pair(out, value / 100 % 100);
+        push_pair(out, value % 100);
     } else {
         push_long(out, value, width);
     }
@@ -63,23 +81,6 @@ fn push_long<const CAP: usize>(out: &mut ArrayString<CAP>, value: u64, width: us
         out.push('0');
     }
     out.push_str(digits);
-}
-
-/// Appends one to eight digits.
-#[inline(always)]
-fn push_up_to_eight<const CAP: usize>(out: &mut ArrayString<CAP>, value: u64, width: usize)
-    requires value { value < 100_000_000 }
-    requires width { width < 9 }
-    requires room { array_string_len out.old + length (padded width value) ≤ CAP }
-    ensures bytes { out.new.bytes ≡ out.old.bytes ++ padded width value }
-{
-    if value < 10_000 && width < 5 {
-        push_up_to_four(out, value, width);
-    } else {
-        push_up_to_four(out, value / 10_000, width.saturating_sub(4));
-        push_pair(out, value / 100 % 100);
-        push_pair(out, value % 100);
-    }
 }
 
 /// Appends one to four digits.

@@ -1,6 +1,6 @@
 use Rattle.std.proofs.Common.{◌≡◌, ℕ, sym, arith}
 use Rattle.iso8601.proofs.CountedFacts.{IsShort, millis_passed}
-use Rattle.iso8601.proofs.counted.millis.Goals as goal
+use Rattle.iso8601.proofs.counted_time.millis.Goals as goal
 
 pub returns-then-len-eq0-clause-millis : goal.returns-then-len-eq0-clause-millis
 returns-then-len-eq0-clause-millis g c =

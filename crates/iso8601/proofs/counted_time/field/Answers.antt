@@ -1,6 +1,6 @@
 use Rattle.std.proofs.Common.{◌≡◌, ℕ, sym, arith}
 use Rattle.iso8601.proofs.CountedFacts.{IsShort, field_passed, field_missing}
-use Rattle.iso8601.proofs.counted.field.Goals as goal
+use Rattle.iso8601.proofs.counted_time.field.Goals as goal
 
 pub returns-then-run-count-clause-none : goal.returns-then-run-count-clause-none
 returns-then-run-count-clause-none g c =

@@ -1,6 +1,6 @@
 use Rattle.std.proofs.Common.{◌≡◌, true, false, sym, ◌∙◌}
 use Rattle.iso8601.proofs.CountedFacts.{no_field}
-use Rattle.iso8601.proofs.counted.later.Goals as goal
+use Rattle.iso8601.proofs.counted_time.later.Goals as goal
 
 pub returns-else-begins_field-clause-read : goal.returns-else-begins_field-clause-read
 returns-else-begins_field-clause-read g c =

@@ -1,6 +1,6 @@
 use Rattle.std.proofs.Common.{◌≡◌, ℕ, List}
 use Rattle.iso8601.proofs.CountedFacts.{time_stuck}
-use Rattle.iso8601.proofs.counted.time.Goals as goal
+use Rattle.iso8601.proofs.counted_time.time.Goals as goal
 
 pub returns-in_err-second-clause-none : goal.returns-in_err-second-clause-none
 returns-in_err-second-clause-none g c =

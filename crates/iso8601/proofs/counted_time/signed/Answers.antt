@@ -1,6 +1,6 @@
 use Rattle.std.proofs.Common.{◌≡◌, ℕ, List}
 use Rattle.iso8601.proofs.CountedFacts.{signed_stuck}
-use Rattle.iso8601.proofs.counted.signed.Goals as goal
+use Rattle.iso8601.proofs.counted_time.signed.Goals as goal
 
 pub returns-in_err-minutes-clause-none : goal.returns-in_err-minutes-clause-none
 returns-in_err-minutes-clause-none g c =
