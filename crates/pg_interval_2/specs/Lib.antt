@@ -1,6 +1,7 @@
 pub mod Denotes
 pub mod Iso
 pub mod IsoWithoutWeeks
+pub mod IsoStrict
 pub mod Parts
 pub mod IsoText
 pub mod ClockText

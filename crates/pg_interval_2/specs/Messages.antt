@@ -13,6 +13,9 @@ not_verbose = codes "not a verbose interval"
 abbrev pub not_sql : List ℕ
 not_sql = codes "not a sql interval"
 
+abbrev pub not_iso_strict : List ℕ
+not_iso_strict = codes "not a strict iso interval"
+
 abbrev pub year_month_overflow : List ℕ
 year_month_overflow = codes "Invalid year/month interval overflow detected."
 

@@ -1,13 +1,15 @@
--- The output styles (PostgreSQL's manual, section 8.5.5): the shape of what each reads, its refusals, and the one text that each writes.
+-- The output styles (PostgreSQL's manual, section 8.5.5), and the strict form of the ISO one, this project's own: the shape of what each
+-- reads, its refusals, and the one text that each writes.
 use Rattle.std.specs.Prelude.{ℕ, List}
 use Rattle.scan_core.specs.Count.{Count}
 use Rattle.pg_interval_2.specs.declared.interval.Interval.{Interval}
 use Rattle.pg_interval_2.specs.declared.style.Style.{Style}
-use Rattle.pg_interval_2.specs.declared.style.Style.TheVariants.{Iso, Postgres, Verbose, Sql}
+use Rattle.pg_interval_2.specs.declared.style.Style.TheVariants.{Iso, Postgres, Verbose, Sql, IsoStrict}
 use Rattle.pg_interval_2.specs.Denotes.{NoPlace}
 use Rattle.pg_interval_2.specs.Iso.{IsIso}
+use Rattle.pg_interval_2.specs.IsoStrict.{IsIsoStrict}
 use Rattle.pg_interval_2.specs.IsoText.{iso_text}
-use Rattle.pg_interval_2.specs.Messages.{not_iso, not_postgres, not_verbose, not_sql}
+use Rattle.pg_interval_2.specs.Messages.{not_iso, not_postgres, not_verbose, not_sql, not_iso_strict}
 use Rattle.pg_interval_2.specs.Postgres.{IsPostgres, IsPostgresBadName}
 use Rattle.pg_interval_2.specs.PostgresText.{postgres_text}
 use Rattle.pg_interval_2.specs.Sql.{IsSql}
@@ -21,6 +23,7 @@ Shape Iso = IsIso
 Shape Postgres = IsPostgres
 Shape Verbose = IsVerbose
 Shape Sql = IsSql
+Shape IsoStrict = IsIsoStrict
 
 -- letters of a text, from start to end, that are a bad name in the style
 abbrev pub IsBadPlace : Style → List ℕ → ℕ → ℕ → Type 0
@@ -28,6 +31,7 @@ IsBadPlace Iso = NoPlace
 IsBadPlace Postgres = IsPostgresBadName
 IsBadPlace Verbose = IsVerboseBadName
 IsBadPlace Sql = NoPlace
+IsBadPlace IsoStrict = NoPlace
 
 -- the message for a text that isn't in the style
 abbrev pub not_in : Style → List ℕ
@@ -35,6 +39,7 @@ not_in Iso = not_iso
 not_in Postgres = not_postgres
 not_in Verbose = not_verbose
 not_in Sql = not_sql
+not_in IsoStrict = not_iso_strict
 
 -- the written text of an interval
 abbrev pub written : Style → Interval → List ℕ
@@ -42,3 +47,4 @@ written Iso t = iso_text t.months t.days t.microseconds
 written Postgres t = postgres_text t.months t.days t.microseconds
 written Verbose t = verbose_text t.months t.days t.microseconds
 written Sql t = sql_text t.months t.days t.microseconds
+written IsoStrict t = iso_text t.months t.days t.microseconds

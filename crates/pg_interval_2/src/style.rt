@@ -1,5 +1,5 @@
-//! The output styles of PostgreSQL.
-/// An output style of PostgreSQL, as its setting `IntervalStyle` names them.
+//! The styles of intervals.
+/// A style of intervals: an output style of PostgreSQL, as its setting `IntervalStyle` names it, or the strict form of its ISO style.
 #[derive(Clone, Copy, Debug, PartialEq, Eq)]
 pub enum Style {
     /// `iso_8601`: `P1Y2M3DT4H5M6S`.
@@ -10,4 +10,6 @@ pub enum Style {
     Verbose,
     /// `sql_standard`: `+1-2 +3 +4:05:06`.
     Sql,
+    /// `iso_8601` with the units in one order, each once at most: `P1Y2M3W4DT5H6M7S`. It is written as `Style::Iso` is.
+    IsoStrict,
 }
