@@ -1,12 +1,12 @@
 -- A name is one form's.
 use Rattle.std.proofs.Common.{◌≡◌, ◌==◌, ◌&&◌, ℕ, Bool, true, false, cond, List, [], ◌∷◌, Option, Some, None, refl, sym, ◌∙◌, ap}
 use Rattle.forms.specs.declared.form.Form.{Form}
-use Rattle.forms.specs.declared.form.Form.TheVariants.{FileTime, IsoDateTime, IsoDate, IsoDuration, Toml, Fancy, PgIso, Postgres, PgVerbose, PgSql}
+use Rattle.forms.specs.declared.form.Form.TheVariants.{FileTime, IsoDateTime, IsoDate, IsoDuration, Toml, Fancy, PgIso, Postgres, PgVerbose, PgSql, IsoStrict}
 use Rattle.forms.specs.Names.{name_of}
 
 -- all forms
 abbrev forms : List Form
-forms = FileTime ∷ IsoDateTime ∷ IsoDate ∷ IsoDuration ∷ Toml ∷ Fancy ∷ PgIso ∷ Postgres ∷ PgVerbose ∷ PgSql ∷ []
+forms = FileTime ∷ IsoDateTime ∷ IsoDate ∷ IsoDuration ∷ Toml ∷ Fancy ∷ PgIso ∷ Postgres ∷ PgVerbose ∷ PgSql ∷ IsoStrict ∷ []
 
 abbrev same_bytes : List ℕ → List ℕ → Bool
 same_bytes [] [] = true
@@ -30,6 +30,7 @@ finds_form PgIso = refl
 finds_form Postgres = refl
 finds_form PgVerbose = refl
 finds_form PgSql = refl
+finds_form IsoStrict = refl
 
 pub one_form : (f g : Form) → name_of f ≡ name_of g → f ≡ g
 one_form f g same =

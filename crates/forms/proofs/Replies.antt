@@ -10,7 +10,7 @@ use Rattle.pg_interval_2.specs.Styles.{Shape, written}
 use Rattle.forms.specs.declared.cause.Cause.{Cause}
 use Rattle.forms.specs.declared.cause.Cause.TheVariants.{Syntax, Range}
 use Rattle.forms.specs.declared.form.Form.{Form}
-use Rattle.forms.specs.declared.form.Form.TheVariants.{PgIso, Postgres, PgVerbose, PgSql}
+use Rattle.forms.specs.declared.form.Form.TheVariants.{PgIso, Postgres, PgVerbose, PgSql, IsoStrict}
 use Rattle.forms.specs.declared.value.Value.{Value}
 use Rattle.forms.specs.Answers.{Is, ReadsBy, result_map, WritesBy, Then}
 use Rattle.forms.specs.Forms.{Writes}
@@ -72,6 +72,7 @@ of_style PgIso s h = let e : style.Iso ≡ s = cc in subst (HasStyle PgIso) e (r
 of_style Postgres s h = let e : style.Postgres ≡ s = cc in subst (HasStyle Postgres) e (record { reads = λ text a r. r; read = λ text a r. r; writes = λ value a w. w; written = λ value a w. w })
 of_style PgVerbose s h = let e : style.Verbose ≡ s = cc in subst (HasStyle PgVerbose) e (record { reads = λ text a r. r; read = λ text a r. r; writes = λ value a w. w; written = λ value a w. w })
 of_style PgSql s h = let e : style.Sql ≡ s = cc in subst (HasStyle PgSql) e (record { reads = λ text a r. r; read = λ text a r. r; writes = λ value a w. w; written = λ value a w. w })
+of_style IsoStrict s h = let e : style.IsoStrict ≡ s = cc in subst (HasStyle IsoStrict) e (record { reads = λ text a r. r; read = λ text a r. r; writes = λ value a w. w; written = λ value a w. w })
 of_style _ s h = absurd (let e : None ≡ Some s = h in cc)
 
 then_writes : (to : Form) (t : Style) → HasStyle to t → (value : Result Value Cause) (answer : Result (List ℕ) Cause) → (Then (WritesBy (Is held) (written t)) value answer → Then (Writes to) value answer) × (Then (Writes to) value answer → Then (WritesBy (Is held) (written t)) value answer)

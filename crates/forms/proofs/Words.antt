@@ -3,7 +3,7 @@ use Rattle.std.proofs.Common.{◌≡◌, ◌≢◌, ℕ, suc, ◌<◌, ◌==◌,
 use Rattle.std.specs.Prelude.{unwrap_or}
 use Rattle.std.proofs.lemmas.Bool.Decides.{nat_tests}
 use Rattle.forms.specs.declared.form.Form.{Form}
-use Rattle.forms.specs.declared.form.Form.TheVariants.{FileTime, IsoDateTime, IsoDate, IsoDuration, Toml, Fancy, PgIso, Postgres, PgVerbose, PgSql}
+use Rattle.forms.specs.declared.form.Form.TheVariants.{FileTime, IsoDateTime, IsoDate, IsoDuration, Toml, Fancy, PgIso, Postgres, PgVerbose, PgSql, IsoStrict}
 use Rattle.forms.specs.Names.{name_of}
 use Rattle.forms.specs.Replies.{IsTail}
 use Rattle.forms.specs.inside.Reading.{NoSpace, behind, IsNamed}
@@ -43,6 +43,7 @@ spaceless PgIso = refl
 spaceless Postgres = refl
 spaceless PgVerbose = refl
 spaceless PgSql = refl
+spaceless IsoStrict = refl
 
 name_no_space : (form : Form) → NoSpace (name_of form)
 name_no_space form = no_space_tested (name_of form) (spaceless form)

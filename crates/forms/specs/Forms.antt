@@ -8,7 +8,7 @@ use Rattle.pg_interval_2.specs.Styles.{Shape, written}
 use Rattle.pg_interval_2.specs.declared.style.Style.TheVariants as style
 use Rattle.forms.specs.declared.cause.Cause.{Cause}
 use Rattle.forms.specs.declared.form.Form.{Form}
-use Rattle.forms.specs.declared.form.Form.TheVariants.{FileTime, IsoDateTime, IsoDate, IsoDuration, Toml, Fancy, PgIso, Postgres, PgVerbose, PgSql}
+use Rattle.forms.specs.declared.form.Form.TheVariants.{FileTime, IsoDateTime, IsoDate, IsoDuration, Toml, Fancy, PgIso, Postgres, PgVerbose, PgSql, IsoStrict}
 use Rattle.forms.specs.declared.value.Value.{Value}
 use Rattle.forms.specs.Answers.{Is, ReadsBy, WritesBy}
 use Rattle.forms.specs.form.FileTime as file_time
@@ -31,6 +31,7 @@ Reads PgIso = ReadsBy (Shape style.Iso) (Is interval.worth)
 Reads Postgres = ReadsBy (Shape style.Postgres) (Is interval.worth)
 Reads PgVerbose = ReadsBy (Shape style.Verbose) (Is interval.worth)
 Reads PgSql = ReadsBy (Shape style.Sql) (Is interval.worth)
+Reads IsoStrict = ReadsBy (Shape style.IsoStrict) (Is interval.worth)
 
 -- the written text of a value in the form, or the cause why there is none
 abbrev pub Writes : Form → Value → Result (List ℕ) Cause → Type 0
@@ -44,3 +45,4 @@ Writes PgIso = WritesBy (Is interval.held) (written style.Iso)
 Writes Postgres = WritesBy (Is interval.held) (written style.Postgres)
 Writes PgVerbose = WritesBy (Is interval.held) (written style.Verbose)
 Writes PgSql = WritesBy (Is interval.held) (written style.Sql)
+Writes IsoStrict = WritesBy (Is interval.held) (written style.IsoStrict)

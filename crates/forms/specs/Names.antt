@@ -1,9 +1,9 @@
--- The forms and the causes by name, and the interval forms, which are the styles of PostgreSQL.
+-- The forms and the causes by name, and the interval forms, which are the styles of intervals.
 use Rattle.std.specs.Prelude.{ℕ, Bool, true, false, List, codes, Option, Some, None}
 use Rattle.pg_interval_2.specs.declared.style.Style.{Style}
 use Rattle.pg_interval_2.specs.declared.style.Style.TheVariants as style
 use Rattle.forms.specs.declared.form.Form.{Form}
-use Rattle.forms.specs.declared.form.Form.TheVariants.{FileTime, IsoDateTime, IsoDate, IsoDuration, Toml, Fancy, PgIso, Postgres, PgVerbose, PgSql}
+use Rattle.forms.specs.declared.form.Form.TheVariants.{FileTime, IsoDateTime, IsoDate, IsoDuration, Toml, Fancy, PgIso, Postgres, PgVerbose, PgSql, IsoStrict}
 use Rattle.forms.specs.declared.cause.Cause.{Cause}
 use Rattle.forms.specs.declared.cause.Cause.TheVariants.{Syntax, NoSuchMoment, Range, Kind, Precision, Ambiguous}
 
@@ -19,6 +19,7 @@ name_of PgIso = codes "PgIso"
 name_of Postgres = codes "Postgres"
 name_of PgVerbose = codes "PgVerbose"
 name_of PgSql = codes "PgSql"
+name_of IsoStrict = codes "IsoStrict"
 
 -- the style of an interval form
 abbrev pub style_of : Form → Option Style
@@ -26,6 +27,7 @@ style_of PgIso = Some style.Iso
 style_of Postgres = Some style.Postgres
 style_of PgVerbose = Some style.Verbose
 style_of PgSql = Some style.Sql
+style_of IsoStrict = Some style.IsoStrict
 style_of _ = None
 
 -- the forms whose texts can be read by counted looks alone: the interval forms, and durations of ISO 8601
@@ -35,6 +37,7 @@ is_counted PgIso = true
 is_counted Postgres = true
 is_counted PgVerbose = true
 is_counted PgSql = true
+is_counted IsoStrict = true
 is_counted _ = false
 
 -- a cause's name

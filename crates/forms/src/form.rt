@@ -34,6 +34,8 @@ pub enum Form {
     PgVerbose,
     /// PostgreSQL's intervals in style `sql_standard`: `+1-2 +3 +4:05:06`.
     PgSql,
+    /// Intervals as in `PgIso`, with the units in one order and each once at most: `P1Y2M3W4DT5H6M7S`.
+    IsoStrict,
 }
 
 impl Form {
@@ -52,6 +54,7 @@ impl Form {
             "Postgres" => Some(Form::Postgres),
             "PgVerbose" => Some(Form::PgVerbose),
             "PgSql" => Some(Form::PgSql),
+            "IsoStrict" => Some(Form::IsoStrict),
             _ => None,
         }
     }
@@ -71,6 +74,7 @@ impl Form {
             Form::Postgres => "Postgres",
             Form::PgVerbose => "PgVerbose",
             Form::PgSql => "PgSql",
+            Form::IsoStrict => "IsoStrict",
         }
     }
 
@@ -79,8 +83,12 @@ impl Form {
         ensures { result ≡ is_counted self }
     {
         match self {
-            Form::IsoDuration | Form::PgIso | Form::Postgres | Form::PgVerbose | Form::PgSql =>
-                true,
+            Form::IsoDuration
+            | Form::PgIso
+            | Form::Postgres
+            | Form::PgVerbose
+            | Form::PgSql
+            | Form::IsoStrict => true,
             Form::FileTime | Form::IsoDateTime | Form::IsoDate | Form::Toml | Form::Fancy => false,
         }
     }

@@ -76,6 +76,7 @@ fn read(form: Form, text: &str) -> Result<Value, Cause>
         Form::Postgres => intervals::read(Style::Postgres, text),
         Form::PgVerbose => intervals::read(Style::Verbose, text),
         Form::PgSql => intervals::read(Style::Sql, text),
+        Form::IsoStrict => intervals::read(Style::IsoStrict, text),
     }
 }
 
@@ -112,6 +113,7 @@ fn read_by_looks<L: Ledger>(
         Form::Postgres => intervals::read_counted(Style::Postgres, text, steps),
         Form::PgVerbose => intervals::read_counted(Style::Verbose, text, steps),
         Form::PgSql => intervals::read_counted(Style::Sql, text, steps),
+        Form::IsoStrict => intervals::read_counted(Style::IsoStrict, text, steps),
         Form::FileTime | Form::IsoDateTime | Form::IsoDate | Form::Toml | Form::Fancy =>
             unreachable!(),
     }
@@ -134,5 +136,6 @@ fn write(form: Form, value: Value) -> Result<Short, Cause>
         Form::Postgres => intervals::write(Style::Postgres, value),
         Form::PgVerbose => intervals::write(Style::Verbose, value),
         Form::PgSql => intervals::write(Style::Sql, value),
+        Form::IsoStrict => intervals::write(Style::IsoStrict, value),
     }
 }

@@ -56,7 +56,7 @@ same_place_test Minute = refl
 same_place_test Second = refl
 
 -- units at one place are one
-same_unit : (a b : TimeUnit) → place_of a ≡ place_of b → a ≡ b
+pub same_unit : (a b : TimeUnit) → place_of a ≡ place_of b → a ≡ b
 same_unit a b h = sym (at_place a) ∙ ap unit_at h ∙ at_place b
 
 -- the units of one more count

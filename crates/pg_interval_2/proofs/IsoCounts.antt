@@ -65,20 +65,32 @@ abbrev pub IsRest : List ℕ → List Count → List Count → Type 0
 IsRest rest dates counts =
     ((rest ≡ []) × (counts ≡ dates)) ⊎ ((time : List ℕ) × (times : List Count) × (rest ≡ codes "T" ++ time) × ArePairs (unit_in true) time times × (counts ≡ dates ++ times))
 
-pub behind_dates : (text front rest : List ℕ) (dates counts : List Count) → ArePairs (unit_in false) front dates → read_pair (unit_in false) rest ≡ None
-    → text ≡ codes "P" ++ (front ++ rest) → IsIso text counts → IsRest rest dates counts
-behind_dates text front rest dates counts pairs stuck spelled (inl alone) =
+-- the same, of the counts by which the text has the shape
+abbrev pub RestIs : (text : List ℕ) (counts : List Count) → IsIso text counts → List ℕ → List Count → Type 0
+RestIs text counts (inl alone) rest dates = (rest ≡ []) × (dates ≡ counts)
+RestIs text counts (inr timed) rest dates = (rest ≡ codes "T" ++ timed.time) × (dates ≡ timed.date_counts)
+
+pub rest_is : (text front rest : List ℕ) (dates counts : List Count) → ArePairs (unit_in false) front dates → read_pair (unit_in false) rest ≡ None
+    → text ≡ codes "P" ++ (front ++ rest) → (iso : IsIso text counts) → RestIs text counts iso rest dates
+rest_is text front rest dates counts pairs stuck spelled (inl alone) =
     let whole : codes "P" ++ (front ++ rest) ≡ codes "P" ++ alone.0 = sym spelled ∙ alone.3 in
     let tails : front ++ rest ≡ alone.0 = cc in
     let same : front ++ rest ≡ alone.0 ++ [] = tails ∙ sym (append-nil alone.0) in
     let both = join_same (IsPair (unit_in false)) (read_pair (unit_in false)) (finds_pair false) front alone.0 rest [] dates counts pairs alone.1 same stuck (nothing_read false) in
-    inl (both.1, sym both.0)
-behind_dates text front rest dates counts pairs stuck spelled (inr timed) =
+    (both.1, both.0)
+rest_is text front rest dates counts pairs stuck spelled (inr timed) =
     let whole : codes "P" ++ (front ++ rest) ≡ codes "P" ++ (timed.date ++ (codes "T" ++ timed.time)) = sym spelled ∙ timed.spelled in
     let same : front ++ rest ≡ timed.date ++ (codes "T" ++ timed.time) = cc in
     let both = join_same (IsPair (unit_in false)) (read_pair (unit_in false)) (finds_pair false) front timed.date rest (codes "T" ++ timed.time) dates timed.date_counts
     pairs timed.dates same stuck (time_ends timed.time) in
-    inr (timed.time, timed.time_counts, both.1, timed.times, timed.counted ∙ ap (λ (l : List Count). l ++ timed.time_counts) (sym both.0))
+    (both.1, both.0)
+
+pub behind_dates : (text front rest : List ℕ) (dates counts : List Count) → ArePairs (unit_in false) front dates → read_pair (unit_in false) rest ≡ None
+    → text ≡ codes "P" ++ (front ++ rest) → IsIso text counts → IsRest rest dates counts
+behind_dates text front rest dates counts pairs stuck spelled (inl alone) = let is = rest_is text front rest dates counts pairs stuck spelled (inl alone) in inl (is.0, sym is.1)
+behind_dates text front rest dates counts pairs stuck spelled (inr timed) =
+    let is = rest_is text front rest dates counts pairs stuck spelled (inr timed) in
+    inr (timed.time, timed.time_counts, is.0, timed.times, timed.counted ∙ ap (λ (l : List Count). l ++ timed.time_counts) (sym is.1))
 
 pub no_time : (time : List ℕ) → codes "T" ++ time ≡ [] → ⊥
 no_time time h = cc

@@ -24,7 +24,7 @@ week_append xs ys = list_any-append (λ byte. byte == 87) xs ys
 apart : (whole xs ys : List ℕ) → has_week whole ≡ false → whole ≡ xs ++ ys → (has_week xs ≡ false) × (has_week ys ≡ false)
 apart whole xs ys none split = neither (has_week xs) (has_week ys) (sym (ap has_week split ∙ week_append xs ys) ∙ none)
 
--- without the letter, and_parts tables mean the same
+-- without the letter, both tables mean the same
 same_unit : (in_time : Bool) (letter : ℕ) → (letter == 87) ≡ false → unit_in in_time letter ≡ unit_without_weeks in_time letter
 same_unit false letter other = rw other refl
 same_unit true letter other = rw other refl

@@ -17,7 +17,10 @@ pub mod PostgresReadBack
 pub mod Numbers
 pub mod IsoCounts
 pub mod TallyFacts
+pub mod CountedFacts
+pub mod OrderFacts
 pub mod IsoSteps
+pub mod IsoOrder
 pub mod Answering
 pub mod ItemFacts
 pub mod ItemsInFront
@@ -29,9 +32,9 @@ pub mod BadNames
 pub mod NoItems
 pub mod PostgresCounts
 pub mod UnitFacts
-pub mod CountedFacts
 pub mod ItemSteps
 pub mod ItemEnds
+pub mod IsoStrictFacts
 pub mod OneList
 pub mod SqlWords
 pub mod SqlCounts

@@ -2,12 +2,13 @@
 use Rattle.std.proofs.Common.{◌≡◌, ℕ, List}
 use Rattle.scan_core.specs.Count.{Count}
 use Rattle.pg_interval_2.specs.declared.style.Style.{Style}
-use Rattle.pg_interval_2.specs.declared.style.Style.TheVariants.{Iso, Postgres, Verbose, Sql}
+use Rattle.pg_interval_2.specs.declared.style.Style.TheVariants.{Iso, Postgres, Verbose, Sql, IsoStrict}
 use Rattle.pg_interval_2.specs.Styles.{IsBadPlace, Shape}
 use Rattle.pg_interval_2.specs.UnitNames.{postgres_names}
 use Rattle.pg_interval_2.proofs.Answering.{IsPlaces}
 use Rattle.pg_interval_2.proofs.BadNames.{no_shape_at_bad_name, one_bad_name}
 use Rattle.pg_interval_2.proofs.IsoCounts.{one_list as iso}
+use Rattle.pg_interval_2.proofs.IsoStrictFacts.{one_list as strict}
 use Rattle.pg_interval_2.proofs.PostgresCounts.{are_names, one_list as postgres}
 use Rattle.pg_interval_2.proofs.SqlCounts.{one_list as sql}
 use Rattle.pg_interval_2.proofs.VerboseBadNames.{no_shape_at_bad, one_bad}
@@ -18,6 +19,7 @@ one_list Iso = iso
 one_list Postgres = postgres
 one_list Verbose = verbose
 one_list Sql = sql
+one_list IsoStrict = strict
 
 -- in each style a bad place leaves a text without a shape, and it has one at most
 pub places : (style : Style) → IsPlaces (Shape style) (IsBadPlace style)
@@ -25,3 +27,4 @@ places Iso = record { none = λ text start end counts bad shape. bad; one = λ t
 places Postgres = record { none = no_shape_at_bad_name postgres_names are_names; one = one_bad_name postgres_names are_names }
 places Verbose = record { none = no_shape_at_bad; one = one_bad }
 places Sql = record { none = λ text start end counts bad shape. bad; one = λ text s e t f bad other. absurd bad }
+places IsoStrict = record { none = λ text start end counts bad shape. bad; one = λ text s e t f bad other. absurd bad }

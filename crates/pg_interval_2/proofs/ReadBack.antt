@@ -2,11 +2,11 @@
 use Rattle.std.proofs.Common.{◌≡◌}
 use Rattle.pg_interval_2.specs.declared.interval.Interval.{Interval}
 use Rattle.pg_interval_2.specs.declared.style.Style.{Style}
-use Rattle.pg_interval_2.specs.declared.style.Style.TheVariants.{Iso, Postgres, Verbose, Sql}
+use Rattle.pg_interval_2.specs.declared.style.Style.TheVariants.{Iso, Postgres, Verbose, Sql, IsoStrict}
 use Rattle.pg_interval_2.specs.Denotes.{Denotes}
 use Rattle.pg_interval_2.specs.Ranges.{IsInRange}
 use Rattle.pg_interval_2.specs.Styles.{Shape, written}
-use Rattle.pg_interval_2.proofs.IsoReadBack.{iso_denotes, iso_alone}
+use Rattle.pg_interval_2.proofs.IsoReadBack.{iso_denotes, iso_alone, strict_denotes, strict_alone}
 use Rattle.pg_interval_2.proofs.PostgresReadBack.{postgres_denotes, postgres_alone}
 use Rattle.pg_interval_2.proofs.SqlReadBack.{sql_denotes, sql_alone}
 use Rattle.pg_interval_2.proofs.VerboseReadBack.{verbose_denotes, verbose_alone}
@@ -16,9 +16,11 @@ denotes Iso = iso_denotes
 denotes Postgres = postgres_denotes
 denotes Verbose = verbose_denotes
 denotes Sql = sql_denotes
+denotes IsoStrict = strict_denotes
 
 pub alone : (style : Style) (t u : Interval) → IsInRange t → Denotes (Shape style) (written style t) u → u ≡ t
 alone Iso = iso_alone
 alone Postgres = postgres_alone
 alone Verbose = verbose_alone
 alone Sql = sql_alone
+alone IsoStrict = strict_alone

@@ -4,6 +4,7 @@ pub mod Reading
 pub mod ItemReading
 pub mod ItemViews
 pub mod Tallies
+pub mod Orders
 pub mod IsoTally
 pub mod UnitSets
 pub mod NameSets

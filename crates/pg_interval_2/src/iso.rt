@@ -3,13 +3,14 @@ ghost use Rattle.std.specs.Prelude.{◌≡◌, ◌+◌, ◌*◌, ◌-◌, ◌<�
 ghost use Rattle.scan_core.specs.Scanning.{Spends, ahead, unseen};
 ghost use Rattle.pg_interval_2.specs.Denotes.{Denotes, HasNoShape, NoPlace, Refuses};
 ghost use Rattle.pg_interval_2.specs.Iso.{IsIso, unit_in};
-ghost use Rattle.pg_interval_2.specs.inside.IsoTally.{IsTallied, StopsBehindPairs, TakesPairs, ends_pairs};
+ghost use Rattle.pg_interval_2.specs.inside.IsoTally.{IsSpelled, StopsBehindPairs, TakesPairs, ends_pairs};
 ghost use Rattle.pg_interval_2.specs.Messages.{not_iso};
 ghost use Rattle.pg_interval_2.specs.inside.Reading.{IsDecimal, count_with, numeral_in, read_pair};
 
 use crate::error::ParseError;
 use crate::interval::Interval;
 use crate::number::{Decimal, number};
+use crate::order::{Order, are_kept};
 use crate::reading::read_alone;
 use crate::style::Style;
 use crate::tally::Tally;
@@ -69,10 +70,20 @@ fn ends_pairs(scan: &Scan<'_>) -> bool
     }
 }
 
-/// Takes the pairs up to the end or a `T` into the tally, and answers whether nothing else stands there.
+/// What a text in ISO style spells.
+#[derive(Clone, Copy)]
+pub(crate) struct OrderedTally {
+    /// The tally of its counts.
+    pub(crate) tally: Tally,
+    /// Whether its units stand in the order of the strict style, and one at least behind a `T`.
+    pub(crate) in_order: bool,
+}
+
+/// Takes the pairs up to the end or a `T` into the tally and the order, and answers whether nothing else stands there.
 #[inline(always)]
 fn take_pairs<L: Ledger>(
     tally: &mut Tally,
+    order: &mut Order,
     in_time: bool,
     scan: &mut Scan<'_>,
     steps: &mut Steps<L>,
@@ -81,9 +92,9 @@ fn take_pairs<L: Ledger>(
     ensures room { tally.new.totals.adds + length (ahead scan.new)
         ≤ tally.old.totals.adds + length (ahead scan.old) }
     ensures taken { result ≡ true
-        → TakesPairs in_time (ahead scan.old) (ahead scan.new) tally.old tally.new }
+        → TakesPairs in_time (ahead scan.old) (ahead scan.new) tally.old tally.new order.old order.new }
     ensures ends { result ≡ true → ends_pairs (ahead scan.new) ≡ true }
-    ensures stops { result ≡ false → StopsBehindPairs in_time (ahead scan.old) tally.old }
+    ensures stops { result ≡ false → StopsBehindPairs in_time (ahead scan.old) tally.old order.old }
     ensures same { scan.new.text ≡ scan.old.text }
     ensures spends { Spends steps.old (ahead scan.old) steps.new (ahead scan.new) }
 {
@@ -92,15 +103,16 @@ fn take_pairs<L: Ledger>(
             Some(pair) => pair,
             None => return false,
         };
+        order.take(in_time, unit);
         tally.add(scan.text(), number, unit, steps);
     }
     true
 }
 
-/// The tally of the counts that the text spells, or None exactly where it has no shape.
+/// What the text spells, or None exactly where it has no shape.
 #[inline(always)]
-fn tally_of<L: Ledger>(text: &Looked<'_>, steps: &mut Steps<L>) -> Option<Tally>
-    ensures some { IfSome result (IsTallied text.now) }
+pub(crate) fn spelled<L: Ledger>(text: &Looked<'_>, steps: &mut Steps<L>) -> Option<OrderedTally>
+    ensures some { IfSome result (IsSpelled text.now) }
     ensures none { IfNone result (HasNoShape IsIso text.now) }
     ensures most { steps.new ≤ steps.old + 2 * length text.now }
     ensures least { IfSome result (λ _. steps.old + length text.now ≤ steps.new) }
@@ -113,17 +125,30 @@ fn tally_of<L: Ledger>(text: &Looked<'_>, steps: &mut Steps<L>) -> Option<Tally>
         return None;
     }
     let mut tally = Tally::new();
-    if !take_pairs(&mut tally, false, &mut scan, steps) {
+    let mut dates = Order::new(false);
+    if !take_pairs(&mut tally, &mut dates, false, &mut scan, steps) {
         return None;
     }
     if scan.is_done() {
-        return Some(tally);
+        return Some(OrderedTally {
+            tally,
+            in_order: dates.is_kept(),
+        });
     }
     scan.next(steps);
-    if !take_pairs(&mut tally, true, &mut scan, steps) {
+    let bare = scan.is_done();
+    let mut times = Order::new(true);
+    if !take_pairs(&mut tally, &mut times, true, &mut scan, steps) {
         return None;
     }
-    if scan.is_done() { Some(tally) } else { None }
+    if scan.is_done() {
+        Some(OrderedTally {
+            tally,
+            in_order: are_kept(&dates, &times, bare),
+        })
+    } else {
+        None
+    }
 }
 
 /// What `Interval::from_iso` answers, with at most two looks a byte, and with one at least where it is Ok.
@@ -136,8 +161,8 @@ pub(crate) fn read_iso<L: Ledger>(
     ensures most { steps.new ≤ steps.old + 2 * length text.now }
     ensures least { IfOk result (λ _. steps.old + length text.now ≤ steps.new) }
 {
-    match tally_of(text, steps) {
-        Some(tally) => tally.answer(),
+    match spelled(text, steps) {
+        Some(spelled) => spelled.tally.answer(),
         None => Err(ParseError::InvalidInterval("not an iso interval")),
     }
 }

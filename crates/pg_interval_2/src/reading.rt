@@ -7,6 +7,7 @@ ghost use Rattle.pg_interval_2.specs.Styles.{IsBadPlace, Shape, not_in};
 use crate::error::ParseError;
 use crate::interval::Interval;
 use crate::iso::read_iso;
+use crate::iso_strict::read_iso_strict;
 use crate::postgres::read_postgres;
 use crate::sql::read_sql;
 use crate::style::Style;
@@ -57,6 +58,7 @@ fn read_style<L: Ledger>(
         Style::Postgres => read_postgres(text, steps),
         Style::Verbose => read_verbose(text, steps),
         Style::Sql => read_sql(text, steps),
+        Style::IsoStrict => read_iso_strict(text, steps),
     }
 }
 

@@ -41,8 +41,8 @@ impl Units {
     }
 }
 
-/// The place of a unit among the seven.
-fn place_of(unit: Unit) -> u8
+/// The place of a unit among the seven, the longest first.
+pub(crate) fn place_of(unit: Unit) -> u8
     ensures { result ≡ place_of unit }
 {
     match unit {

@@ -1,4 +1,4 @@
--- The interval forms, each an output style of PostgreSQL: counts of units, whose sums are an interval.
+-- The interval forms, each a style of intervals: counts of units, whose sums are an interval.
 use Rattle.std.specs.Prelude.{ℕ, ◌/◌, ◌%◌, ◌==◌, ◌&&◌, List, ℤ, pos, Result, Ok, Err, if◌then◌else◌}
 use Rattle.scan_core.specs.Count.{Count}
 use Rattle.scan_core.specs.Shares.{fits_type}

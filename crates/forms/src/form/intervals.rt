@@ -1,4 +1,4 @@
-//! The interval forms, each a style of PostgreSQL.
+//! The interval forms, each a style of intervals.
 ghost use Rattle.std.specs.Prelude.{◌≡◌, ◌+◌, ◌*◌, ◌<◌, ◌≤◌, IfOk, length};
 ghost use Rattle.arrayvec.specs.ArrayString.{array_string_len};
 ghost use Rattle.pg_interval_2.specs.Styles.{Shape, written};
@@ -113,6 +113,7 @@ pub fn lawful()
     ensures postgres { Lawful AnyForm.Postgres }
     ensures pg_verbose { Lawful AnyForm.PgVerbose }
     ensures pg_sql { Lawful AnyForm.PgSql }
+    ensures iso_strict { Lawful AnyForm.IsoStrict }
 {
     pg_interval_2::laws::text_has_one_list_of_counts();
     pg_interval_2::laws::written_text_is_read_back();

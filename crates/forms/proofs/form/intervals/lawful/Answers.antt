@@ -1,4 +1,4 @@
-use Rattle.pg_interval_2.specs.declared.style.Style.TheVariants.{Iso, Postgres, Verbose, Sql}
+use Rattle.pg_interval_2.specs.declared.style.Style.TheVariants.{Iso, Postgres, Verbose, Sql, IsoStrict}
 use Rattle.forms.specs.declared.form.Form.TheVariants as form
 use Rattle.forms.proofs.Intervals.{intervals}
 use Rattle.forms.proofs.Replies.{of_style}
@@ -16,3 +16,6 @@ returns-clause-pg_verbose c = intervals form.PgVerbose Verbose (of_style form.Pg
 
 pub returns-clause-pg_sql : goal.returns-clause-pg_sql
 returns-clause-pg_sql c = intervals form.PgSql Sql (of_style form.PgSql Sql refl) (c.text_has_one_list_of_counts.ensures Sql) (c.written_text_is_read_back.ensures.denotes Sql)
+
+pub returns-clause-iso_strict : goal.returns-clause-iso_strict
+returns-clause-iso_strict c = intervals form.IsoStrict IsoStrict (of_style form.IsoStrict IsoStrict refl) (c.text_has_one_list_of_counts.ensures IsoStrict) (c.written_text_is_read_back.ensures.denotes IsoStrict)

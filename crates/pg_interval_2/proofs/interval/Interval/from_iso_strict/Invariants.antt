@@ -1,0 +1,4 @@
+use Rattle.pg_interval_2.proofs.interval.Interval.from_iso_strict.Given as goal
+
+abbrev pub ghosts-read_alone : goal.ghosts-read_alone
+ghosts-read_alone a = record { name = a.blank.name; parts = a.blank.parts }

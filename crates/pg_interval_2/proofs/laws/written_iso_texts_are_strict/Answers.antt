@@ -1,0 +1,5 @@
+use Rattle.pg_interval_2.proofs.IsoReadBack.{strict_denotes}
+use Rattle.pg_interval_2.proofs.laws.written_iso_texts_are_strict.Goals as goal
+
+pub returns : goal.returns
+returns c = strict_denotes

@@ -1,0 +1,102 @@
+//! The strict ISO style, `P1Y2M3W4DT5H6M7S`: texts in ISO style whose units stand in one order.
+ghost use Rattle.std.specs.Prelude.{◌≡◌, ◌+◌, ◌*◌, ◌≤◌, length, IfOk, IfErr};
+ghost use Rattle.pg_interval_2.specs.Denotes.{Denotes, NoPlace, Refuses};
+ghost use Rattle.pg_interval_2.specs.IsoStrict.{IsIsoStrict};
+ghost use Rattle.pg_interval_2.specs.Messages.{not_iso_strict};
+
+use crate::error::ParseError;
+use crate::interval::Interval;
+use crate::iso::spelled;
+use crate::reading::read_alone;
+use crate::style::Style;
+use scan_core::{Looked, Steps};
+use std::marker::Brand;
+use std::sync::ledger::{Blank, Ledger};
+
+/// What `Interval::from_iso_strict` answers, with at most two looks a byte, and with one at least where it is Ok.
+pub(crate) fn read_iso_strict<L: Ledger>(
+    text: &Looked<'_>,
+    steps: &mut Steps<L>,
+) -> Result<Interval, ParseError>
+    ensures ok { IfOk result (λ t. Denotes IsIsoStrict text.now t) }
+    ensures err { IfErr result (λ e. Refuses IsIsoStrict NoPlace not_iso_strict text.now e) }
+    ensures most { steps.new ≤ steps.old + 2 * length text.now }
+    ensures least { IfOk result (λ _. steps.old + length text.now ≤ steps.new) }
+{
+    match spelled(text, steps) {
+        Some(spelled) if spelled.in_order => spelled.tally.answer(),
+        _ => Err(ParseError::InvalidInterval("not a strict iso interval")),
+    }
+}
+
+impl Interval {
+    /// The interval that the text denotes in strict ISO style, `Interval::from_iso_strict("P1Y2M3W4DT5H6M7S")`: as
+    /// `Interval::from_iso` reads it, with the letters `Y`, `M`, `W` and `D` before the `T` and `H`, `M` and `S` behind it, in
+    /// this order, each at most once, and at least one of them, and one behind a `T`. Each number may have a minus and a fraction.
+    ///
+    /// `InvalidInterval` exactly where the text isn't in the style, and else `InvalidYearMonth`, `InvalidDay` or
+    /// `InvalidTime` exactly where that part of a count, or of the sum of all counts, is the first that leaves its type.
+    pub fn from_iso_strict(text: &str) -> Result<Interval, ParseError>
+        ensures ok { IfOk result (λ t. Denotes IsIsoStrict text.now t) }
+        ensures all { (t : Interval) → Denotes IsIsoStrict text.now t → result ≡ Ok t }
+        ensures err { IfErr result (λ e. Refuses IsIsoStrict NoPlace not_iso_strict text.now e) }
+    {
+        read_alone::<Brand>(Style::IsoStrict, &Looked::new(text), Blank::new(1))
+    }
+}
+
+#[cfg(test)]
+mod tests {
+    use super::*;
+    use std::test::Fail;
+
+    #[test]
+    fn reads_units_in_order(rt: HostRuntime) -> Result<(), Fail> {
+        for (text, want) in [
+            ("P1Y2M3W4DT5H6M7S", (14, 25, 18_367_000_000)),
+            ("P1Y", (12, 0, 0)),
+            ("P3W", (0, 21, 0)),
+            ("P1YT7S", (12, 0, 7_000_000)),
+            ("P1Y4D", (12, 4, 0)),
+            ("PT5H", (0, 0, 18_000_000_000)),
+            ("PT0S", (0, 0, 0)),
+            ("P-1Y2M", (-10, 0, 0)),
+            ("P-1.5Y", (-18, 0, 0)),
+            ("P1.5Y1.5M", (19, 15, 0)),
+            ("PT-.5S", (0, 0, -500_000)),
+            ("P306783378W1D", (0, i32::MAX, 0)),
+        ] {
+            let want = Interval::new(want.0, want.1, want.2);
+            assert_eq!(rt; Interval::from_iso_strict(text), Ok(want), "at {text}");
+        }
+        Ok(())
+    }
+
+    #[test]
+    fn refuses_by_cause(rt: HostRuntime) -> Result<(), Fail> {
+        for text in [
+            "", "P", "PT", "P1DT", "P1M1Y", "P1W1M", "P1D1W", "PT1M1H", "PT1S1M", "P1Y1Y", "P1W1W",
+            "PT1H1H", "PT1D", "PT1Y", "PT1W", "P1H", "P1S", "P1H1M", "PT1HT1M", "P+1D", "P1D ",
+        ] {
+            let want = ParseError::InvalidInterval("not a strict iso interval");
+            assert_eq!(rt; Interval::from_iso_strict(text), Err(want), "at {text}");
+        }
+        for (text, want) in [
+            (
+                "P178956971Y-5M",
+                ParseError::InvalidYearMonth("Invalid year/month interval overflow detected."),
+            ),
+            (
+                "P306783378W2D",
+                ParseError::InvalidDay("Invalid day interval overflow detected."),
+            ),
+            (
+                "PT2562047788H54.775808S",
+                ParseError::InvalidTime("Invalid time interval overflow detected."),
+            ),
+        ] {
+            assert_eq!(rt; Interval::from_iso_strict(text), Err(want), "at {text}");
+        }
+        Ok(())
+    }
+}

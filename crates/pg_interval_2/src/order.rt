@@ -1,0 +1,79 @@
+//! The order of units in a strict ISO text, kept beside its reader.
+ghost use Rattle.std.specs.Prelude.{◌≡◌, ◌++◌, ◌∷◌, ◌&&◌, not, nat_le, nat_lt, [], List};
+ghost use Rattle.scan_core.specs.Count.{Count};
+ghost use Rattle.pg_interval_2.specs.inside.Orders.{Orders, end_place, first_place};
+
+use crate::units::place_of;
+use scan_core::Unit;
+
+/// Whether each unit stood behind the one before it, and the place behind the last one.
+#[derive(Clone, Copy)]
+pub(crate) struct Order {
+    kept: bool,
+    least: u8,
+}
+
+impl Order {
+    /// The order of no units, before the `T` or behind it.
+    #[inline(always)]
+    pub(crate) fn new(in_time: bool) -> Order
+        ensures { Orders in_time result [] }
+    {
+        Order {
+            kept: true,
+            least: first_place(in_time),
+        }
+    }
+
+    /// Takes one more unit on the same side.
+    #[inline(always)]
+    pub(crate) fn take(&mut self, in_time: bool, unit: Unit)
+        ensures { (counts : List Count) (c : Count) → c.unit ≡ unit → Orders in_time self.old counts
+            → Orders in_time self.new (counts ++ c ∷ []) }
+    {
+        let place = place_of(unit);
+        self.kept = self.is_kept_by(in_time, place);
+        self.least = place + 1;
+    }
+
+    /// Whether all units came in order, and one at this place does too.
+    #[inline(always)]
+    fn is_kept_by(&self, in_time: bool, place: u8) -> bool
+        ensures { result ≡ (self.now.kept
+            && (nat_le self.now.least place && nat_lt place (end_place in_time))) }
+    {
+        self.kept && self.least <= place && place < end_place(in_time)
+    }
+
+    /// Whether all units came in order.
+    #[inline(always)]
+    pub(crate) fn is_kept(&self) -> bool
+        ensures { result ≡ self.now.kept }
+    {
+        self.kept
+    }
+}
+
+/// Whether the units before a `T` and those behind it came in order, and the text behind it isn't bare.
+#[inline(always)]
+pub(crate) fn are_kept(dates: &Order, times: &Order, bare: bool) -> bool
+    ensures { result ≡ ((dates.now.kept && times.now.kept) && not bare) }
+{
+    dates.kept && times.kept && !bare
+}
+
+/// The place of the first unit that may stand before the `T`, years, or behind it, hours.
+#[inline(always)]
+fn first_place(in_time: bool) -> u8
+    ensures { result ≡ first_place in_time }
+{
+    if in_time { 4 } else { 0 }
+}
+
+/// The place behind that of the last such unit, days or seconds.
+#[inline(always)]
+fn end_place(in_time: bool) -> u8
+    ensures { result ≡ end_place in_time }
+{
+    if in_time { 7 } else { 4 }
+}
