@@ -3,8 +3,9 @@
 
 usage: lines.py KIND N [--from F] [--to T] [--damage K] [--expected FILE] > LINES
 
-KIND sample: intervals, each line from one of the four interval forms to another.
---from and --to hold a side to one of them (PgIso, Postgres, PgVerbose, PgSql).
+KIND sample: intervals, each line from one of PostgreSQL's four forms to another.
+--from and --to hold a side to one of them (PgIso, Postgres, PgVerbose, PgSql) or to
+IsoStrict, whose texts are those of PgIso.
 --expected also writes the replies.
 
 Other kinds, from the same sequence of numbers: IsoDateTime, IsoDuration, IsoDate,
@@ -37,7 +38,7 @@ class Numbers:
         return choices[self.below(len(choices))]
 
 
-# ---- the four interval styles, written
+# ---- the interval styles, written
 
 def quotient(n, by):
     """(quotient, rest), both toward zero."""
@@ -112,7 +113,7 @@ def sql(triple):
     return f"{sign}{d} {clock}" if days else f"{sign}{clock}"
 
 
-WRITERS = dict(zip(STYLES, (iso, postgres, verbose, sql)))
+WRITERS = dict(zip(STYLES, (iso, postgres, verbose, sql)), IsoStrict=iso)
 
 
 def sample(args, out, expected):
@@ -236,8 +237,8 @@ def main():
                                     formatter_class=argparse.RawDescriptionHelpFormatter)
     words.add_argument("kind", choices=["sample", *TEXTS], metavar="KIND")
     words.add_argument("n", type=int, metavar="N")
-    words.add_argument("--from", dest="source", choices=STYLES)
-    words.add_argument("--to", dest="target", choices=STYLES)
+    words.add_argument("--from", dest="source", choices=WRITERS)
+    words.add_argument("--to", dest="target", choices=WRITERS)
     words.add_argument("--damage", type=int, default=10)
     words.add_argument("--expected")
     args = words.parse_args()

@@ -27,6 +27,15 @@ fn from_iso(text: &str) -> [Result<Short, Cause>; 2] {
     ]
 }
 
+/// The answers to a text in the strict ISO style.
+fn from_iso_strict(text: &str) -> [Result<Short, Cause>; 2] {
+    let looked = Looked::new(text);
+    [
+        reply(Form::IsoStrict, Form::PgIso, text),
+        counted::<Brand>(Form::IsoStrict, Form::PgIso, &looked, Blank::new(1)),
+    ]
+}
+
 /// The answers to a text in the postgres style.
 fn from_postgres(text: &str) -> [Result<Short, Cause>; 2] {
     let looked = Looked::new(text);
@@ -73,6 +82,17 @@ fn counted_answers(rt: HostRuntime) -> Result<(), Fail> {
         ("PT10", "Syntax"),
     ] {
         for answer in from_iso(text) {
+            assert_eq!(rt; told(&answer), want, "at {text}");
+        }
+    }
+    for (text, want) in [
+        ("P1Y2M3W4DT5H6M7S", "P1Y2M25DT5H6M7S"),
+        ("PT0S", "PT0S"),
+        ("P1Y1Y", "Syntax"),
+        ("PT", "Syntax"),
+        ("P2147483648D", "Range"),
+    ] {
+        for answer in from_iso_strict(text) {
             assert_eq!(rt; told(&answer), want, "at {text}");
         }
     }

@@ -19,6 +19,8 @@ mod iso_dates;
 #[cfg(test)]
 mod iso_durations;
 #[cfg(test)]
+mod iso_strict;
+#[cfg(test)]
 mod pieces;
 #[cfg(test)]
 mod postgres;

@@ -11,7 +11,12 @@ use std::rt::Files;
 use std::{fs, io};
 
 /// The tables, in data/.
-const TABLES: [&str; 3] = ["intervals.tsv", "weeks.tsv", "ten_forms.tsv"];
+const TABLES: [&str; 4] = [
+    "intervals.tsv",
+    "weeks.tsv",
+    "iso_strict.tsv",
+    "other_forms.tsv",
+];
 
 fn main(rt: HostRuntime) -> io::Result<()> {
     for table in TABLES {

@@ -1,6 +1,6 @@
 -- What a text in ISO style spells, and whether its units stand in order.
 use Rattle.std.proofs.Common.{◌≡◌, ◌≢◌, ◌↔◌, ℕ, Bool, true, false, ◌&&◌, not, List, [], ◌∷◌, ◌++◌, refl, sym, subst, ◌∙◌, ap, append-nil, inl, inr, codes, true≢false}
-use Rattle.std.proofs.lemmas.Bool.{and_parts}
+use Rattle.std.proofs.lemmas.Bool.{and_parts, not-true}
 use Rattle.scan_core.specs.Count.{Count}
 use Rattle.scan_core.proofs.Joins.{join_values}
 use Rattle.pg_interval_2.specs.declared.iso.OrderedTally.{OrderedTally}
@@ -42,10 +42,6 @@ not_bare : (bare : Bool) (time : List ℕ) → (bare ≡ true → time ≡ []) �
 not_bare true time none some = absurd (some (none refl))
 not_bare false time none some = refl
 
-is_not : (bare : Bool) → not bare ≡ true → bare ≡ false
-is_not true h = cc
-is_not false h = refl
-
 -- a text of a date and a time, whose pairs were taken
 pub timed_spelled : (text date time : List ℕ) (old mid : Tally) (was is from to : Order) (bare : Bool) (spelled : OrderedTally) → text ≡ codes "P" ++ date
     → TakesPairs false date (codes "T" ++ time) old mid was is → TakesPairs true time [] mid spelled.tally from to → Tallies old [] → Orders false was [] → Orders true from []
@@ -69,7 +65,7 @@ timed_spelled text date time old mid was is from to bare spelled whole dates tim
       strict = λ so.
           let parts = and_parts _ _ (sym told ∙ so) in
           let both = and_parts _ _ parts.0 in
-          let some : times.front ≢ [] = λ empty. true≢false (sym (nothing.1 (same ∙ empty)) ∙ is_not bare parts.1) in
+          let some : times.front ≢ [] = λ empty. true≢false (sym (nothing.1 (same ∙ empty)) ∙ not-true bare parts.1) in
           (dates.counts ++ times.counts, inr (timed, in_order false is dates.counts (dates.ordered [] unordered) both.0, in_order true to times.counts (times.ordered [] unordered_times) both.1, some), all);
       loose = λ so counts shape. not_so counts shape so;
     }

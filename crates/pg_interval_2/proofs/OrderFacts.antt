@@ -1,8 +1,7 @@
 -- The order of units by places is that by lists of units.
-use Rattle.std.proofs.Common.{◌≡◌, ◌≢◌, ℕ, suc, ◌<◌, ◌≤◌, ◌⊎◌, Bool, true, false, ◌&&◌, nat_le, nat_lt, List, [], ◌∷◌, ◌++◌, refl, sym, ◌∙◌, ap, arith, inl, inr}
+use Rattle.std.proofs.Common.{◌≡◌, ℕ, suc, ◌<◌, ◌≤◌, ◌⊎◌, Bool, true, false, ◌&&◌, nat_le, nat_lt, List, [], ◌∷◌, ◌++◌, refl, sym, ◌∙◌, ap, arith, inl, inr, le-leb, lt-ltb, leb-true, ltb-true}
 use Rattle.std.proofs.Math.Bool.{and-true}
 use Rattle.std.proofs.lemmas.Bool.{and_from, and_parts, cases_lt}
-use Rattle.std.proofs.lemmas.Bool.Decides.{nat_tests}
 use Rattle.scan_core.specs.Count.{Count}
 use Rattle.scan_core.specs.declared.share.Unit.{Unit as TimeUnit}
 use Rattle.pg_interval_2.specs.IsoStrict.{AreInOrder, units_in_order}
@@ -40,26 +39,14 @@ stand-le : (from to : ℕ) (units : List TimeUnit) → StandFrom from to units �
 stand-le from to [] stand = omega (arith, stand)
 stand-le from to (unit ∷ units) stand = omega (arith, stand-le (suc from) to units stand.1)
 
-le_tells : (a b : ℕ) → nat_le a b ≡ true → a ≤ b
-le_tells a b h = grind (arith, nat_tests)
-
-lt_tells : (a b : ℕ) → nat_lt a b ≡ true → a < b
-lt_tells a b h = grind (arith, nat_tests)
-
-le_is : (a b : ℕ) → a ≤ b → nat_le a b ≡ true
-le_is a b h = grind (arith, nat_tests)
-
-lt_is : (a b : ℕ) → a < b → nat_lt a b ≡ true
-lt_is a b h = grind (arith, nat_tests)
-
 rises_from : (from to : ℕ) (c : Count) (cs : List Count) → from ≤ place_of c.unit → place_of c.unit < to → rises (suc (place_of c.unit)) to cs ≡ true → rises from to (c ∷ cs) ≡ true
-rises_from from to c cs low high rest = and_from _ _ (le_is from _ low) (and_from _ _ (lt_is _ to high) rest)
+rises_from from to c cs low high rest = and_from _ _ (le-leb from (place_of c.unit) low) (and_from _ _ (lt-ltb (place_of c.unit) to high) rest)
 
 rises_lower : (low from to : ℕ) (counts : List Count) → low ≤ from → rises from to counts ≡ true → rises low to counts ≡ true
 rises_lower low from to [] below h = refl
 rises_lower low from to (c ∷ cs) below h =
     let parts = and_parts (nat_le from (place_of c.unit)) _ h in
-    and_from _ _ (le_is low (place_of c.unit) (omega (arith, le_tells from (place_of c.unit) parts.0))) parts.1
+    and_from _ _ (le-leb low (place_of c.unit) (omega (arith, leb-true from (place_of c.unit) parts.0))) parts.1
 
 in_order_rises : (units : List TimeUnit) (from to : ℕ) (counts : List Count) → StandFrom from to units → AreInOrder units counts → rises from to counts ≡ true
 in_order_rises units from to [] stand h = refl
@@ -77,13 +64,13 @@ rises_in_order units from to [] stand h = tt
 rises_in_order [] from to (c ∷ cs) stand h =
     let parts = and_parts (nat_le from (place_of c.unit)) (nat_lt (place_of c.unit) to && rises (suc (place_of c.unit)) to cs) h in
     let high = and_parts (nat_lt (place_of c.unit) to) (rises (suc (place_of c.unit)) to cs) parts.1 in
-    absurd (omega (arith, stand, le_tells from (place_of c.unit) parts.0, lt_tells (place_of c.unit) to high.0))
+    absurd (omega (arith, stand, leb-true from (place_of c.unit) parts.0, ltb-true (place_of c.unit) to high.0))
 rises_in_order (unit ∷ units) from to (c ∷ cs) stand h =
     let parts = and_parts (nat_le from (place_of c.unit)) (nat_lt (place_of c.unit) to && rises (suc (place_of c.unit)) to cs) h in
     let high = and_parts (nat_lt (place_of c.unit) to) (rises (suc (place_of c.unit)) to cs) parts.1 in
-    let low = le_tells from (place_of c.unit) parts.0 in
+    let low = leb-true from (place_of c.unit) parts.0 in
     elim (cases_lt from (place_of c.unit)) [
-      | inl later ↦ inr (rises_in_order units (suc from) to (c ∷ cs) stand.1 (rises_from (suc from) to c cs (omega (arith, later)) (lt_tells (place_of c.unit) to high.0) high.1))
+      | inl later ↦ inr (rises_in_order units (suc from) to (c ∷ cs) stand.1 (rises_from (suc from) to c cs (omega (arith, later)) (ltb-true (place_of c.unit) to high.0) high.1))
       | inr here ↦
           let place : place_of c.unit ≡ from = omega (arith, low, here) in
           inl (same_unit c.unit unit (place ∙ sym stand.0), rises_in_order units (suc from) to cs stand.1 (rises_lower (suc from) (suc (place_of c.unit)) to cs (omega (arith, place)) high.1))
