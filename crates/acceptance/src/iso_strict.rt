@@ -6,10 +6,7 @@ use std::test::Fail;
 fn iso_strict_lines(rt: HostRuntime) -> Result<(), Fail> {
     for (line, reply) in [
         // All units in their order, and some of them.
-        (
-            "IsoStrict PgIso P1Y2M3W4DT5H6M7S\n",
-            "P1Y2M25DT5H6M7S\n",
-        ),
+        ("IsoStrict PgIso P1Y2M3W4DT5H6M7S\n", "P1Y2M25DT5H6M7S\n"),
         ("IsoStrict PgIso P1YT7S\n", "P1YT7S\n"),
         ("IsoStrict PgIso P1.5Y1.5M\n", "P1Y7M15D\n"),
         ("IsoStrict PgIso P-1Y2M\n", "P-10M\n"),

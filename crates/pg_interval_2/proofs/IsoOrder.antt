@@ -1,12 +1,11 @@
 -- What a text in ISO style spells, and whether its units stand in order.
-use Rattle.std.proofs.Common.{◌≡◌, ◌≢◌, ◌↔◌, ℕ, Bool, true, false, ◌&&◌, not, List, [], ◌∷◌, ◌++◌, refl, sym, subst, ◌∙◌, ap, append-nil, inl, inr, codes, true≢false}
+use Rattle.std.proofs.Common.{◌≡◌, ◌≢◌, ◌↔◌, ℕ, Bool, true, false, ◌&&◌, not, List, [], ◌++◌, refl, sym, subst, ◌∙◌, ap, append-nil, inl, inr, codes, true≢false}
 use Rattle.std.proofs.lemmas.Bool.{and_parts, not-true}
 use Rattle.scan_core.specs.Count.{Count}
 use Rattle.scan_core.proofs.Joins.{join_values}
 use Rattle.pg_interval_2.specs.declared.iso.OrderedTally.{OrderedTally}
 use Rattle.pg_interval_2.specs.declared.order.Order.{Order}
 use Rattle.pg_interval_2.specs.declared.tally.Tally.{Tally}
-use Rattle.pg_interval_2.specs.Denotes.{HasNoShape}
 use Rattle.pg_interval_2.specs.Iso.{ArePairs, IsDateAlone, IsDateAndTime, IsPair, unit_in}
 use Rattle.pg_interval_2.specs.IsoStrict.{AreInOrder, IsIsoStrict, units_in_order}
 use Rattle.pg_interval_2.specs.inside.IsoTally.{IsSpelled, TakesPairs}
@@ -50,16 +49,16 @@ timed_spelled text date time old mid was is from to bare spelled whole dates tim
     let same : time ≡ times.front = times.split ∙ append-nil times.front in
     let all = times.tallied dates.counts (dates.tallied [] none) in
     let timed : IsDateAndTime unit_in text (dates.counts ++ times.counts) =
-        record {
-          date = dates.front;
-          time = times.front;
-          date_counts = dates.counts;
-          time_counts = times.counts;
-          dates = dates.pairs;
-          times = times.pairs;
-          spelled = whole ∙ ap (λ (l : List ℕ). codes "P" ++ l) (dates.split ∙ ap (λ (l : List ℕ). dates.front ++ (codes "T" ++ l)) same);
-          counted = refl;
-        } in
+    record {
+      date = dates.front;
+      time = times.front;
+      date_counts = dates.counts;
+      time_counts = times.counts;
+      dates = dates.pairs;
+      times = times.pairs;
+      spelled = whole ∙ ap (λ (l : List ℕ). codes "P" ++ l) (dates.split ∙ ap (λ (l : List ℕ). dates.front ++ (codes "T" ++ l)) same);
+      counted = refl;
+    } in
     record {
       tallied = (dates.counts ++ times.counts, inr timed, all);
       strict = λ so.
@@ -72,11 +71,13 @@ timed_spelled text date time old mid was is from to bare spelled whole dates tim
   where
     behind : text ≡ codes "P" ++ (dates.front ++ (codes "T" ++ time))
     behind = whole ∙ ap (λ (l : List ℕ). codes "P" ++ l) dates.split
+
     times_are : (other : List ℕ) (counts : List Count) → codes "T" ++ time ≡ codes "T" ++ other → ArePairs (unit_in true) other counts → times.counts ≡ counts
     times_are other counts split pairs =
         let tails : time ≡ other = cc in
         let front : times.front ≡ other = sym (times.split ∙ append-nil times.front) ∙ tails in
         join_values (IsPair (unit_in true)) (read_pair (unit_in true)) (finds_pair true) (nothing_read true) other times.counts counts (subst (λ (l : List ℕ). ArePairs (unit_in true) l times.counts) front times.pairs) pairs
+
     not_so : (counts : List Count) → IsIsoStrict text counts → spelled.in_order ≡ false → ⊥
     not_so counts (inl (alone, ordered)) so = no_time time (rest_is text dates.front (codes "T" ++ time) dates.counts counts dates.pairs (time_ends time) behind (inl alone)).0
     not_so counts (inr (timed, dates_ordered, times_ordered, some_time)) so =

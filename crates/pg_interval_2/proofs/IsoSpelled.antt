@@ -111,16 +111,21 @@ zero_pair = record {
 }
 
 zero_spelled : IsIsoStrict (codes "PT0S") (zero_count ∷ [])
-zero_spelled = inr (record {
-  date = [];
-  time = codes "0S";
-  date_counts = [];
-  time_counts = zero_count ∷ [];
-  dates = refl;
-  times = IsJoin-one (IsPair time_unit) (codes "0S") zero_count zero_pair;
-  spelled = refl;
-  counted = refl;
-}, tt, inr (inr (inl (refl, tt))), λ empty. cc)
+zero_spelled = inr (
+  record {
+    date = [];
+    time = codes "0S";
+    date_counts = [];
+    time_counts = zero_count ∷ [];
+    dates = refl;
+    times = IsJoin-one (IsPair time_unit) (codes "0S") zero_count zero_pair;
+    spelled = refl;
+    counted = refl;
+  },
+  tt,
+  inr (inr (inl (refl, tt))),
+  λ empty. cc,
+)
 
 -- a part that isn't written is 0
 no_part : (negative : Bool) (n letter : ℕ) → length (iso_part negative n (letter ∷ [])) ≡ 0 → n ≡ 0
@@ -189,16 +194,27 @@ date_alone months days micros small_months small_days no_micros some =
 date_and_time : (months days micros : ℤ) → unsigned_abs months ≤ 2 ^ 63 → unsigned_abs days ≤ 2 ^ 63 → unsigned_abs micros ≤ 2 ^ 63 → int_eq micros (pos 0) ≡ false → IsIsoStrict (codes "P" ++ (iso_date months days ++ iso_time micros)) (date_counts months days ++ time_counts micros)
 date_and_time months days micros small_months small_days small_micros some =
     rw (some_time micros some)
-    (inr (record {
-      date = iso_date months days;
-      time = time_body micros;
-      date_counts = date_counts months days;
-      time_counts = time_counts micros;
-      dates = date_spelled months days small_months small_days;
-      times = time_spelled micros small_micros;
-      spelled = refl;
-      counted = refl;
-    }, date_order months days, time_order micros, λ empty. true≢false (sym (rw (no_body micros (ap length empty)) refl) ∙ some)))
+    (inr (
+      record {
+        date = iso_date months days;
+        time = time_body micros;
+        date_counts = date_counts months days;
+        time_counts = time_counts micros;
+        dates = date_spelled months days small_months small_days;
+        times = time_spelled micros small_micros;
+        spelled = refl;
+        counted = refl;
+      },
+      date_order months days,
+      time_order micros,
+      written,
+    ))
+  where
+    written : time_body micros ≢ []
+    written empty =
+        let zero = no_body micros (ap length empty) in
+        let is_zero : int_eq micros (pos 0) ≡ true = rw zero refl in
+        true≢false (sym is_zero ∙ some)
 
 -- the written text spells these counts
 pub iso_spelled : (months days micros : ℤ) → unsigned_abs months ≤ 2 ^ 63 → unsigned_abs days ≤ 2 ^ 63 → unsigned_abs micros ≤ 2 ^ 63 → IsIsoStrict (iso_text months days micros) (iso_counts months days micros)

@@ -9,7 +9,7 @@ use Rattle.pg_interval_2.proofs.IsoCounts.{one_list as iso_list}
 
 pub is_iso : (text : List ℕ) (counts : List Count) → IsIsoStrict text counts → IsIso text counts
 is_iso text counts (inl (alone, ordered)) = inl alone
-is_iso text counts (inr (timed, ordered)) = inr timed
+is_iso text counts (inr (timed, dates, times, some)) = inr timed
 
 pub iso_denoted : (text : List ℕ) (t : Interval) → Denotes IsIsoStrict text t → Denotes IsIso text t
 iso_denoted text t (counts, shape, fits, sum) = (counts, is_iso text counts shape, fits, sum)

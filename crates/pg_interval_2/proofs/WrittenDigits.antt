@@ -1,5 +1,5 @@
 -- What written digits read back as: a number's digits, with leading zeros or not, and six digits behind a point.
-use Rattle.std.proofs.Common.{◌≡◌, ℕ, ◌-◌, ◌<◌, arith, ◌∙◌}
+use Rattle.std.proofs.Common.{◌≡◌, ℕ, ◌<◌, arith, ◌∙◌}
 use Rattle.scan_core.specs.Padded.{padded}
 use Rattle.scan_core.specs.Shares.{rounded}
 use Rattle.scan_core.proofs.RoundingFacts.{rounded_six}

@@ -21,4 +21,4 @@ abbrev pub IsIsoStrict : List ℕ → List Count → Type 0
 IsIsoStrict text counts =
     (IsDateAlone unit_in text counts × AreInOrder (units_in_order false) counts)
     ⊎ ((timed : IsDateAndTime unit_in text counts) × AreInOrder (units_in_order false) timed.date_counts
-      × AreInOrder (units_in_order true) timed.time_counts × (timed.time ≢ []))
+    × AreInOrder (units_in_order true) timed.time_counts × (timed.time ≢ []))

@@ -5,3 +5,6 @@ returns-in-Postgres-clause-err g c = let style = c.in-Postgres.is in rw style c.
 
 pub returns-in-Verbose-clause-err : goal.returns-in-Verbose-clause-err
 returns-in-Verbose-clause-err g c = let style = c.in-Verbose.is in rw style c.read_verbose.ensures.err
+
+pub returns-in-IsoStrict-clause-err : goal.returns-in-IsoStrict-clause-err
+returns-in-IsoStrict-clause-err g c = let style = c.in-IsoStrict.is in rw style c.read_iso_strict.ensures.err

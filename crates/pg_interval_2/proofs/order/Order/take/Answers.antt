@@ -1,5 +1,4 @@
 use Rattle.std.proofs.Common.{◌∙◌, ap, arith, sym}
-use Rattle.scan_core.specs.Count.{Count}
 use Rattle.pg_interval_2.specs.Postgres.{place_of}
 use Rattle.pg_interval_2.proofs.OrderFacts.{orders_push}
 use Rattle.pg_interval_2.proofs.order.Order.take.Goals as goal
