@@ -10,6 +10,7 @@ use std::fmt;
 use std::fmt::Display;
 
 /// Appends a count and the letter of its unit.
+#[inline(always)] // else the letter is a text of any length
 #[tactic(auto, using(crate::proofs::Widths::length_decimal_u32))]
 fn push_count(out: &mut Short, count: u32, letter: &str)
     requires letter { length letter.now ≤ 1 }
@@ -22,6 +23,7 @@ fn push_count(out: &mut Short, count: u32, letter: &str)
 }
 
 /// Appends a count and the letter of its unit, or nothing where the count is 0.
+#[inline(always)]
 #[tactic(auto, unfolding(crate::specs::WrittenDurations::count_text))]
 fn push_nonzero(out: &mut Short, count: u32, letter: &str)
     requires letter { length letter.now ≤ 1 }

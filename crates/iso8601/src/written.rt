@@ -11,6 +11,7 @@ use std::fmt;
 use std::fmt::Display;
 
 /// Appends a number of 32 bits with leading zeros to at least `width` digits.
+#[inline(always)] // the width is a constant at each call
 #[tactic(auto, using(crate::proofs::Widths::length_decimal_u32))]
 pub(crate) fn push_digits(out: &mut Short, value: u32, width: usize)
     requires width { width ≤ 10 }
@@ -34,6 +35,7 @@ fn push_minus(out: &mut Short, negative: bool)
 }
 
 /// Appends a text and a number in at least `width` digits.
+#[inline(always)] // else the mark is a text of any length
 fn push_field(out: &mut Short, mark: &str, value: u32, width: usize)
     requires mark { length mark.now ≤ 2 }
     requires width { width ≤ 10 }

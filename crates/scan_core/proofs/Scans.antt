@@ -1,10 +1,10 @@
 -- Bytes that a scan has passed: one after the other, and all of a class that stand in front.
-use Rattle.std.proofs.Common.{◌≡◌, ◌⊎◌, inl, inr, ℕ, ◌+◌, ◌-◌, ◌≤◌, ◌&&◌, Bool, true, List, [], ◌∷◌, ◌++◌, length, take, refl, sym, ◌∙◌, ap, append_assoc, append-nil, length-append, arith}
+use Rattle.std.proofs.Common.{◌≡◌, ◌⊎◌, inl, inr, ℕ, ◌+◌, ◌-◌, ◌≤◌, ◌&&◌, Bool, true, List, [], ◌∷◌, ◌++◌, length, take, Option, Some, IfSome, refl, sym, subst, ◌∙◌, ap, append_assoc, append-nil, length-append, arith}
 use Rattle.std.proofs.lemmas.List.{take_all}
 use Rattle.std.proofs.lemmas.List.Folds.{list_all-append}
 use Rattle.std.specs.List.{list_all}
 use Rattle.scan_core.specs.Fronts.{behind, leading}
-use Rattle.scan_core.specs.Scanning.{Passes, Place, ahead, between}
+use Rattle.scan_core.specs.Scanning.{Passes, Place, ahead, between, front_byte}
 use Rattle.scan_core.proofs.FrontFacts.{leading_and_behind}
 
 pub passes_none : (place : Place) → Passes [] place place
@@ -16,6 +16,11 @@ passes_more xs ys old mid new p q = record {
   at = omega (arith, p.at, q.at, length-append xs ys);
   split = p.split ∙ ap (λ (l : List ℕ). xs ++ l) q.split ∙ sym (append_assoc xs ys (ahead new));
 }
+
+-- the byte that was in front was passed
+pub front_passed : (b : ℕ) (passed : Option ℕ) (old new : Place) → passed ≡ front_byte (ahead old) → front_byte (ahead old) ≡ Some b → IfSome passed (λ byte. Passes (byte ∷ []) old new)
+    → Passes (b ∷ []) old new
+front_passed b passed old new is front passes = subst (λ (o : Option ℕ). IfSome o (λ byte. Passes (byte ∷ []) old new)) (is ∙ front) passes
 
 -- how many bytes are left
 pub passed_length : (bytes : List ℕ) (old new : Place) → Passes bytes old new → length (ahead old) ≡ length bytes + length (ahead new)
@@ -70,14 +75,13 @@ pub record IsAll (test : ℕ → Bool) (bytes : List ℕ) (old new : Place) : Ty
   pub all : list_all test bytes ≡ true
   pub passed : Passes bytes old new
 
-pub all_passed : (test : ℕ → Bool) (bytes : List ℕ) (old mid new : Place) → IsAmong test bytes old mid → leading test (ahead mid) ≡ [] → new ≡ mid → IsAll test bytes old new
-all_passed test bytes old mid new m none same =
-    rw same (record {
-      front = among_all test bytes old mid m none;
-      rest = sym (leading_and_behind test (ahead mid)) ∙ ap (λ (l : List ℕ). l ++ behind test (ahead mid)) none ∙ sym m.rest;
-      all = m.all;
-      passed = m.passed;
-    })
+pub all_passed : (test : ℕ → Bool) (bytes : List ℕ) (old new : Place) → IsAmong test bytes old new → leading test (ahead new) ≡ [] → IsAll test bytes old new
+all_passed test bytes old new m none = record {
+  front = among_all test bytes old new m none;
+  rest = sym (leading_and_behind test (ahead new)) ∙ ap (λ (l : List ℕ). l ++ behind test (ahead new)) none ∙ sym m.rest;
+  all = m.all;
+  passed = m.passed;
+}
 
 -- at most a given number of those in front
 pub some_passed : (test : ℕ → Bool) (bytes : List ℕ) (old new : Place) (most : ℕ) → IsAmong test bytes old new

@@ -61,12 +61,12 @@ fn with_letter(value: u64, letter: u8) -> u64
 }
 
 impl<'a> Scan<'a> {
-    ghost use Rattle.std.specs.Prelude.{◌≡◌, ◌⊎◌, ◌+◌, ◌<◌, [], ◌∷◌, take, true, IfSome, IfNone};
+    ghost use Rattle.std.specs.Prelude.{◌≡◌, ◌⊎◌, ◌+◌, ◌<◌, [], ◌∷◌, take, true, Some, IfSome, IfNone};
     ghost use Rattle.std.specs.Char.{is_ascii_digit, is_ascii_alphabetic};
     ghost use Rattle.scan_core.specs.Blanks.{is_blank};
     ghost use Rattle.scan_core.specs.Fronts.{leading, behind, front_digits, after_digits};
     ghost use Rattle.scan_core.specs.Runs.{IsRun, IsWord, digits_of, letters_of};
-    ghost use Rattle.scan_core.specs.Scanning.{Passes, ahead, unseen};
+    ghost use Rattle.scan_core.specs.Scanning.{Passes, ahead, front_byte, unseen};
 
     /// The digits in front, perhaps none, which are passed.
     #[inline(always)]
@@ -81,8 +81,9 @@ impl<'a> Scan<'a> {
     {
         let start = self.at();
         let mut value = 0;
-        while let Some(digit) = self.next_in(Class::Digit, steps) {
+        while let Some(digit) = self.peek_in(Class::Digit) {
             value = with_digit(value, digit);
+            self.next(steps);
         }
         Run {
             start,
@@ -91,20 +92,18 @@ impl<'a> Scan<'a> {
         }
     }
 
-    /// The digit in front, which is passed, unless no more are to be.
+    /// The digit in front, unless no more are to be.
     #[inline(always)]
-    fn next_of_digits<L: Ledger>(&mut self, left: usize, steps: &mut Steps<L>) -> Option<u8>
+    fn peek_of_digits(&self, left: usize) -> Option<u8>
         ensures some { IfSome result
             (λ digit. (0 < left) × (is_ascii_digit digit ≡ true)
-            × Passes (digit ∷ []) self.old self.new) }
-        ensures none { IfNone result
-            (((left ≡ 0) ⊎ (front_digits (ahead self.old) ≡ [])) × (self.new ≡ self.old)) }
-        ensures ticks { steps.new + unseen (ahead self.new) ≡ steps.old + unseen (ahead self.old) }
+            × (front_byte (ahead self.now) ≡ Some digit)) }
+        ensures none { IfNone result ((left ≡ 0) ⊎ (front_digits (ahead self.now) ≡ [])) }
     {
         if left == 0 {
             return None;
         }
-        self.next_in(Class::Digit, steps)
+        self.peek_in(Class::Digit)
     }
 
     /// At most this many of the digits in front, perhaps none, which are passed.
@@ -120,9 +119,10 @@ impl<'a> Scan<'a> {
         let start = self.at();
         let mut value = 0;
         let mut left = most;
-        while let Some(digit) = self.next_of_digits(left, steps) {
+        while let Some(digit) = self.peek_of_digits(left) {
             value = with_digit(value, digit);
             left -= 1;
+            self.next(steps);
         }
         Run {
             start,
@@ -138,7 +138,9 @@ impl<'a> Scan<'a> {
         ensures passed { Passes (leading is_blank (ahead self.old)) self.old self.new }
         ensures ticks { steps.new + unseen (ahead self.new) ≡ steps.old + unseen (ahead self.old) }
     {
-        while let Some(_) = self.next_in(Class::Blank, steps) {}
+        while let Some(_) = self.peek_in(Class::Blank) {
+            self.next(steps);
+        }
     }
 
     /// The letters in front, perhaps none, which are passed.
@@ -155,8 +157,9 @@ impl<'a> Scan<'a> {
     {
         let start = self.at();
         let mut value = 0;
-        while let Some(letter) = self.next_in(Class::Letter, steps) {
+        while let Some(letter) = self.peek_in(Class::Letter) {
             value = with_letter(value, letter);
+            self.next(steps);
         }
         Word {
             start,

@@ -134,6 +134,7 @@ impl<'a> Scan<'a> {
     /// The byte in front, which is passed, or None at the end.
     #[inline(always)]
     pub fn next<L: Ledger>(&mut self, steps: &mut Steps<L>) -> Option<u8>
+        ensures front { result ≡ front_byte (ahead self.old) }
         ensures some { IfSome result (λ byte. Passes (byte ∷ []) self.old self.new) }
         ensures none { IfNone result ((ahead self.old ≡ []) × (self.new ≡ self.old)) }
         ensures ticks { steps.new + unseen (ahead self.new) ≡ steps.old + unseen (ahead self.old) }
@@ -161,20 +162,16 @@ impl<'a> Scan<'a> {
         }
     }
 
-    /// The byte in front where it is of the class; it is passed then.
+    /// The byte in front where it is of the class. A loop makes use of it before it is passed, so that the end of the text is
+    /// looked for once a byte.
     #[inline(always)]
-    pub(crate) fn next_in<L: Ledger>(&mut self, class: Class, steps: &mut Steps<L>) -> Option<u8>
+    pub(crate) fn peek_in(&self, class: Class) -> Option<u8>
         ensures some { IfSome result
-            (λ byte. (has_byte class byte ≡ true) × Passes (byte ∷ []) self.old self.new) }
-        ensures none { IfNone result
-            ((leading (has_byte class) (ahead self.old) ≡ []) × (self.new ≡ self.old)) }
-        ensures ticks { steps.new + unseen (ahead self.new) ≡ steps.old + unseen (ahead self.old) }
+            (λ byte. (has_byte class byte ≡ true) × (front_byte (ahead self.now) ≡ Some byte)) }
+        ensures none { IfNone result (leading (has_byte class) (ahead self.now) ≡ []) }
     {
         match self.peek() {
-            Some(first) if class.has(first) => {
-                self.next(steps);
-                Some(first)
-            }
+            Some(first) if class.has(first) => Some(first),
             _ => None,
         }
     }

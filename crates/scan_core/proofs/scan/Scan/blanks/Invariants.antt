@@ -4,11 +4,11 @@ use Rattle.scan_core.specs.Scanning.{ahead, unseen}
 use Rattle.scan_core.proofs.Scans.{IsAmong}
 use Rattle.scan_core.proofs.scan.Scan.blanks.Given as goal
 
-abbrev pub invariant-loop : goal.invariant-loop
-invariant-loop g l = record {
+abbrev pub invariant-loop-self : goal.invariant-loop-self
+invariant-loop-self g l = record {
   among : (bytes : List ℕ) × IsAmong is_blank bytes l.initial.self l.self;
   ticks : l.steps + unseen (ahead l.self) ≡ l.initial.steps + unseen (ahead l.initial.self);
 }
 
-abbrev pub decreases-loop : goal.decreases-loop
-decreases-loop g l = length (ahead l.self)
+abbrev pub decreases-loop-self : goal.decreases-loop-self
+decreases-loop-self g l = length (ahead l.self)

@@ -2,7 +2,7 @@ use Rattle.std.proofs.Common.{ℕ, ◌+◌, ◌++◌, [], ◌∷◌, ◌^◌, ar
 use Rattle.std.specs.Char.{is_ascii_digit}
 use Rattle.scan_core.specs.Runs.{Knows}
 use Rattle.scan_core.proofs.RunFacts.{number_of_push, run_passed}
-use Rattle.scan_core.proofs.Scans.{among_more, among_none, between_passed, some_passed}
+use Rattle.scan_core.proofs.Scans.{among_more, among_none, between_passed, front_passed, some_passed}
 use Rattle.scan_core.proofs.scan.Scan.digits_up_to.Goals as goal
 
 pub loop-digit-init : goal.loop-digit-init
@@ -11,7 +11,7 @@ loop-digit-init g c = record { among = ([], among_none is_ascii_digit c.args.sel
 pub loop-digit-preserved : goal.loop-digit-preserved
 loop-digit-preserved g c =
     let some = c.loop-digit.invariant.among in
-    let more = among_more is_ascii_digit some.0 c.args.self.now c.loop-digit.self c.next_of_digits.new.self c.in-Some.digit some.1 c.in-Some.ensures.some.1 c.in-Some.ensures.some.2 in
+    let more = among_more is_ascii_digit some.0 c.args.self.now c.loop-digit.self c.next.new.self c.in-Some.digit some.1 c.in-Some.ensures.some.1 (front_passed c.in-Some.digit c.next.result c.loop-digit.self c.next.new.self c.next.ensures.front c.in-Some.ensures.some.2 c.next.ensures.some) in
     record {
       among = (
         some.0 ++ c.in-Some.digit ∷ [],
@@ -19,7 +19,7 @@ loop-digit-preserved g c =
         subst (λ (n : ℕ). Knows (10 ^ 18) c.with_digit-value.result n) (sym (number_of_push some.0 c.in-Some.digit c.in-Some.ensures.some.1)) (c.with_digit-value.ensures _ some.2),
         (let long = length-append some.0 (c.in-Some.digit ∷ []) in omega (arith, some.3, c.in-Some.ensures.some.0)),
       );
-      ticks = omega (arith, c.next_of_digits.ensures.ticks, c.loop-digit.invariant.ticks);
+      ticks = omega (arith, c.next.ensures.ticks, c.loop-digit.invariant.ticks);
     }
 
 stops : (bytes rest : List ℕ) (most left : ℕ) → length bytes + left ≡ most → (left ≡ 0) ⊎ (rest ≡ []) → (length bytes ≡ most) ⊎ ((length bytes ≤ most) × (rest ≡ []))
@@ -29,24 +29,21 @@ stops bytes rest most left h (inr none) = inr (omega arith, none)
 pub returns-clause-run : goal.returns-clause-run
 returns-clause-run g c =
     let some = c.loop-digit.invariant.among in
-    let here = c.in_default.ensures.none.1 in
     let start = c.at-start.ensures.place in
     let end = c.at.ensures.place in
-    let within : c.next_of_digits.new.self.at ≤ length c.next_of_digits.new.self.text = omega (arith, c.at.ensures.within) in
-    rw (start, end) (rw here (run_passed some.0 c.args.self.now c.loop-digit.self c.loop-digit.value some.1.passed (rw here at within) some.1.all some.2))
+    let within : c.loop-digit.self.at ≤ length c.loop-digit.self.text = omega (arith, c.at.ensures.within) in
+    rw (start, end) (run_passed some.0 c.args.self.now c.loop-digit.self c.loop-digit.value some.1.passed within some.1.all some.2)
 
 pub returns-clause-front : goal.returns-clause-front
 returns-clause-front g c =
     let some = c.loop-digit.invariant.among in
-    let here = c.in_default.ensures.none.1 in
     let start = c.at-start.ensures.place in
     let end = c.at.ensures.place in
-    let front = some_passed is_ascii_digit some.0 c.args.self.now c.loop-digit.self c.args.most some.1 (stops some.0 _ c.args.most c.loop-digit.left some.3 c.in_default.ensures.none.0) in
-    rw (start, end) (rw here (between_passed some.0 c.args.self.now c.loop-digit.self some.1.passed ∙ sym front))
+    let front = some_passed is_ascii_digit some.0 c.args.self.now c.loop-digit.self c.args.most some.1 (stops some.0 _ c.args.most c.loop-digit.left some.3 c.in_default.ensures.none) in
+    rw (start, end) (between_passed some.0 c.args.self.now c.loop-digit.self some.1.passed ∙ sym front)
 
 pub returns-clause-passed : goal.returns-clause-passed
 returns-clause-passed g c =
     let some = c.loop-digit.invariant.among in
-    let here = c.in_default.ensures.none.1 in
-    let front = some_passed is_ascii_digit some.0 c.args.self.now c.loop-digit.self c.args.most some.1 (stops some.0 _ c.args.most c.loop-digit.left some.3 c.in_default.ensures.none.0) in
-    rw (here, front) some.1.passed
+    let front = some_passed is_ascii_digit some.0 c.args.self.now c.loop-digit.self c.args.most some.1 (stops some.0 _ c.args.most c.loop-digit.left some.3 c.in_default.ensures.none) in
+    rw front some.1.passed

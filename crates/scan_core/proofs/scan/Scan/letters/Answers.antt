@@ -2,7 +2,7 @@ use Rattle.std.proofs.Common.{ℕ, ◌++◌, [], ◌∷◌, ◌^◌, arith, inl,
 use Rattle.std.specs.Char.{is_ascii_alphabetic}
 use Rattle.scan_core.specs.Runs.{Knows}
 use Rattle.scan_core.proofs.RunFacts.{packed_push, word_passed}
-use Rattle.scan_core.proofs.Scans.{all_passed, among_more, among_none, between_passed}
+use Rattle.scan_core.proofs.Scans.{all_passed, among_more, among_none, between_passed, front_passed}
 use Rattle.scan_core.proofs.scan.Scan.letters.Goals as goal
 
 pub loop-letter-init : goal.loop-letter-init
@@ -11,28 +11,28 @@ loop-letter-init g c = record { among = ([], among_none is_ascii_alphabetic c.ar
 pub loop-letter-preserved : goal.loop-letter-preserved
 loop-letter-preserved g c =
     let some = c.loop-letter.invariant.among in
-    let more = among_more is_ascii_alphabetic some.0 c.args.self.now c.loop-letter.self c.next_in.new.self c.in-Some.letter some.1 c.in-Some.ensures.some.0 c.in-Some.ensures.some.1 in
+    let more = among_more is_ascii_alphabetic some.0 c.args.self.now c.loop-letter.self c.next.new.self c.in-Some.letter some.1 c.in-Some.ensures.some.0 (front_passed c.in-Some.letter c.next.result c.loop-letter.self c.next.new.self c.next.ensures.front c.in-Some.ensures.some.1 c.next.ensures.some) in
     record {
       among = (some.0 ++ c.in-Some.letter ∷ [], more, subst (λ (n : ℕ). Knows (2 ^ 56) c.with_letter-value.result n) (sym (packed_push some.0 c.in-Some.letter)) (c.with_letter-value.ensures _ some.2));
-      ticks = omega (arith, c.next_in.ensures.ticks, c.loop-letter.invariant.ticks);
+      ticks = omega (arith, c.next.ensures.ticks, c.loop-letter.invariant.ticks);
     }
 
 pub returns-clause-word : goal.returns-clause-word
 returns-clause-word g c =
-    let passed = all_passed is_ascii_alphabetic _ c.args.self.now _ _ c.loop-letter.invariant.among.1 c.in_default.ensures.none.0 c.in_default.ensures.none.1 in
+    let passed = all_passed is_ascii_alphabetic _ c.args.self.now _ c.loop-letter.invariant.among.1 c.in_default.ensures.none in
     let start = c.at-start.ensures.place in
     let end = c.at.ensures.place in
-    rw (start, end) (word_passed c.loop-letter.invariant.among.0 c.args.self.now c.next_in.new.self c.loop-letter.value passed.passed (omega (arith, c.at.ensures.within)) passed.all c.loop-letter.invariant.among.2)
+    rw (start, end) (word_passed c.loop-letter.invariant.among.0 c.args.self.now c.loop-letter.self c.loop-letter.value passed.passed (omega (arith, c.at.ensures.within)) passed.all c.loop-letter.invariant.among.2)
 
 pub returns-clause-front : goal.returns-clause-front
 returns-clause-front g c =
-    let passed = all_passed is_ascii_alphabetic _ c.args.self.now _ _ c.loop-letter.invariant.among.1 c.in_default.ensures.none.0 c.in_default.ensures.none.1 in
+    let passed = all_passed is_ascii_alphabetic _ c.args.self.now _ c.loop-letter.invariant.among.1 c.in_default.ensures.none in
     let start = c.at-start.ensures.place in
     let end = c.at.ensures.place in
-    rw (start, end) (between_passed c.loop-letter.invariant.among.0 c.args.self.now c.next_in.new.self passed.passed ∙ sym passed.front)
+    rw (start, end) (between_passed c.loop-letter.invariant.among.0 c.args.self.now c.loop-letter.self passed.passed ∙ sym passed.front)
 
 pub returns-clause-rest : goal.returns-clause-rest
-returns-clause-rest g c = (all_passed is_ascii_alphabetic _ c.args.self.now _ _ c.loop-letter.invariant.among.1 c.in_default.ensures.none.0 c.in_default.ensures.none.1).rest
+returns-clause-rest g c = (all_passed is_ascii_alphabetic _ c.args.self.now _ c.loop-letter.invariant.among.1 c.in_default.ensures.none).rest
 
 pub returns-clause-passed : goal.returns-clause-passed
-returns-clause-passed g c = let passed = all_passed is_ascii_alphabetic _ c.args.self.now _ _ c.loop-letter.invariant.among.1 c.in_default.ensures.none.0 c.in_default.ensures.none.1 in let front = passed.front in rw front passed.passed
+returns-clause-passed g c = let passed = all_passed is_ascii_alphabetic _ c.args.self.now _ c.loop-letter.invariant.among.1 c.in_default.ensures.none in let front = passed.front in rw front passed.passed
