@@ -20,7 +20,7 @@ impl Interval {
         ensures len { array_string_len result ≤ 96 }
     {
         match style {
-            Style::Iso | Style::IsoStrict => { iso_text(self.months, self.days, self.microseconds) }
+            Style::Iso | Style::IsoStrict => iso_text(self.months, self.days, self.microseconds),
             Style::Postgres => postgres_text(self.months, self.days, self.microseconds),
             Style::Verbose => verbose_text(self.months, self.days, self.microseconds),
             Style::Sql => sql_text(self.months, self.days, self.microseconds),
