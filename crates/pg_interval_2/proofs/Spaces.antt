@@ -1,9 +1,9 @@
 -- Words with one space between each two.
-use Rattle.std.proofs.Common.{◌≡◌, ℕ, ◌<◌, List, [], ◌∷◌, ◌++◌, length, length-append, refl, ap, sym, ◌∙◌, arith, append_assoc, append-nil}
+use Rattle.std.proofs.Common.{◌≡◌, ℕ, ◌<◌, Bool, true, false, ◌||◌, List, [], ◌∷◌, ◌++◌, codes, length, refl, ap, sym, ◌∙◌, arith, append_assoc, append-nil}
 use Rattle.std.specs.List.{join_with_byte}
 use Rattle.scan_core.specs.Blanks.{words}
 use Rattle.scan_core.proofs.WordFacts.{NoBlanks, words-blank, words-first}
-use Rattle.pg_interval_2.specs.inside.Writing.{spaced, with_words}
+use Rattle.pg_interval_2.specs.inside.Writing.{has_words, words_behind}
 
 -- each word has a byte, and no blank
 abbrev pub AreWords : List (List ℕ) → Type 0
@@ -14,36 +14,28 @@ pub join-append : (x y : List ℕ) (xs ys : List (List ℕ)) → join_with_byte 
 join-append x y [] ys = refl
 join-append x y (z ∷ zs) ys = rw (join-append z y zs ys) (sym (append_assoc x (32 ∷ join_with_byte 32 (z ∷ zs)) (32 ∷ join_with_byte 32 (y ∷ ys))))
 
-length-join : (x : List ℕ) (xs : List (List ℕ)) → 0 < length x → 0 < length (join_with_byte 32 (x ∷ xs))
-length-join x [] some = some
-length-join x (y ∷ ys) some = omega (arith, length-append x (32 ∷ join_with_byte 32 (y ∷ ys)))
-
-spaced_some : (text : List ℕ) → 0 < length text → spaced text ≡ text ++ (32 ∷ [])
-spaced_some [] some = absurd (omega arith)
-spaced_some (b ∷ bs) some = refl
-
--- more words behind words
-pub with_words-append : (text : List ℕ) (xs ys : List (List ℕ)) → AreWords xs → with_words (with_words text xs) ys ≡ with_words text (xs ++ ys)
-with_words-append text [] ys are = refl
-with_words-append text (x ∷ xs) [] are = ap (with_words text) (sym (append-nil (x ∷ xs)))
-with_words-append text (x ∷ xs) (y ∷ ys) are =
-    let front = spaced text in
+-- words behind other words, and more words behind them all
+words_behind-append : (others : Bool) (xs ys : List (List ℕ)) → words_behind others (xs ++ ys) ≡ words_behind others xs ++ words_behind (others || has_words xs) ys
+words_behind-append true [] ys = refl
+words_behind-append false [] ys = refl
+words_behind-append others (x ∷ xs) [] = ap (words_behind others) (append-nil (x ∷ xs)) ∙ sym (append-nil (words_behind others (x ∷ xs)))
+words_behind-append true (x ∷ xs) (y ∷ ys) =
     let left = join_with_byte 32 (x ∷ xs) in
     let right = join_with_byte 32 (y ∷ ys) in
-    let long : 0 < length (front ++ left) = omega (arith, length-append front left, length-join x xs are.0) in
-    rw (spaced_some (front ++ left) long, append_assoc (front ++ left) (32 ∷ []) right, append_assoc front left (32 ∷ right), join-append x y xs ys) refl
+    ap (λ (all : List ℕ). codes " " ++ all) (join-append x y xs ys) ∙ sym (append_assoc (codes " ") left (32 ∷ right))
+words_behind-append false (x ∷ xs) (y ∷ ys) = join-append x y xs ys
 
-with_words-nil : (words : List (List ℕ)) → with_words [] words ≡ join_with_byte 32 words
-with_words-nil [] = refl
-with_words-nil (x ∷ xs) = refl
+words_behind-none : (words : List (List ℕ)) → words_behind false words ≡ join_with_byte 32 words
+words_behind-none [] = refl
+words_behind-none (x ∷ xs) = refl
 
 -- words written in four steps
-pub four_steps : (a b c d : List (List ℕ)) → AreWords a → AreWords b → AreWords c → with_words (with_words (with_words (with_words [] a) b) c) d ≡ join_with_byte 32 (a ++ (b ++ (c ++ d)))
-four_steps a b c d are_a are_b are_c =
-    with_words-append (with_words (with_words [] a) b) c d are_c
-    ∙ with_words-append (with_words [] a) b (c ++ d) are_b
-    ∙ with_words-append [] a (b ++ (c ++ d)) are_a
-    ∙ with_words-nil (a ++ (b ++ (c ++ d)))
+pub four_steps : (a b c d : List (List ℕ)) → words_behind false a ++ (words_behind (false || has_words a) b ++ (words_behind ((false || has_words a) || has_words b) c ++ words_behind (((false || has_words a) || has_words b) || has_words c) d)) ≡ join_with_byte 32 (a ++ (b ++ (c ++ d)))
+four_steps a b c d =
+    sym (sym (words_behind-none (a ++ (b ++ (c ++ d))))
+    ∙ words_behind-append false a (b ++ (c ++ d))
+    ∙ ap (λ (l : List ℕ). words_behind false a ++ l) (words_behind-append (false || has_words a) b (c ++ d)
+    ∙ ap (λ (l : List ℕ). words_behind (false || has_words a) b ++ l) (words_behind-append ((false || has_words a) || has_words b) c d)))
 
 -- ---- the words of words with spaces between are these words
 

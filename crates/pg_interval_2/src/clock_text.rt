@@ -4,13 +4,14 @@ ghost use Rattle.arrayvec.specs.ArrayString.{array_string_len};
 ghost use Rattle.pg_interval_2.specs.ClockText.{hours_text, field_text, fraction_text, clock_text};
 
 use crate::parts::{hours_of, minutes_of, push_fraction, seconds_of, subsecond_of};
-use scan_core::{Short, push_padded, push_text};
+use arrayvec::ArrayString;
+use scan_core::{push_padded, push_text};
 
 /// Appends the digits of hours, at least `width` of them.
 #[tactic(auto, using(crate::proofs::Widths::length_decimal_u32), unfolding(crate::specs::ClockText::hours_text))]
-fn push_hours(out: &mut Short, width: usize, hours: u32)
+fn push_hours<const CAP: usize>(out: &mut ArrayString<CAP>, width: usize, hours: u32)
     requires width { width ≤ 2 }
-    requires room { array_string_len out.old + 10 ≤ 128 }
+    requires room { array_string_len out.old + 10 ≤ CAP }
     ensures bytes { out.new.bytes ≡ out.old.bytes ++ hours_text width hours }
     ensures len { array_string_len out.new ≤ array_string_len out.old + 10 }
 {
@@ -19,9 +20,9 @@ fn push_hours(out: &mut Short, width: usize, hours: u32)
 
 /// Appends a colon and minutes or seconds in two digits.
 #[tactic(auto, using(crate::proofs::Widths::length_decimal_two), unfolding(crate::specs::ClockText::field_text))]
-fn push_field(out: &mut Short, value: u32)
+fn push_field<const CAP: usize>(out: &mut ArrayString<CAP>, value: u32)
     requires value { value < 100 }
-    requires room { array_string_len out.old + 3 ≤ 128 }
+    requires room { array_string_len out.old + 3 ≤ CAP }
     ensures bytes { out.new.bytes ≡ out.old.bytes ++ field_text value }
     ensures len { array_string_len out.new ≤ array_string_len out.old + 3 }
 {
@@ -31,9 +32,9 @@ fn push_field(out: &mut Short, value: u32)
 
 /// Appends a point and six digits of microseconds, or nothing where they are 0.
 #[tactic(auto, unfolding(crate::specs::ClockText::fraction_text))]
-fn push_nonzero_fraction(out: &mut Short, micros: u32)
+fn push_nonzero_fraction<const CAP: usize>(out: &mut ArrayString<CAP>, micros: u32)
     requires micros { micros < 1_000_000 }
-    requires room { array_string_len out.old + 7 ≤ 128 }
+    requires room { array_string_len out.old + 7 ≤ CAP }
     ensures bytes { out.new.bytes ≡ out.old.bytes ++ fraction_text micros }
     ensures len { array_string_len out.new ≤ array_string_len out.old + 7 }
 {
@@ -43,10 +44,9 @@ fn push_nonzero_fraction(out: &mut Short, micros: u32)
 }
 
 /// Appends the time by magnitude, with at least `width` digits of hours.
-#[tactic(auto, unfolding(crate::specs::ClockText::clock_text))]
-pub fn push_clock(out: &mut Short, width: usize, micros: i64)
+pub fn push_clock<const CAP: usize>(out: &mut ArrayString<CAP>, width: usize, micros: i64)
     requires width { width ≤ 2 }
-    requires room { array_string_len out.old + 23 ≤ 128 }
+    requires room { array_string_len out.old + 23 ≤ CAP }
     ensures bytes { out.new.bytes ≡ out.old.bytes ++ clock_text width micros }
     ensures len { array_string_len out.new ≤ array_string_len out.old + 23 }
 {

@@ -7,13 +7,14 @@ use crate::parts::{
     hours_of, minutes_of, months_of, push_digits, push_fraction, push_minus, seconds_of,
     subsecond_of, years_of,
 };
-use scan_core::{Short, push_text};
+use arrayvec::ArrayString;
+use scan_core::push_text;
 
 /// Appends a number with its minus and its letter, or nothing where it is 0.
 #[tactic(auto, unfolding(crate::specs::IsoText::iso_part))]
-fn push_part(out: &mut Short, negative: bool, value: u32, letter: &str)
+fn push_part<const CAP: usize>(out: &mut ArrayString<CAP>, negative: bool, value: u32, letter: &str)
     requires letter { length letter.now ≤ 1 }
-    requires room { array_string_len out.old + 12 ≤ 128 }
+    requires room { array_string_len out.old + 12 ≤ CAP }
     ensures bytes { out.new.bytes ≡ out.old.bytes ++ iso_part negative value letter.now }
     ensures len { array_string_len out.new ≤ array_string_len out.old + 12 }
 {
@@ -26,8 +27,8 @@ fn push_part(out: &mut Short, negative: bool, value: u32, letter: &str)
 
 /// Appends the digits of a number, or nothing where it is 0.
 #[tactic(auto, unfolding(crate::specs::IsoText::nonzero_digits))]
-fn push_nonzero(out: &mut Short, value: u32)
-    requires { array_string_len out.old + 10 ≤ 128 }
+fn push_nonzero<const CAP: usize>(out: &mut ArrayString<CAP>, value: u32)
+    requires { array_string_len out.old + 10 ≤ CAP }
     ensures bytes { out.new.bytes ≡ out.old.bytes ++ nonzero_digits value }
     ensures len { array_string_len out.new ≤ array_string_len out.old + 10 }
 {
@@ -38,9 +39,14 @@ fn push_nonzero(out: &mut Short, value: u32)
 
 /// Appends seconds with microseconds that aren't 0.
 #[tactic(auto, unfolding(crate::specs::IsoText::iso_decimal))]
-fn push_decimal(out: &mut Short, negative: bool, seconds: u32, micros: u32)
+fn push_decimal<const CAP: usize>(
+    out: &mut ArrayString<CAP>,
+    negative: bool,
+    seconds: u32,
+    micros: u32,
+)
     requires micros { micros < 1_000_000 }
-    requires room { array_string_len out.old + 19 ≤ 128 }
+    requires room { array_string_len out.old + 19 ≤ CAP }
     ensures bytes { out.new.bytes ≡ out.old.bytes ++ iso_decimal negative seconds micros }
     ensures len { array_string_len out.new ≤ array_string_len out.old + 19 }
 {
@@ -52,9 +58,14 @@ fn push_decimal(out: &mut Short, negative: bool, seconds: u32, micros: u32)
 
 /// Appends the seconds, or nothing where they and the microseconds are 0.
 #[tactic(auto, unfolding(crate::specs::IsoText::iso_seconds))]
-fn push_seconds(out: &mut Short, negative: bool, seconds: u32, micros: u32)
+fn push_seconds<const CAP: usize>(
+    out: &mut ArrayString<CAP>,
+    negative: bool,
+    seconds: u32,
+    micros: u32,
+)
     requires micros { micros < 1_000_000 }
-    requires room { array_string_len out.old + 19 ≤ 128 }
+    requires room { array_string_len out.old + 19 ≤ CAP }
     ensures bytes { out.new.bytes ≡ out.old.bytes ++ iso_seconds negative seconds micros }
     ensures len { array_string_len out.new ≤ array_string_len out.old + 19 }
 {
@@ -67,8 +78,8 @@ fn push_seconds(out: &mut Short, negative: bool, seconds: u32, micros: u32)
 
 /// Appends the time, or nothing where it is 0.
 #[tactic(auto, unfolding(crate::specs::IsoText::iso_time))]
-fn push_time(out: &mut Short, micros: i64)
-    requires { array_string_len out.old + 44 ≤ 128 }
+fn push_time<const CAP: usize>(out: &mut ArrayString<CAP>, micros: i64)
+    requires { array_string_len out.old + 44 ≤ CAP }
     ensures bytes { out.new.bytes ≡ out.old.bytes ++ iso_time micros }
     ensures len { array_string_len out.new ≤ array_string_len out.old + 44 }
 {
@@ -85,20 +96,10 @@ fn push_time(out: &mut Short, micros: i64)
     }
 }
 
-/// The text of zero.
-fn zero_text() -> Short
-    ensures bytes { result.bytes ≡ codes "PT0S" }
-    ensures len { array_string_len result ≤ 96 }
-{
-    let mut out = Short::new();
-    push_text(&mut out, "PT0S");
-    out
-}
-
 /// Appends the years, months and days, each where it isn't 0.
 #[tactic(auto, unfolding(crate::specs::IsoText::iso_date))]
-fn push_date(out: &mut Short, months: i32, days: i32)
-    requires { array_string_len out.old + 36 ≤ 128 }
+fn push_date<const CAP: usize>(out: &mut ArrayString<CAP>, months: i32, days: i32)
+    requires { array_string_len out.old + 36 ≤ CAP }
     ensures bytes { out.new.bytes ≡ out.old.bytes ++ iso_date months days }
     ensures len { array_string_len out.new ≤ array_string_len out.old + 36 }
 {
@@ -107,27 +108,28 @@ fn push_date(out: &mut Short, months: i32, days: i32)
     push_part(out, days.is_negative(), days.unsigned_abs(), "D");
 }
 
-/// The text of an interval that isn't zero.
-fn nonzero_text(months: i32, days: i32, micros: i64) -> Short
-    ensures bytes { result.bytes ≡ codes "P" ++ (iso_date months days ++ iso_time micros) }
-    ensures len { array_string_len result ≤ 96 }
+/// Appends the text of an interval that isn't zero.
+fn push_parts<const CAP: usize>(out: &mut ArrayString<CAP>, months: i32, days: i32, micros: i64)
+    requires { array_string_len out.old + 96 ≤ CAP }
+    ensures bytes { out.new.bytes
+        ≡ out.old.bytes ++ (codes "P" ++ (iso_date months days ++ iso_time micros)) }
+    ensures len { array_string_len out.new ≤ array_string_len out.old + 96 }
 {
-    let mut out = Short::new();
-    push_text(&mut out, "P");
-    push_date(&mut out, months, days);
-    push_time(&mut out, micros);
-    out
+    push_text(out, "P");
+    push_date(out, months, days);
+    push_time(out, micros);
 }
 
-/// The written text of an interval of these parts: `P1Y1M1DT1H` of 13, 1 and 3_600_000_000.
+/// Appends the text of an interval of these parts: `P1Y1M1DT1H` of 13, 1 and 3_600_000_000.
 #[tactic(auto, unfolding(crate::specs::IsoText::iso_text))]
-pub fn iso_text(months: i32, days: i32, micros: i64) -> Short
-    ensures bytes { result.bytes ≡ iso_text months days micros }
-    ensures len { array_string_len result ≤ 96 }
+pub fn push_iso<const CAP: usize>(out: &mut ArrayString<CAP>, months: i32, days: i32, micros: i64)
+    requires { array_string_len out.old + 96 ≤ CAP }
+    ensures bytes { out.new.bytes ≡ out.old.bytes ++ iso_text months days micros }
+    ensures len { array_string_len out.new ≤ array_string_len out.old + 96 }
 {
     if months == 0 && days == 0 && micros == 0 {
-        zero_text()
+        push_text(out, "PT0S");
     } else {
-        nonzero_text(months, days, micros)
+        push_parts(out, months, days, micros);
     }
 }

@@ -5,7 +5,8 @@ ghost use Rattle.scan_core.specs.Padded.{padded};
 ghost use Rattle.pg_interval_2.specs.Turned.{turned_sign};
 ghost use Rattle.pg_interval_2.specs.Parts.{minus, has_negative, years_of, months_of, hours_of, minutes_of, seconds_of, subsecond_of};
 
-use scan_core::{Short, push_num, push_padded, push_text};
+use arrayvec::ArrayString;
+use scan_core::{push_num, push_padded, push_text};
 
 /// The whole years of a number of months, by magnitude.
 pub fn years_of(months: i32) -> u32
@@ -65,8 +66,8 @@ pub fn turn(turned: bool, negative: bool) -> bool
 }
 
 /// Appends the minus of a negative number.
-pub fn push_minus(out: &mut Short, negative: bool)
-    requires { array_string_len out.old + 1 ≤ 128 }
+pub fn push_minus<const CAP: usize>(out: &mut ArrayString<CAP>, negative: bool)
+    requires { array_string_len out.old + 1 ≤ CAP }
     ensures bytes { out.new.bytes ≡ out.old.bytes ++ minus negative }
     ensures len { array_string_len out.new ≤ array_string_len out.old + 1 }
 {
@@ -77,8 +78,8 @@ pub fn push_minus(out: &mut Short, negative: bool)
 
 /// Appends the digits of a number.
 #[tactic(auto, using(crate::proofs::Widths::length_decimal_u32, crate::proofs::Widths::length_decimal_two))]
-pub fn push_digits(out: &mut Short, value: u32)
-    requires { array_string_len out.old + 10 ≤ 128 }
+pub fn push_digits<const CAP: usize>(out: &mut ArrayString<CAP>, value: u32)
+    requires { array_string_len out.old + 10 ≤ CAP }
     ensures bytes { out.new.bytes ≡ out.old.bytes ++ decimal value }
     ensures len { array_string_len out.new ≤ array_string_len out.old + 10 }
     ensures two { value < 100 → array_string_len out.new ≤ array_string_len out.old + 2 }
@@ -88,9 +89,9 @@ pub fn push_digits(out: &mut Short, value: u32)
 
 /// Appends a point and six digits of microseconds.
 #[tactic(auto, using(crate::proofs::Widths::length_decimal_micros))]
-pub fn push_fraction(out: &mut Short, micros: u32)
+pub fn push_fraction<const CAP: usize>(out: &mut ArrayString<CAP>, micros: u32)
     requires micros { micros < 1_000_000 }
-    requires room { array_string_len out.old + 7 ≤ 128 }
+    requires room { array_string_len out.old + 7 ≤ CAP }
     ensures bytes { out.new.bytes ≡ out.old.bytes ++ (codes "." ++ padded 6 micros) }
     ensures len { array_string_len out.new ≤ array_string_len out.old + 7 }
 {

@@ -6,11 +6,12 @@ ghost use Rattle.pg_interval_2.specs.SqlText.{minus_or_plus, has_positive, has_a
 
 use crate::clock_text::push_clock;
 use crate::parts::{has_negative, months_of, push_digits, push_minus, years_of};
-use scan_core::{Short, push_text};
+use arrayvec::ArrayString;
+use scan_core::push_text;
 
 /// Appends the sign of a number, a plus also of 0.
-fn push_sign(out: &mut Short, negative: bool)
-    requires { array_string_len out.old + 1 ≤ 128 }
+fn push_sign<const CAP: usize>(out: &mut ArrayString<CAP>, negative: bool)
+    requires { array_string_len out.old + 1 ≤ CAP }
     ensures bytes { out.new.bytes ≡ out.old.bytes ++ minus_or_plus negative }
     ensures len { array_string_len out.new ≤ array_string_len out.old + 1 }
 {
@@ -23,8 +24,8 @@ fn push_sign(out: &mut Short, negative: bool)
 
 /// Appends years, a minus and months, by magnitude.
 #[tactic(auto, unfolding(crate::specs::SqlText::year_month_text))]
-fn push_year_month(out: &mut Short, months: i32)
-    requires { array_string_len out.old + 21 ≤ 128 }
+fn push_year_month<const CAP: usize>(out: &mut ArrayString<CAP>, months: i32)
+    requires { array_string_len out.old + 21 ≤ CAP }
     ensures bytes { out.new.bytes ≡ out.old.bytes ++ year_month_text months }
     ensures len { array_string_len out.new ≤ array_string_len out.old + 21 }
 {
@@ -52,105 +53,93 @@ fn has_all_signs(months: i32, days: i32, micros: i64) -> bool
     months != 0 && (days != 0 || micros != 0)
 }
 
-/// The text of zero.
-fn zero_text() -> Short
-    ensures bytes { result.bytes ≡ codes "0" }
-    ensures len { array_string_len result ≤ 96 }
+/// Appends each of the three numbers with its sign.
+fn push_signed<const CAP: usize>(out: &mut ArrayString<CAP>, months: i32, days: i32, micros: i64)
+    requires { array_string_len out.old + 96 ≤ CAP }
+    ensures bytes { out.new.bytes ≡ out.old.bytes ++ signed_text months days micros }
+    ensures len { array_string_len out.new ≤ array_string_len out.old + 96 }
 {
-    let mut out = Short::new();
-    push_text(&mut out, "0");
-    out
+    push_sign(out, months.is_negative());
+    push_year_month(out, months);
+    push_text(out, " ");
+    push_sign(out, days.is_negative());
+    push_digits(out, days.unsigned_abs());
+    push_text(out, " ");
+    push_sign(out, micros.is_negative());
+    push_clock(out, 1, micros);
 }
 
-/// The text in which each of the three numbers has its sign.
-#[tactic(auto, unfolding(crate::specs::SqlText::signed_text))]
-fn signed_text(months: i32, days: i32, micros: i64) -> Short
-    ensures bytes { result.bytes ≡ signed_text months days micros }
-    ensures len { array_string_len result ≤ 96 }
-{
-    let mut out = Short::new();
-    push_sign(&mut out, months.is_negative());
-    push_year_month(&mut out, months);
-    push_text(&mut out, " ");
-    push_sign(&mut out, days.is_negative());
-    push_digits(&mut out, days.unsigned_abs());
-    push_text(&mut out, " ");
-    push_sign(&mut out, micros.is_negative());
-    push_clock(&mut out, 1, micros);
-    out
-}
-
-/// The text of months alone.
+/// Appends months alone.
 #[tactic(auto, unfolding(crate::specs::SqlText::months_text))]
-fn months_text(months: i32) -> Short
-    ensures bytes { result.bytes ≡ months_text months }
-    ensures len { array_string_len result ≤ 96 }
+fn push_months<const CAP: usize>(out: &mut ArrayString<CAP>, months: i32)
+    requires { array_string_len out.old + 96 ≤ CAP }
+    ensures bytes { out.new.bytes ≡ out.old.bytes ++ months_text months }
+    ensures len { array_string_len out.new ≤ array_string_len out.old + 96 }
 {
-    let mut out = Short::new();
-    push_minus(&mut out, months.is_negative());
-    push_year_month(&mut out, months);
-    out
+    push_minus(out, months.is_negative());
+    push_year_month(out, months);
 }
 
-/// The text of days and the time, whose sign is that of the days.
+/// Appends days and the time, whose sign is that of the days.
 #[tactic(auto, unfolding(crate::specs::SqlText::days_text))]
-fn days_text(days: i32, micros: i64) -> Short
-    ensures bytes { result.bytes ≡ days_text days micros }
-    ensures len { array_string_len result ≤ 96 }
+fn push_days<const CAP: usize>(out: &mut ArrayString<CAP>, days: i32, micros: i64)
+    requires { array_string_len out.old + 96 ≤ CAP }
+    ensures bytes { out.new.bytes ≡ out.old.bytes ++ days_text days micros }
+    ensures len { array_string_len out.new ≤ array_string_len out.old + 96 }
 {
-    let mut out = Short::new();
-    push_minus(&mut out, days.is_negative());
-    push_digits(&mut out, days.unsigned_abs());
-    push_text(&mut out, " ");
-    push_clock(&mut out, 1, micros);
-    out
+    push_minus(out, days.is_negative());
+    push_digits(out, days.unsigned_abs());
+    push_text(out, " ");
+    push_clock(out, 1, micros);
 }
 
-/// The text of the time alone.
+/// Appends the time alone.
 #[tactic(auto, unfolding(crate::specs::SqlText::time_text))]
-fn time_text(micros: i64) -> Short
-    ensures bytes { result.bytes ≡ time_text micros }
-    ensures len { array_string_len result ≤ 96 }
+fn push_time<const CAP: usize>(out: &mut ArrayString<CAP>, micros: i64)
+    requires { array_string_len out.old + 96 ≤ CAP }
+    ensures bytes { out.new.bytes ≡ out.old.bytes ++ time_text micros }
+    ensures len { array_string_len out.new ≤ array_string_len out.old + 96 }
 {
-    let mut out = Short::new();
-    push_minus(&mut out, micros.is_negative());
-    push_clock(&mut out, 1, micros);
-    out
+    push_minus(out, micros.is_negative());
+    push_clock(out, 1, micros);
 }
 
-/// The text in which one sign serves all.
+/// Appends the text in which one sign serves all.
 #[tactic(auto, unfolding(crate::specs::SqlText::plain_text))]
-fn plain_text(months: i32, days: i32, micros: i64) -> Short
-    ensures bytes { result.bytes ≡ plain_text months days micros }
-    ensures len { array_string_len result ≤ 96 }
+fn push_plain<const CAP: usize>(out: &mut ArrayString<CAP>, months: i32, days: i32, micros: i64)
+    requires { array_string_len out.old + 96 ≤ CAP }
+    ensures bytes { out.new.bytes ≡ out.old.bytes ++ plain_text months days micros }
+    ensures len { array_string_len out.new ≤ array_string_len out.old + 96 }
 {
     if months != 0 {
-        months_text(months)
+        push_months(out, months);
     } else if days != 0 {
-        days_text(days, micros)
+        push_days(out, days, micros);
     } else {
-        time_text(micros)
+        push_time(out, micros);
     }
 }
 
-/// The written text of an interval of these parts: `+1-1 +1 +1:00:00` of 13, 1 and 3_600_000_000.
+/// Appends the text of an interval of these parts: `+1-1 +1 +1:00:00` of 13, 1 and 3_600_000_000.
 #[tactic(auto, unfolding(crate::specs::SqlText::sql_text))]
-pub fn sql_text(months: i32, days: i32, micros: i64) -> Short
-    ensures bytes { result.bytes ≡ sql_text months days micros }
-    ensures len { array_string_len result ≤ 96 }
+pub fn push_sql<const CAP: usize>(out: &mut ArrayString<CAP>, months: i32, days: i32, micros: i64)
+    requires { array_string_len out.old + 96 ≤ CAP }
+    ensures bytes { out.new.bytes ≡ out.old.bytes ++ sql_text months days micros }
+    ensures len { array_string_len out.new ≤ array_string_len out.old + 96 }
 {
     if months == 0 && days == 0 && micros == 0 {
-        zero_text()
+        push_text(out, "0");
     } else if has_all_signs(months, days, micros) {
-        signed_text(months, days, micros)
+        push_signed(out, months, days, micros);
     } else {
-        plain_text(months, days, micros)
+        push_plain(out, months, days, micros);
     }
 }
 
 #[cfg(test)]
 mod tests {
-    use super::*;
+    use crate::interval::Interval;
+    use crate::style::Style;
     use std::test::Fail;
 
     #[test]
@@ -196,7 +185,7 @@ mod tests {
                 "-178956970-8 -2147483648 -2562047788:00:54.775808",
             ),
         ] {
-            let text = sql_text(months, days, micros);
+            let text = Interval::new(months, days, micros).text(Style::Sql);
             assert_eq!(rt; text.as_str(), want, "at {months}, {days}, {micros}");
         }
         Ok(())

@@ -1,14 +1,15 @@
 //! The written text of an interval, by style.
 use crate::interval::Interval;
-use crate::iso_text::iso_text;
-use crate::postgres_text::postgres_text;
-use crate::sql_text::sql_text;
+use crate::iso_text::push_iso;
+use crate::postgres_text::push_postgres;
+use crate::sql_text::push_sql;
 use crate::style::Style;
-use crate::verbose_text::verbose_text;
+use crate::verbose_text::push_verbose;
+use arrayvec::ArrayString;
 use scan_core::Short;
 
 impl Interval {
-    ghost use Rattle.std.specs.Prelude.{◌≡◌, ◌≤◌};
+    ghost use Rattle.std.specs.Prelude.{◌≡◌, ◌+◌, ◌≤◌, ◌++◌};
     ghost use Rattle.arrayvec.specs.ArrayString.{array_string_len};
     ghost use Rattle.pg_interval_2.specs.Styles.{written};
 
@@ -19,11 +20,22 @@ impl Interval {
         ensures bytes { result.bytes ≡ written style self.now }
         ensures len { array_string_len result ≤ 96 }
     {
+        let mut out = Short::new();
+        self.push_text(style, &mut out);
+        out
+    }
+
+    /// Appends what [`Interval::text`] answers to a text that has room for 96 bytes more.
+    pub fn push_text<const CAP: usize>(&self, style: Style, out: &mut ArrayString<CAP>)
+        requires room { array_string_len out.old + 96 ≤ CAP }
+        ensures bytes { out.new.bytes ≡ out.old.bytes ++ written style self.now }
+        ensures len { array_string_len out.new ≤ array_string_len out.old + 96 }
+    {
         match style {
-            Style::Iso | Style::IsoStrict => iso_text(self.months, self.days, self.microseconds),
-            Style::Postgres => postgres_text(self.months, self.days, self.microseconds),
-            Style::Verbose => verbose_text(self.months, self.days, self.microseconds),
-            Style::Sql => sql_text(self.months, self.days, self.microseconds),
+            Style::Iso | Style::IsoStrict => push_iso(out, self.months, self.days, self.microseconds),
+            Style::Postgres => push_postgres(out, self.months, self.days, self.microseconds),
+            Style::Verbose => push_verbose(out, self.months, self.days, self.microseconds),
+            Style::Sql => push_sql(out, self.months, self.days, self.microseconds),
         }
     }
 }

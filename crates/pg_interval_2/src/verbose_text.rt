@@ -1,5 +1,5 @@
 //! Texts in `postgres_verbose` style: `@ 1 year 2 mons -3 days 4 hours 5 mins 6.5 secs ago`.
-ghost use Rattle.std.specs.Prelude.{◌≡◌, ◌+◌, ◌<◌, ◌≤◌, ◌++◌, codes, length};
+ghost use Rattle.std.specs.Prelude.{◌≡◌, ◌+◌, ◌<◌, ◌≤◌, ◌++◌, length};
 ghost use Rattle.arrayvec.specs.ArrayString.{array_string_len};
 ghost use Rattle.pg_interval_2.specs.VerboseText.{behind_spaces, has_ago, unit_words, second_digits, second_words, verbose_date, verbose_time, parts_text, verbose_text};
 
@@ -8,7 +8,8 @@ use crate::parts::{
     subsecond_of, turn, years_of,
 };
 use crate::postgres_text::push_name;
-use scan_core::{Short, push_text, push_trimmed};
+use arrayvec::ArrayString;
+use scan_core::{push_text, push_trimmed};
 
 /// Whether ` ago` ends the text, and the sign of each part is turned.
 #[tactic(auto, unfolding(crate::specs::VerboseText::has_ago))]
@@ -20,9 +21,9 @@ fn has_ago(months: i32, days: i32, micros: i64) -> bool
 
 /// Appends a part's number and its name, each behind a space, or nothing where it is 0.
 #[tactic(auto, unfolding(crate::specs::PostgresText::number_words))]
-fn push_unit(out: &mut Short, negative: bool, value: u32, name: &str)
+fn push_unit<const CAP: usize>(out: &mut ArrayString<CAP>, negative: bool, value: u32, name: &str)
     requires name { length name.now ≤ 4 }
-    requires room { array_string_len out.old + 18 ≤ 128 }
+    requires room { array_string_len out.old + 18 ≤ CAP }
     ensures bytes { out.new.bytes
         ≡ out.old.bytes ++ behind_spaces (unit_words negative value name.now) }
     ensures len { array_string_len out.new ≤ array_string_len out.old + 18 }
@@ -39,10 +40,10 @@ fn push_unit(out: &mut Short, negative: bool, value: u32, name: &str)
 
 /// Appends seconds with microseconds as one exact decimal.
 #[tactic(auto, using(crate::proofs::Widths::length_decimal_micros), unfolding(crate::specs::VerboseText::second_digits))]
-fn push_decimal(out: &mut Short, seconds: u32, micros: u32)
+fn push_decimal<const CAP: usize>(out: &mut ArrayString<CAP>, seconds: u32, micros: u32)
     requires seconds { seconds < 60 }
     requires micros { micros < 1_000_000 }
-    requires room { array_string_len out.old + 17 ≤ 128 }
+    requires room { array_string_len out.old + 17 ≤ CAP }
     ensures bytes { out.new.bytes ≡ out.old.bytes ++ second_digits seconds micros }
     ensures len { array_string_len out.new ≤ array_string_len out.old + 9 }
 {
@@ -53,10 +54,15 @@ fn push_decimal(out: &mut Short, seconds: u32, micros: u32)
 
 /// Appends the seconds with their microseconds, or nothing where they are 0.
 #[tactic(auto, unfolding(crate::specs::VerboseText::second_words))]
-fn push_seconds(out: &mut Short, negative: bool, seconds: u32, micros: u32)
+fn push_seconds<const CAP: usize>(
+    out: &mut ArrayString<CAP>,
+    negative: bool,
+    seconds: u32,
+    micros: u32,
+)
     requires seconds { seconds < 60 }
     requires micros { micros < 1_000_000 }
-    requires room { array_string_len out.old + 24 ≤ 128 }
+    requires room { array_string_len out.old + 19 ≤ CAP }
     ensures bytes { out.new.bytes
         ≡ out.old.bytes ++ behind_spaces (second_words negative seconds micros) }
     ensures len { array_string_len out.new ≤ array_string_len out.old + 16 }
@@ -71,20 +77,9 @@ fn push_seconds(out: &mut Short, negative: bool, seconds: u32, micros: u32)
     }
 }
 
-/// The text of zero.
-fn zero_text() -> Short
-    ensures bytes { result.bytes ≡ codes "@ 0" }
-    ensures len { array_string_len result ≤ 96 }
-{
-    let mut out = Short::new();
-    push_text(&mut out, "@ 0");
-    out
-}
-
 /// Appends the years, months and days, each with its sign, turned or not.
-#[tactic(auto, unfolding(crate::specs::VerboseText::verbose_date))]
-fn push_date(out: &mut Short, ago: bool, months: i32, days: i32)
-    requires { array_string_len out.old + 46 ≤ 128 }
+fn push_date<const CAP: usize>(out: &mut ArrayString<CAP>, ago: bool, months: i32, days: i32)
+    requires { array_string_len out.old + 46 ≤ CAP }
     ensures bytes { out.new.bytes ≡ out.old.bytes ++ verbose_date ago months days }
     ensures len { array_string_len out.new ≤ array_string_len out.old + 46 }
 {
@@ -101,8 +96,8 @@ fn push_date(out: &mut Short, ago: bool, months: i32, days: i32)
 
 /// Appends the hours, minutes and seconds, with their sign, turned or not.
 #[tactic(auto, unfolding(crate::specs::VerboseText::verbose_time))]
-fn push_time(out: &mut Short, ago: bool, micros: i64)
-    requires { array_string_len out.old + 52 ≤ 128 }
+fn push_time<const CAP: usize>(out: &mut ArrayString<CAP>, ago: bool, micros: i64)
+    requires { array_string_len out.old + 47 ≤ CAP }
     ensures bytes { out.new.bytes ≡ out.old.bytes ++ verbose_time ago micros }
     ensures len { array_string_len out.new ≤ array_string_len out.old + 44 }
 {
@@ -112,38 +107,50 @@ fn push_time(out: &mut Short, ago: bool, micros: i64)
     push_seconds(out, sign, seconds_of(micros), subsecond_of(micros));
 }
 
-/// The text of an interval that isn't zero.
+/// Appends the text of an interval that isn't zero.
 #[tactic(auto, unfolding(crate::specs::VerboseText::parts_text))]
-fn parts_text(ago: bool, months: i32, days: i32, micros: i64) -> Short
-    ensures bytes { result.bytes ≡ parts_text ago months days micros }
-    ensures len { array_string_len result ≤ 96 }
+fn push_parts<const CAP: usize>(
+    out: &mut ArrayString<CAP>,
+    ago: bool,
+    months: i32,
+    days: i32,
+    micros: i64,
+)
+    requires { array_string_len out.old + 96 ≤ CAP }
+    ensures bytes { out.new.bytes ≡ out.old.bytes ++ parts_text ago months days micros }
+    ensures len { array_string_len out.new ≤ array_string_len out.old + 96 }
 {
-    let mut out = Short::new();
-    push_text(&mut out, "@");
-    push_date(&mut out, ago, months, days);
-    push_time(&mut out, ago, micros);
+    push_text(out, "@");
+    push_date(out, ago, months, days);
+    push_time(out, ago, micros);
     if ago {
-        push_text(&mut out, " ago");
+        push_text(out, " ago");
     }
-    out
 }
 
-/// The written text of an interval of these parts: `@ 1 year 1 mon 1 day 1 hour` of 13, 1 and 3_600_000_000.
+/// Appends the text of an interval of these parts: `@ 1 year 1 mon 1 day 1 hour` of 13, 1 and 3_600_000_000.
 #[tactic(auto, unfolding(crate::specs::VerboseText::verbose_text))]
-pub fn verbose_text(months: i32, days: i32, micros: i64) -> Short
-    ensures bytes { result.bytes ≡ verbose_text months days micros }
-    ensures len { array_string_len result ≤ 96 }
+pub fn push_verbose<const CAP: usize>(
+    out: &mut ArrayString<CAP>,
+    months: i32,
+    days: i32,
+    micros: i64,
+)
+    requires { array_string_len out.old + 96 ≤ CAP }
+    ensures bytes { out.new.bytes ≡ out.old.bytes ++ verbose_text months days micros }
+    ensures len { array_string_len out.new ≤ array_string_len out.old + 96 }
 {
     if months == 0 && days == 0 && micros == 0 {
-        zero_text()
+        push_text(out, "@ 0");
     } else {
-        parts_text(has_ago(months, days, micros), months, days, micros)
+        push_parts(out, has_ago(months, days, micros), months, days, micros);
     }
 }
 
 #[cfg(test)]
 mod tests {
-    use super::*;
+    use crate::interval::Interval;
+    use crate::style::Style;
     use std::test::Fail;
 
     #[test]
@@ -192,7 +199,7 @@ mod tests {
                 "@ 178956970 years 8 mons -2147483647 days 2562047788 hours 54.775808 secs ago",
             ),
         ] {
-            let text = verbose_text(months, days, micros);
+            let text = Interval::new(months, days, micros).text(Style::Verbose);
             assert_eq!(rt; text.as_str(), want, "at {months}, {days}, {micros}");
         }
         Ok(())
