@@ -4,10 +4,11 @@ use Rattle.std.specs.Prelude.{unsigned_abs, neg_ℤ}
 use Rattle.std.specs.Int.{is_negative}
 use Rattle.std.proofs.lemmas.Int.{ints}
 use Rattle.scan_core.specs.Padded.{padded}
+use Rattle.scan_core.specs.Number.{sign_text}
 use Rattle.scan_core.specs.Shares.{signed}
 use Rattle.iso8601.specs.Dates.{IsDate}
 use Rattle.iso8601.specs.DateTimes.{IsDateTime}
-use Rattle.iso8601.specs.Times.{IsOffset, IsTime, sign_text}
+use Rattle.iso8601.specs.Times.{IsOffset, IsTime}
 use Rattle.iso8601.specs.Ranges.{IsDateInRange, HaveOneSign, IsTimeInRange, IsDateTimeInRange}
 use Rattle.iso8601.specs.Written.{year_text, date_text, clock_text, offset_text, time_text, date_time_text}
 use Rattle.iso8601.specs.declared.types.Date.{Date}

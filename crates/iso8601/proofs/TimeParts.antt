@@ -4,11 +4,12 @@ use Rattle.std.specs.Char.{is_ascii_digit, digit_value}
 use Rattle.std.proofs.lemmas.Bool.Decides.{nat_tests}
 use Rattle.std.proofs.lemmas.Str.Parse.{digit_from_value}
 use Rattle.scan_core.specs.Digits.{AreDigits}
+use Rattle.scan_core.specs.Number.{sign_text}
 use Rattle.scan_core.specs.Shares.{signed}
 use Rattle.scan_core.proofs.FrontFacts.{front_of, after_of, front_are_digits, front_and_after}
 use Rattle.iso8601.specs.Fields.{IsOrZero}
 use Rattle.iso8601.specs.Prefixes.{Begins}
-use Rattle.iso8601.specs.Times.{IsPoint, IsLater, IsFraction, IsSignedOffset, IsOffset, sign_text}
+use Rattle.iso8601.specs.Times.{IsPoint, IsLater, IsFraction, IsSignedOffset, IsOffset}
 use Rattle.iso8601.specs.inside.Reading.{read_field, read_marked}
 use Rattle.scan_core.specs.Fronts.{front_digits, after_digits, NoDigitFirst}
 use Rattle.iso8601.specs.inside.TimeReading.{read_later, millis_of, read_fraction, no_offset, with_minutes, read_signed, read_offset}

@@ -1,8 +1,9 @@
 -- Times: hours and minutes, perhaps seconds, perhaps a fraction, perhaps an offset.
-use Rattle.std.specs.Prelude.{◌≡◌, ℕ, ℤ, pos, ◌⊎◌, Bool, true, false, List, [], ◌++◌, take, codes}
+use Rattle.std.specs.Prelude.{◌≡◌, ℕ, ℤ, pos, ◌⊎◌, Bool, List, [], ◌++◌, take, codes}
 use Rattle.scan_core.specs.Digits.{AreDigits, number_of}
 use Rattle.scan_core.specs.Shares.{signed}
 use Rattle.scan_core.specs.Fields.{IsField}
+use Rattle.scan_core.specs.Number.{sign_text}
 use Rattle.iso8601.specs.Fields.{IsMarked, IsOrZero}
 use Rattle.iso8601.specs.declared.types.Time.{Time}
 
@@ -22,10 +23,6 @@ pub record IsFraction (text : List ℕ) (millis : ℕ) : Type 0 where
   pub all_digits : AreDigits digits
   pub joined : text ≡ point ++ digits
   pub value : millis ≡ number_of (take 3 (digits ++ codes "000"))
-
-abbrev pub sign_text : Bool → List ℕ
-sign_text true = codes "-"
-sign_text false = codes "+"
 
 -- a sign, which governs both, two digits of hours, and perhaps minutes
 pub record IsSignedOffset (text : List ℕ) (offset : ℤ × ℤ) : Type 0 where

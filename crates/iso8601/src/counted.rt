@@ -22,11 +22,7 @@ fn number_in(run: Run) -> Option<u32>
     if run.start == run.end {
         return None;
     }
-    if run.value < 4_294_967_296 {
-        Some(run.value as u32)
-    } else {
-        None
-    }
+    u32::try_from(run.value).ok()
 }
 
 /// Takes the count of a unit whose digits were passed, and passes the digits behind it; 0 where it isn't there.

@@ -4,7 +4,9 @@ use Rattle.std.proofs.lemmas.Bool.Decides.{nat_tests}
 use Rattle.scan_core.specs.Digits.{number_of}
 use Rattle.port_toml_datetime.specs.declared.offset.Offset.{Offset}
 use Rattle.port_toml_datetime.specs.declared.offset.Offset.TheVariants.{Z, Custom}
-use Rattle.port_toml_datetime.specs.Offsets.{IsNumericOffset, sign_text, signed}
+use Rattle.scan_core.specs.Number.{sign_text}
+use Rattle.scan_core.specs.Shares.{signed}
+use Rattle.port_toml_datetime.specs.Offsets.{IsNumericOffset}
 use Rattle.port_toml_datetime.specs.Datetimes.{IsPerhapsOffset}
 use Rattle.port_toml_datetime.specs.Tokens.{first_token, after_token, token, after, is_of, is_one_of}
 use Rattle.port_toml_datetime.specs.Checks.{Row, first_failing, numeric_offset_rows, offset_rows, end_row}

@@ -7,7 +7,8 @@ use Rattle.port_toml_datetime.specs.declared.offset.Offset.TheVariants.{Custom}
 use Rattle.port_toml_datetime.specs.declared.datetime.Datetime.{Datetime}
 use Rattle.port_toml_datetime.specs.Dates.{IsDate}
 use Rattle.port_toml_datetime.specs.Times.{IsPerhapsSecondFraction, IsPerhapsSeconds, IsTime}
-use Rattle.port_toml_datetime.specs.Offsets.{IsOffset, signed}
+use Rattle.scan_core.specs.Shares.{signed}
+use Rattle.port_toml_datetime.specs.Offsets.{IsOffset}
 use Rattle.port_toml_datetime.specs.Datetimes.{IsPerhapsOffset, IsDatetime}
 use Rattle.port_toml_datetime.specs.WellFormed.{IsRealDay, AreRealSeconds, IsRealTime, IsOffsetInRange, AreWellFormed, IsWellFormed}
 use Rattle.port_toml_datetime.proofs.FractionFacts.{nine_short}

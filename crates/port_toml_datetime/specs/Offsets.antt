@@ -1,17 +1,10 @@
 -- Offsets, by the TOML specification 1.1, section "Offset Date-Time", and `time-offset` of its grammar.
-use Rattle.std.specs.Prelude.{◌≡◌, ℕ, ◌+◌, ◌*◌, ℤ, pos, neg_ℤ, ◌⊎◌, Bool, true, false, List, ◌++◌, codes}
+use Rattle.std.specs.Prelude.{◌≡◌, ℕ, ◌+◌, ◌*◌, ◌⊎◌, Bool, List, ◌++◌, codes}
 use Rattle.scan_core.specs.Fields.{IsField}
+use Rattle.scan_core.specs.Number.{sign_text}
+use Rattle.scan_core.specs.Shares.{signed}
 use Rattle.port_toml_datetime.specs.declared.offset.Offset.{Offset}
 use Rattle.port_toml_datetime.specs.declared.offset.Offset.TheVariants.{Z, Custom}
-
--- the number with its sign
-abbrev pub signed : Bool → ℕ → ℤ
-signed true n = neg_ℤ (pos n)
-signed false n = pos n
-
-abbrev pub sign_text : Bool → List ℕ
-sign_text true = codes "-"
-sign_text false = codes "+"
 
 -- `time-numoffset`: a sign, and `HH:MM`
 pub record IsNumericOffset (text : List ℕ) (offset : Offset) : Type 0 where

@@ -2,7 +2,7 @@
 -- with more digits is written whole.
 use Rattle.std.specs.Prelude.{ℕ, ◌+◌, ◌/◌, ◌%◌, true, false, ℤ, pos, negsuc, List, [], ◌∷◌, ◌++◌, codes, Option, Some, None}
 use Rattle.scan_core.specs.Padded.{padded, trimmed}
-use Rattle.port_toml_datetime.specs.Offsets.{sign_text}
+use Rattle.scan_core.specs.Number.{sign_text}
 use Rattle.port_toml_datetime.specs.declared.date.Date.{Date}
 use Rattle.port_toml_datetime.specs.declared.time.Time.{Time}
 use Rattle.port_toml_datetime.specs.declared.offset.Offset.{Offset}

@@ -19,6 +19,7 @@ pub(crate) fn two_digits(digits: &[u8]) -> u8
 }
 
 /// The number of four digits.
+#[inline(always)]
 pub(crate) fn four_digits(digits: &[u8]) -> u16
     requires digits { AreDigits digits.now }
     requires four { length digits.now ≡ 4 }
@@ -73,6 +74,7 @@ fn leading_nine(bytes: &[u8]) -> (usize, u32)
 
 /// The nanoseconds that the digits in front write as a fraction, and what follows the digits: the first
 /// nine count, filled with zeros on the right.
+#[inline(always)]
 pub(crate) fn split_nanoseconds(bytes: &[u8]) -> (u32, &[u8])
     ensures value { result.0 ≡ nanoseconds (front_digits bytes.now) }
     ensures rest { result.1.now ≡ after_digits bytes.now }

@@ -1,6 +1,6 @@
 //! Offsets. The checks stand in the order of the table.
 ghost use Rattle.std.specs.Prelude.{◌≡◌, ◌≤◌, Some, None, IfOk, IfErr};
-ghost use Rattle.port_toml_datetime.specs.Offsets.{signed};
+ghost use Rattle.scan_core.specs.Shares.{signed};
 ghost use Rattle.port_toml_datetime.specs.Faults.{fault_of};
 ghost use Rattle.port_toml_datetime.specs.Checks.{first_failing, numeric_offset_rows, offset_rows};
 ghost use Rattle.port_toml_datetime.specs.inside.Values.{numeric_offset_of, offset_of};
@@ -19,6 +19,7 @@ fn with_sign(negative: bool, minutes: u16) -> i16
 
 /// An offset, from behind its sign.
 #[tactic(auto, unfolding(crate::specs::Checks::numeric_offset_rows, crate::specs::inside::Values::numeric_offset_of))]
+#[inline(always)] // else the offset goes through memory
 fn read_numeric_offset(negative: bool, bytes: &[u8]) -> Result<Offset, DatetimeParseError>
     ensures pass { IfOk result (λ r. first_failing (numeric_offset_rows bytes.now) ≡ None) }
     ensures offset { IfOk result (λ r. r ≡ numeric_offset_of negative bytes.now) }

@@ -37,6 +37,7 @@ fn read_second(bytes: &[u8]) -> Result<(Option<Field>, &[u8]), DatetimeParseErro
 
 /// The nanoseconds of the digits behind a `.`, where one follows a second, and what follows both.
 #[tactic(auto, using(crate::proofs::TokenFacts::digits_first, crate::proofs::TokenFacts::no_digits_first))]
+#[inline(always)] // as its caller
 fn read_fraction(has_second: bool, bytes: &[u8]) -> Result<(Option<u32>, &[u8]), DatetimeParseError>
     ensures is { IfOk result (λ r. where_there is_digits (fraction has_second bytes.now) ≡ true) }
     ensures value { IfOk result (λ r.

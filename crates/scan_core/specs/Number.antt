@@ -8,6 +8,11 @@ abbrev pub IsSign : Bool → Bool → List ℕ → Type 0
 IsSign plus true sign = sign ≡ codes "-"
 IsSign plus false sign = (sign ≡ []) ⊎ ((plus ≡ true) × (sign ≡ codes "+"))
 
+-- a sign that is always written
+abbrev pub sign_text : Bool → List ℕ
+sign_text true = codes "-"
+sign_text false = codes "+"
+
 -- what stands behind the whole digits: nothing, or a point and the fraction digits
 abbrev pub IsFraction : List ℕ → List ℕ → Type 0
 IsFraction fraction tail = ((fraction ≡ []) × (tail ≡ [])) ⊎ (AreDigits fraction × (tail ≡ codes "." ++ fraction))

@@ -2,7 +2,7 @@
 use Rattle.std.specs.Prelude.{ℕ, ◌+◌, ◌*◌, Bool, List, codes, Option, Some, None, option_map, is_some, if◌then◌else◌}
 use Rattle.scan_core.specs.Digits.{number_of}
 use Rattle.port_toml_datetime.specs.Times.{nanoseconds}
-use Rattle.port_toml_datetime.specs.Offsets.{signed}
+use Rattle.scan_core.specs.Shares.{signed}
 use Rattle.port_toml_datetime.specs.Datetimes.{datetime_of}
 use Rattle.port_toml_datetime.specs.Tokens.{after, token, is_end, is_of}
 use Rattle.port_toml_datetime.specs.Checks.{marked, after_marked, fraction, after_date, after_time}
