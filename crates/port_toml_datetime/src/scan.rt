@@ -65,6 +65,7 @@ pub(crate) fn begins_with_digit(bytes: &[u8]) -> bool
 /// The digits in front as a field of two, and what follows them, or the error where there are none.
 ///
 /// Two digits are read without a loop, since nearly all fields have two.
+#[inline(always)]
 pub(crate) fn read_field(bytes: &[u8], asked: Check) -> Result<(Field, &[u8]), DatetimeParseError>
     ensures is { IfOk result (λ r. is_digits (first_token bytes.now) ≡ true) }
     ensures two { IfOk result (λ r. r.0.is_two ≡ has_length 2 (first_token bytes.now)) }
