@@ -9,7 +9,7 @@ use Rattle.pg_interval_2.specs.declared.tally.Tally.{Tally}
 use Rattle.pg_interval_2.specs.Iso.{ArePairs, IsDateAlone, IsDateAndTime, IsPair, unit_in}
 use Rattle.pg_interval_2.specs.IsoStrict.{AreInOrder, IsIsoStrict, units_in_order}
 use Rattle.pg_interval_2.specs.inside.IsoTally.{IsSpelled, TakesPairs}
-use Rattle.pg_interval_2.specs.inside.Orders.{Orders}
+use Rattle.pg_interval_2.specs.inside.Orders.{Orders, is_kept}
 use Rattle.pg_interval_2.specs.inside.Reading.{read_pair}
 use Rattle.pg_interval_2.specs.inside.Tallies.{Tallies}
 use Rattle.pg_interval_2.proofs.IsoCounts.{finds_pair, no_time, nothing_read, rest_is, time_ends}
@@ -17,7 +17,7 @@ use Rattle.pg_interval_2.proofs.OrderFacts.{in_order, kept}
 
 -- a text of a date alone, whose pairs were taken
 pub alone_spelled : (text date : List ℕ) (old : Tally) (was is : Order) (spelled : OrderedTally) → text ≡ codes "P" ++ date → date ≢ []
-    → TakesPairs false date [] old spelled.tally was is → Tallies old [] → Orders false was [] → spelled.in_order ≡ is.kept → IsSpelled text spelled
+    → TakesPairs false date [] old spelled.tally was is → Tallies old [] → Orders false was [] → spelled.in_order ≡ is_kept false is → IsSpelled text spelled
 alone_spelled text date old was is spelled whole some taken none unordered told =
     let same : date ≡ taken.front = taken.split ∙ append-nil taken.front in
     let alone : IsDateAlone unit_in text taken.counts = (taken.front, taken.pairs, (λ h. some (same ∙ h)), whole ∙ ap (λ (l : List ℕ). codes "P" ++ l) same) in
@@ -28,7 +28,7 @@ alone_spelled text date old was is spelled whole some taken none unordered told 
       loose = λ so counts shape. not_so counts shape (sym told ∙ so);
     }
   where
-    not_so : (counts : List Count) → IsIsoStrict text counts → is.kept ≡ false → ⊥
+    not_so : (counts : List Count) → IsIsoStrict text counts → is_kept false is ≡ false → ⊥
     not_so counts (inl (alone, ordered)) so =
         let rest = rest_is text taken.front [] taken.counts counts taken.pairs (nothing_read false) (whole ∙ ap (λ (l : List ℕ). codes "P" ++ l) taken.split) (inl alone) in
         let keeps = kept false is taken.counts (taken.ordered [] unordered) (subst (AreInOrder (units_in_order false)) (sym rest.1) ordered) in
@@ -44,7 +44,7 @@ not_bare false time none some = refl
 -- a text of a date and a time, whose pairs were taken
 pub timed_spelled : (text date time : List ℕ) (old mid : Tally) (was is from to : Order) (bare : Bool) (spelled : OrderedTally) → text ≡ codes "P" ++ date
     → TakesPairs false date (codes "T" ++ time) old mid was is → TakesPairs true time [] mid spelled.tally from to → Tallies old [] → Orders false was [] → Orders true from []
-    → ((bare ≡ true) ↔ (time ≡ [])) → spelled.in_order ≡ ((is.kept && to.kept) && not bare) → IsSpelled text spelled
+    → ((bare ≡ true) ↔ (time ≡ [])) → spelled.in_order ≡ ((is_kept false is && is_kept true to) && not bare) → IsSpelled text spelled
 timed_spelled text date time old mid was is from to bare spelled whole dates times none unordered unordered_times nothing told =
     let same : time ≡ times.front = times.split ∙ append-nil times.front in
     let all = times.tallied dates.counts (dates.tallied [] none) in

@@ -103,7 +103,7 @@ fn take_pairs<L: Ledger>(
             Some(pair) => pair,
             None => return false,
         };
-        order.take(in_time, unit);
+        order.take(unit);
         tally.add(scan.text(), number, unit, steps);
     }
     true
@@ -132,7 +132,7 @@ pub(crate) fn spelled<L: Ledger>(text: &Looked<'_>, steps: &mut Steps<L>) -> Opt
     if scan.is_done() {
         return Some(OrderedTally {
             tally,
-            in_order: dates.is_kept(),
+            in_order: dates.is_kept(false),
         });
     }
     scan.next(steps);

@@ -1,7 +1,7 @@
 //! The order of units in a strict ISO text, kept beside its reader.
-ghost use Rattle.std.specs.Prelude.{◌≡◌, ◌++◌, ◌∷◌, ◌&&◌, not, nat_le, nat_lt, [], List};
+ghost use Rattle.std.specs.Prelude.{◌≡◌, ◌++◌, ◌∷◌, ◌&&◌, not, nat_le, true, false, [], Bool, List};
 ghost use Rattle.scan_core.specs.Count.{Count};
-ghost use Rattle.pg_interval_2.specs.inside.Orders.{Orders, end_place, first_place};
+ghost use Rattle.pg_interval_2.specs.inside.Orders.{Orders, end_place, first_place, is_kept};
 
 use crate::units::place_of;
 use scan_core::Unit;
@@ -9,7 +9,7 @@ use scan_core::Unit;
 /// Whether each unit stood behind the one before it, and the place behind the last one.
 #[derive(Clone, Copy)]
 pub(crate) struct Order {
-    kept: bool,
+    rising: bool,
     least: u8,
 }
 
@@ -20,46 +20,45 @@ impl Order {
         ensures { Orders in_time result [] }
     {
         Order {
-            kept: true,
+            rising: true,
             least: first_place(in_time),
         }
     }
 
-    /// Takes one more unit on the same side.
+    /// Takes one more unit.
     #[inline(always)]
-    pub(crate) fn take(&mut self, in_time: bool, unit: Unit)
-        ensures { (counts : List Count) (c : Count) → c.unit ≡ unit → Orders in_time self.old counts
-            → Orders in_time self.new (counts ++ c ∷ []) }
+    pub(crate) fn take(&mut self, unit: Unit)
+        ensures { (in_time : Bool) (counts : List Count) (c : Count) → c.unit ≡ unit
+            → Orders in_time self.old counts → Orders in_time self.new (counts ++ c ∷ []) }
     {
         let place = place_of(unit);
-        self.kept = self.is_kept_by(in_time, place);
+        self.rising = self.rises_to(place);
         self.least = place + 1;
     }
 
-    /// Whether all units came in order, and one at this place does too.
+    /// Whether each unit stood behind the one before it, and one at this place does too.
     #[inline(always)]
-    fn is_kept_by(&self, in_time: bool, place: u8) -> bool
-        ensures { result ≡ (self.now.kept
-            && (nat_le self.now.least place && nat_lt place (end_place in_time))) }
+    fn rises_to(&self, place: u8) -> bool
+        ensures { result ≡ (self.now.rising && nat_le self.now.least place) }
     {
-        self.kept && self.least <= place && place < end_place(in_time)
+        self.rising && self.least <= place
     }
 
-    /// Whether all units came in order.
+    /// Whether each unit stood behind the one before it, and the last one may stand on this side of the `T`.
     #[inline(always)]
-    pub(crate) fn is_kept(&self) -> bool
-        ensures { result ≡ self.now.kept }
+    pub(crate) fn is_kept(&self, in_time: bool) -> bool
+        ensures { result ≡ is_kept in_time self.now }
     {
-        self.kept
+        self.rising && self.least <= end_place(in_time)
     }
 }
 
 /// Whether the units before a `T` and those behind it came in order, and the text behind it isn't bare.
 #[inline(always)]
 pub(crate) fn are_kept(dates: &Order, times: &Order, bare: bool) -> bool
-    ensures { result ≡ ((dates.now.kept && times.now.kept) && not bare) }
+    ensures { result ≡ ((is_kept false dates.now && is_kept true times.now) && not bare) }
 {
-    dates.kept && times.kept && !bare
+    dates.is_kept(false) && times.is_kept(true) && !bare
 }
 
 /// The place of the first unit that may stand before the `T`, years, or behind it, hours.

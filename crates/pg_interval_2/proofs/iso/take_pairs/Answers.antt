@@ -20,7 +20,7 @@ loop-scan-preserved g c =
     record {
       room = omega (arith, c.in-Some.ensures.shorter, c.add.ensures.adds, kept.room);
       taken = one_more_pair c.args.in_time (ahead c.args.scan.now) (ahead c.loop-scan.scan) (ahead c.pair.new.scan) c.args.tally.now c.loop-scan.tally c.add.new.self
-          c.args.order.now c.loop-scan.order c.take.new.self (count_with number c.in-Some.pair.1) kept.taken (sym read) adds (λ counts. c.take.ensures counts (count_with number c.in-Some.pair.1) refl);
+          c.args.order.now c.loop-scan.order c.take.new.self (count_with number c.in-Some.pair.1) kept.taken (sym read) adds (λ counts. c.take.ensures c.args.in_time counts (count_with number c.in-Some.pair.1) refl);
       same = c.pair.ensures.same ∙ kept.same;
       spends = spends_more _ _ _ _ _ _ kept.spends (spends_again c.loop-scan.steps (ahead c.loop-scan.scan) c.pair.new.steps c.add.new.steps (ahead c.pair.new.scan) c.pair.ensures.ticks c.add.ensures.least (omega (arith, c.in-Some.ensures.shorter, c.add.ensures.most)));
     }
