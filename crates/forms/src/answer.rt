@@ -7,12 +7,14 @@ ghost use Rattle.forms.specs.Answers.{bytes_of};
 ghost use Rattle.forms.specs.Names.{is_counted};
 ghost use Rattle.forms.specs.ReadBack.{Turns};
 ghost use Rattle.forms.specs.Replies.{IsAnswer, IsReply};
+ghost use Rattle.forms.specs.inside.Putting.{Gains, Puts};
 
 use crate::cause::Cause;
 use crate::form::Form;
 use crate::laws::{all_lawful, answers_are_readings_written};
 use crate::line::request;
-use crate::value::{read_counted, read_value, write_value};
+use crate::value::{push_value, read_counted, read_value};
+use arrayvec::ArrayString;
 use scan_core::{Looked, Short, Steps};
 use std::alloc::Global;
 use std::marker::Brand;
@@ -43,7 +45,9 @@ pub fn reply(from: Form, to: Form, text: &str) -> Result<Short, Cause>
     }
     all_lawful();
     answers_are_readings_written();
-    turned(from, to, text)
+    let mut out = Short::new();
+    push_turned(from, to, text, &mut out)?;
+    Ok(out)
 }
 
 /// The answer of `reply` to a text that is seen by counted looks alone, from an interval form or `Form::IsoDuration`. It takes no
@@ -69,7 +73,9 @@ pub fn reply_counted<L: Ledger>(
 {
     all_lawful();
     answers_are_readings_written();
-    turned_counted(from, to, text, steps)
+    let mut out = Short::new();
+    push_counted(from, to, text, steps, &mut out)?;
+    Ok(out)
 }
 
 /// The same with a counter of its own.
@@ -92,30 +98,75 @@ fn reply_alone<L: Ledger>(
     reply_counted(from, to, text, &mut Steps::<L>::new(blank))
 }
 
-/// The text of one form in another form.
-fn turned(from: Form, to: Form, text: &str) -> Result<Short, Cause>
-    ensures turned { Turns from to text.now (bytes_of result) }
-    ensures len { IfOk result (λ out. array_string_len out ≤ 96) }
+/// Appends the text of one form in another form.
+fn push_turned<const CAP: usize>(
+    from: Form,
+    to: Form,
+    text: &str,
+    out: &mut ArrayString<CAP>,
+) -> Result<(), Cause>
+    requires room { array_string_len out.old + 96 ≤ CAP }
+    ensures turned { Puts (Turns from to text.now) out.old.bytes out.new.bytes result }
+    ensures len { array_string_len out.new ≤ array_string_len out.old + 96 }
 {
     let value = read_value(from, text)?;
-    write_value(to, value)
+    push_value(to, value, out)
 }
 
-/// The text of one form, read by counted looks, in another form.
-fn turned_counted<L: Ledger>(
+/// Appends the text of one form, read by counted looks, in another form.
+fn push_counted<L: Ledger, const CAP: usize>(
     from: Form,
     to: Form,
     text: &Looked<'_>,
     steps: &mut Steps<L>,
-) -> Result<Short, Cause>
-    requires { IsTrue (is_counted from) }
-    ensures turned { Turns from to text.now (bytes_of result) }
-    ensures len { IfOk result (λ out. array_string_len out ≤ 96) }
+    out: &mut ArrayString<CAP>,
+) -> Result<(), Cause>
+    requires form { IsTrue (is_counted from) }
+    requires room { array_string_len out.old + 96 ≤ CAP }
+    ensures turned { Puts (Turns from to text.now) out.old.bytes out.new.bytes result }
+    ensures len { array_string_len out.new ≤ array_string_len out.old + 96 }
     ensures most { steps.new ≤ steps.old + (2 * length text.now + 4) }
     ensures least { IfOk result (λ _. steps.old + length text.now ≤ steps.new) }
 {
     let value = read_counted(from, text, steps)?;
-    write_value(to, value)
+    push_value(to, value, out)
+}
+
+/// The same with a counter of its own.
+fn push_alone<L: Ledger, const CAP: usize>(
+    from: Form,
+    to: Form,
+    text: &Looked<'_>,
+    blank: Blank,
+    out: &mut ArrayString<CAP>,
+) -> Result<(), Cause>
+    requires name { blank.name ≡ L.name }
+    requires parts { blank.parts ≡ L.parts }
+    requires some { 0 < L.parts }
+    requires form { IsTrue (is_counted from) }
+    requires room { array_string_len out.old + 96 ≤ CAP }
+    ensures turned { Puts (Turns from to text.now) out.old.bytes out.new.bytes result }
+    ensures len { array_string_len out.new ≤ array_string_len out.old + 96 }
+{
+    push_counted(from, to, text, &mut Steps::<L>::new(blank), out)
+}
+
+/// Appends what `reply` answers, or nothing where it refuses.
+fn push_answer<const CAP: usize>(
+    from: Form,
+    to: Form,
+    text: &str,
+    out: &mut ArrayString<CAP>,
+) -> Result<(), Cause>
+    requires room { array_string_len out.old + 96 ≤ CAP }
+    ensures turned { Puts (Turns from to text.now) out.old.bytes out.new.bytes result }
+    ensures len { array_string_len out.new ≤ array_string_len out.old + 96 }
+{
+    if from.is_counted() {
+        push_alone::<Brand, CAP>(from, to, &Looked::new(text), Blank::new(1), out)
+    } else {
+        push_turned(from, to, text, out)
+    }
 }
 
 /// The answer of `reply` as a `String`. `Refused` has its cause, exactly where `reply` refuses; `NoMemory` may stand
@@ -136,30 +187,31 @@ pub fn convert(alloc: Global, from: Form, to: Form, text: &str) -> Result<String
     }
 }
 
-/// The reply to a line, without its line feed. Where the line is no request it is `refused Line`.
-pub(crate) fn line_reply(line: &[u8]) -> Short
-    ensures reply { IsReply line.now result.bytes }
-    ensures len { array_string_len result ≤ 96 }
+/// Appends the reply to a line, without its line feed. Where the line is no request it is `refused Line`.
+pub(crate) fn push_line_reply<const CAP: usize>(line: &[u8], out: &mut ArrayString<CAP>)
+    requires room { array_string_len out.old + 96 ≤ CAP }
+    ensures reply { Gains (IsReply line.now) out.old.bytes out.new.bytes }
+    ensures len { array_string_len out.new ≤ array_string_len out.old + 96 }
 {
+    answers_are_readings_written();
     let Some((from, to, text)) = request(line) else {
-        return refusal("Line");
+        return push_refusal("Line", out);
     };
-    match reply(from, to, text) {
-        Ok(out) => out,
-        Err(cause) => refusal(cause.name()),
+    match push_answer(from, to, text, out) {
+        Ok(()) => (),
+        Err(cause) => push_refusal(cause.name(), out),
     }
 }
 
-/// `refused` and why.
-fn refusal(name: &str) -> Short
-    requires { length name.now ≤ 80 }
-    ensures bytes { result.bytes ≡ codes "refused " ++ name.now }
-    ensures len { array_string_len result ≤ 96 }
+/// Appends `refused` and why.
+fn push_refusal<const CAP: usize>(name: &str, out: &mut ArrayString<CAP>)
+    requires name { length name.now ≤ 80 }
+    requires room { array_string_len out.old + 96 ≤ CAP }
+    ensures bytes { out.new.bytes ≡ out.old.bytes ++ (codes "refused " ++ name.now) }
+    ensures len { array_string_len out.new ≤ array_string_len out.old + 96 }
 {
-    let mut out = Short::new();
     out.push_str("refused ");
     out.push_str(name);
-    out
 }
 
 #[cfg(test)]

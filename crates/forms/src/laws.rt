@@ -18,8 +18,9 @@ ghost use Rattle.forms.specs.Replies.{IsAnswer, IsIntervalAnswer, IsReply, AreRe
 ghost use Rattle.forms.specs.Values.{IsWithinBounds};
 ghost use Rattle.forms.specs.inside.Lawful.{Lawful};
 
-use crate::answer::line_reply;
+use crate::answer::push_line_reply;
 use crate::form::{fancy, file_time, intervals, iso_date, iso_date_time, iso_duration, toml};
+use scan_core::Short;
 
 /// Each form is lawful.
 pub(crate) fn all_lawful()
@@ -98,7 +99,7 @@ pub fn one_reply(line: &[u8])
 {
     all_lawful();
     answers_are_readings_written();
-    let _ = line_reply(line);
+    push_line_reply(line, &mut Short::new());
 }
 
 /// Lines have one list of replies at most.

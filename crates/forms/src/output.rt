@@ -9,7 +9,7 @@ ghost use Rattle.forms.specs.Ends.{GainsReplies, GainsFront};
 ghost use Rattle.forms.specs.inside.Reading.{AppendsFront, MovesFront, PushesReply};
 ghost use Rattle.forms.specs.inside.Pieces.{NoFeed, Answers};
 
-use crate::answer::line_reply;
+use crate::answer::push_line_reply;
 use crate::line::split_line;
 use crate::outside::{Failed, Sink};
 use arrayvec::ArrayString;
@@ -117,8 +117,7 @@ fn push_reply(batch: &mut Batch, line: &[u8])
     requires room { array_string_len batch.old + LONGEST ≤ BATCH }
     ensures { PushesReply line.now batch.old.bytes batch.new.bytes }
 {
-    let reply = line_reply(line);
-    batch.push_str(reply.as_str());
+    push_line_reply(line, batch);
     batch.push('\n');
 }
 

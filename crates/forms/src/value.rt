@@ -7,10 +7,12 @@ ghost use Rattle.forms.specs.Answers.{bytes_of};
 ghost use Rattle.forms.specs.Forms.{Reads, Writes};
 ghost use Rattle.forms.specs.Names.{is_counted};
 ghost use Rattle.forms.specs.Values.{IsWithinBounds};
+ghost use Rattle.forms.specs.inside.Putting.{Puts};
 
 use crate::cause::Cause;
 use crate::form::{Form, fancy, file_time, intervals, iso_date, iso_date_time, iso_duration, toml};
 use crate::laws::all_lawful;
+use arrayvec::ArrayString;
 use pg_interval_2::{Short, Style};
 use scan_core::{Looked, Steps};
 use std::sync::ledger::Ledger;
@@ -117,6 +119,48 @@ fn read_by_looks<L: Ledger>(
         Form::FileTime | Form::IsoDateTime | Form::IsoDate | Form::Toml | Form::Fancy =>
             unreachable!(),
     }
+}
+
+/// Appends the text that `write_value` answers, or nothing where it refuses.
+pub(crate) fn push_value<const CAP: usize>(
+    form: Form,
+    value: Value,
+    out: &mut ArrayString<CAP>,
+) -> Result<(), Cause>
+    requires within { IsWithinBounds value }
+    requires room { array_string_len out.old + 96 ≤ CAP }
+    ensures answer { Puts (Writes form value) out.old.bytes out.new.bytes result }
+    ensures len { array_string_len out.new ≤ array_string_len out.old + 96 }
+{
+    match form {
+        Form::PgIso => intervals::push(Style::Iso, value, out),
+        Form::Postgres => intervals::push(Style::Postgres, value, out),
+        Form::PgVerbose => intervals::push(Style::Verbose, value, out),
+        Form::PgSql => intervals::push(Style::Sql, value, out),
+        Form::IsoStrict => intervals::push(Style::IsoStrict, value, out),
+        Form::FileTime
+        | Form::IsoDateTime
+        | Form::IsoDate
+        | Form::IsoDuration
+        | Form::Toml
+        | Form::Fancy => push_written(form, value, out),
+    }
+}
+
+/// Appends the text that the form's writer makes beside it.
+fn push_written<const CAP: usize>(
+    form: Form,
+    value: Value,
+    out: &mut ArrayString<CAP>,
+) -> Result<(), Cause>
+    requires within { IsWithinBounds value }
+    requires room { array_string_len out.old + 96 ≤ CAP }
+    ensures answer { Puts (Writes form value) out.old.bytes out.new.bytes result }
+    ensures len { array_string_len out.new ≤ array_string_len out.old + 96 }
+{
+    let text = write(form, value)?;
+    out.push_str(text.as_str());
+    Ok(())
 }
 
 /// What the form's writer answers.

@@ -6,10 +6,12 @@ ghost use Rattle.forms.specs.Answers.{Is, ReadsBy, WritesBy, bytes_of};
 ghost use Rattle.forms.specs.Values.{IsWithinBounds};
 ghost use Rattle.forms.specs.form.Intervals.{worth, held, interval_of, interval_of_length};
 ghost use Rattle.forms.specs.inside.Lawful.{Lawful};
+ghost use Rattle.forms.specs.inside.Putting.{Puts};
 ghost use Rattle.forms.specs.declared.form.Form.{Form as AnyForm};
 
 use crate::cause::Cause;
 use crate::value::Value;
+use arrayvec::ArrayString;
 use pg_interval_2::{Interval, Short, Style};
 use scan_core::{Looked, Steps};
 use std::marker::Brand;
@@ -63,6 +65,23 @@ pub fn write(style: Style, value: Value) -> Result<Short, Cause>
 {
     let interval = interval_for(value)?;
     Ok(interval.text(style))
+}
+
+/// Appends the written text of a triple, or of a length in days and microseconds.
+pub fn push<const CAP: usize>(
+    style: Style,
+    value: Value,
+    out: &mut ArrayString<CAP>,
+) -> Result<(), Cause>
+    requires within { IsWithinBounds value }
+    requires room { array_string_len out.old + 96 ≤ CAP }
+    ensures answer { Puts (WritesBy (Is held) (written style) value)
+        out.old.bytes out.new.bytes result }
+    ensures len { array_string_len out.new ≤ array_string_len out.old + 96 }
+{
+    let interval = interval_for(value)?;
+    interval.push_text(style, out);
+    Ok(())
 }
 
 /// The interval of a value.
