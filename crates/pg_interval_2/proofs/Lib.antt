@@ -60,3 +60,6 @@ pub mod VerboseReadBack
 pub mod CellFacts
 pub mod SumFacts
 pub mod DenotedRange
+pub mod EachByte
+pub mod Alphabet
+pub mod OneLine

@@ -27,7 +27,7 @@ one_of_names test (name ∷ names) word all h =
     (λ same. let equal : word ≡ name = (bytes_eq-Decides word name).0 same in ap test equal ∙ split.0)
     (λ below. one_of_names test names word split.1 below)
 
-chosen_unit : (t : Bool) (unit found : TimeUnit) (other : Option TimeUnit) {P : Type 0} → cond t (Some found) other ≡ Some unit → (t ≡ true → P) → (other ≡ Some unit → P) → P
+pub chosen_unit : (t : Bool) (unit found : TimeUnit) (other : Option TimeUnit) {P : Type 0} → cond t (Some found) other ≡ Some unit → (t ≡ true → P) → (other ≡ Some unit → P) → P
 chosen_unit true unit found other h f g = f refl
 chosen_unit false unit found other h f g = g h
 

@@ -13,6 +13,7 @@ pub mod Lengths
 pub mod Messages
 pub mod ErrorText
 pub mod Styles
+pub mod Alphabet
 pub mod UnitNames
 pub mod Clock
 pub mod Postgres

@@ -1,9 +1,11 @@
 //! Laws of the definitions, each the contract of a function with an empty body.
-ghost use Rattle.std.specs.Prelude.{◌≡◌, ◌↔◌, true, false, ℕ, List};
+ghost use Rattle.std.specs.Prelude.{◌≡◌, ◌↔◌, true, false, ℕ, List, IsTrue};
+ghost use Rattle.std.specs.List.{list_all};
 ghost use Rattle.scan_core.specs.Count.{Count};
 ghost use Rattle.pg_interval_2.specs.declared.interval.Interval.{Interval};
 ghost use Rattle.pg_interval_2.specs.declared.style.Style.{Style};
 ghost use Rattle.pg_interval_2.specs.declared.style.Style.TheVariants.{Iso};
+ghost use Rattle.pg_interval_2.specs.Alphabet.{is_in_alphabet, is_no_feed};
 ghost use Rattle.pg_interval_2.specs.Cell.{cell};
 ghost use Rattle.pg_interval_2.specs.Denotes.{Denotes, HasNoShape};
 ghost use Rattle.pg_interval_2.specs.Iso.{IsIso};
@@ -50,6 +52,19 @@ pub fn written_iso_texts_are_strict()
 pub fn denoted_interval_is_in_range()
     ensures { (style : Style) (text : List ℕ) (t : Interval)
         → Denotes (Shape style) text t → IsInRange t }
+{}
+
+/// A text in one of the styles is blanks, digits, signs, points, colons, `@`, designators and letters of names. So it has no byte
+/// beyond ASCII, and no other letter: with an `x` behind it, a text is in no style.
+pub fn texts_are_of_one_alphabet()
+    ensures { (style : Style) (text : List ℕ) (counts : List Count) → Shape style text counts
+        → IsTrue (list_all is_in_alphabet text) }
+{}
+
+/// The written text of an interval is one line: it has no line feed.
+pub fn written_text_is_one_line()
+    ensures { (style : Style) (t : Interval) → IsInRange t
+        → IsTrue (list_all is_no_feed (written style t)) }
 {}
 
 /// Sums don't hang on the order, and a sum and a difference undo each other. So where `a.checked_add(b)` is `Some(c)`,
