@@ -27,6 +27,8 @@ mod postgres;
 #[cfg(test)]
 mod program;
 #[cfg(test)]
+mod sample;
+#[cfg(test)]
 mod sql;
 #[cfg(test)]
 mod toml;

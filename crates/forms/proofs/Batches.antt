@@ -4,9 +4,10 @@ use Rattle.std.proofs.KnownBytes.{Appends-nil, Appends-trans}
 use Rattle.std.specs.Io.KnownBytes.{Appends}
 use Rattle.scan_core.proofs.Joins.{join_push, IsJoin-one}
 use Rattle.forms.specs.Lines.{lines, whole_lines}
+use Rattle.forms.specs.Outside.{AppendsFront}
 use Rattle.forms.specs.Replies.{IsReplyLine, AreReplies}
 use Rattle.forms.specs.Ends.{GainsReplies, GainsFront}
-use Rattle.forms.specs.inside.Reading.{AppendsFront, MovesFront, PushesReply}
+use Rattle.forms.specs.inside.Reading.{MovesFront, PushesReply}
 use Rattle.forms.specs.inside.Pieces.{NoFeed, IsEnded, AreWhole, Answers}
 use Rattle.forms.proofs.LinePieces.{whole_lines_behind, part_alone}
 

@@ -14,7 +14,7 @@ feed_line : (line rest : List ℕ) → NoFeed line → lines (line ++ (codes "\n
 feed_line [] rest h = refl
 feed_line (byte ∷ line) rest h = rw (h.0, feed_line line rest h.1) refl
 
-feed_whole : (line rest : List ℕ) → NoFeed line → whole_lines (line ++ (codes "\n" ++ rest)) ≡ line ∷ whole_lines rest
+pub feed_whole : (line rest : List ℕ) → NoFeed line → whole_lines (line ++ (codes "\n" ++ rest)) ≡ line ∷ whole_lines rest
 feed_whole [] rest h = refl
 feed_whole (byte ∷ line) rest h = rw (h.0, feed_whole line rest h.1) refl
 

@@ -9,4 +9,5 @@ pub mod Forms
 pub mod ReadBack
 pub mod Replies
 pub mod Ends
+pub mod Sample
 pub mod inside

@@ -1,6 +1,6 @@
 -- What a call of a source or a sink does to its counts, which have 64 bits and stand still at their greatest value.
-use Rattle.std.specs.Prelude.{◌≡◌, ℕ, ◌+◌, ◌-◌, ◌^◌, ◌<◌, ◌≤◌, min, List, length, Option, Result, IfOk, OnErr}
-use Rattle.std.specs.Io.KnownBytes.{Consumes}
+use Rattle.std.specs.Prelude.{◌≡◌, ℕ, ◌+◌, ◌-◌, ◌^◌, ◌<◌, ◌≤◌, min, List, ◌++◌, length, Option, Result, IfOk, OnErr}
+use Rattle.std.specs.Io.KnownBytes.{Appends, Consumes}
 
 -- a count of faults went up in a call, or stands at its greatest value
 abbrev pub Rose : ℕ → ℕ → Type 0
@@ -26,3 +26,10 @@ pub record Gives (left left_after : Option (List ℕ)) (taken taken_after most :
   pub bytes : Consumes left left_after given
   pub count : taken < 2 ^ 63 → taken_after ≡ taken + length given
   pub bound : length given ≤ most
+
+-- known bytes grow by a front of a text
+pub record AppendsFront (old new : Option (List ℕ)) (text : List ℕ) : Type 0 where
+  pub front : List ℕ
+  pub back : List ℕ
+  pub split : text ≡ front ++ back
+  pub written : Appends old new front

@@ -1,5 +1,5 @@
 //! Laws of forms, lines, replies and the ends of runs.
-ghost use Rattle.std.specs.Prelude.{◌≡◌, ◌⊎◌, ◌↔◌, ◌+◌, ◌-◌, ◌^◌, ◌<◌, List, ℕ, Result as AnyResult, Ok, IfSome};
+ghost use Rattle.std.specs.Prelude.{◌≡◌, ◌⊎◌, ◌↔◌, ◌+◌, ◌-◌, ◌/◌, ◌^◌, ◌<◌, List, ℕ, Result as AnyResult, Ok, IfSome};
 ghost use Rattle.pg_interval_2.specs.Denotes.{Denotes};
 ghost use Rattle.pg_interval_2.specs.Styles.{Shape};
 ghost use Rattle.pg_interval_2.specs.declared.interval.Interval.{Interval as AnyInterval};
@@ -11,10 +11,11 @@ ghost use Rattle.forms.specs.declared.run_end.RunEnd.TheVariants.{TooLong, Write
 ghost use Rattle.forms.specs.declared.value.Value.{Value as AnyValue};
 ghost use Rattle.forms.specs.Ends.{Ended, EndsByLength, GainsFront, Streams};
 ghost use Rattle.forms.specs.Forms.{Reads, Writes};
-ghost use Rattle.forms.specs.Lines.{lines};
+ghost use Rattle.forms.specs.Lines.{lines, whole_lines};
 ghost use Rattle.forms.specs.Outside.{Rose};
 ghost use Rattle.forms.specs.ReadBack.{Turns, IsReadBack};
 ghost use Rattle.forms.specs.Replies.{IsAnswer, IsIntervalAnswer, IsReply, AreReplies};
+ghost use Rattle.forms.specs.Sample.{answers, refusals, sample_lines};
 ghost use Rattle.forms.specs.Values.{IsWithinBounds};
 ghost use Rattle.forms.specs.inside.Lawful.{Lawful};
 
@@ -109,6 +110,18 @@ pub fn one_output()
 {
     all_lawful();
     answers_are_readings_written();
+}
+
+/// Of the replies to the lines of a sample a tenth are refusals, rounded down, and the others aren't.
+pub fn a_tenth_of_a_sample_is_refused()
+    ensures { (count : ℕ) (replies : List ℕ) → AreReplies (sample_lines count) replies
+        → (refusals (whole_lines replies) ≡ count / 10)
+        × (answers (whole_lines replies) ≡ count - count / 10) }
+{
+    pg_interval_2::laws::texts_are_of_one_alphabet();
+    pg_interval_2::laws::written_text_is_one_line();
+    pg_interval_2::laws::written_text_is_read_back();
+    one_output();
 }
 
 /// A count of faults that stands still didn't rise, but at its greatest value.

@@ -17,6 +17,7 @@ mod outside;
 mod pieces;
 mod program;
 mod run_end;
+mod sample;
 mod value;
 
 pub use answer::{ConvertError, convert, reply, reply_counted};

@@ -4,9 +4,9 @@ ghost use Rattle.std.specs.Io.{WritesAtMost};
 ghost use Rattle.std.specs.Io.KnownBytes.{Appends, WriteAppends};
 ghost use Rattle.arrayvec.specs.ArrayString.{array_string_len};
 ghost use Rattle.forms.specs.Lines.{lines, whole_lines};
-ghost use Rattle.forms.specs.Outside.{HasCause};
+ghost use Rattle.forms.specs.Outside.{HasCause, AppendsFront};
 ghost use Rattle.forms.specs.Ends.{GainsReplies, GainsFront};
-ghost use Rattle.forms.specs.inside.Reading.{AppendsFront, MovesFront, PushesReply};
+ghost use Rattle.forms.specs.inside.Reading.{MovesFront, PushesReply};
 ghost use Rattle.forms.specs.inside.Pieces.{NoFeed, Answers};
 
 use crate::answer::push_line_reply;
@@ -15,7 +15,7 @@ use crate::outside::{Failed, Sink};
 use arrayvec::ArrayString;
 
 /// The longest reply, with its line feed: a written text has at most 96 bytes.
-const LONGEST: usize = 97;
+pub const LONGEST: usize = 97;
 
 /// How many bytes wait for one write at most.
 const BATCH: usize = 65_536;
@@ -122,7 +122,7 @@ fn push_reply(batch: &mut Batch, line: &[u8])
 }
 
 /// Writes the whole text, or as much as the sink takes before it fails.
-fn write_all<K: Sink>(sink: &mut K, text: &[u8]) -> Result<(), Failed>
+pub fn write_all<K: Sink>(sink: &mut K, text: &[u8]) -> Result<(), Failed>
     ensures ok { OnOk result (Appends (K.held sink.old) (K.held sink.new) text.now) }
     ensures err { OnErr result (AppendsFront (K.held sink.old) (K.held sink.new) text.now) }
     ensures cause { HasCause (K.faults sink.old) (K.faults sink.new) result }

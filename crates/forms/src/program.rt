@@ -1,13 +1,15 @@
 //! A run over all lines of a source, and the program.
-ghost use Rattle.std.specs.Prelude.{◌≡◌, ◌≢◌, ◌≤◌, ◌↔◌, ◌⊎◌, [], ◌<◌, length, IfSome};
-ghost use Rattle.std.specs.Io.KnownBytes.{IsAtEnd};
+ghost use Rattle.std.specs.Prelude.{◌≡◌, ◌≢◌, ◌≤◌, ◌↔◌, ◌⊎◌, ℕ, ◌-◌, ◌/◌, [], ◌<◌, length, IfSome};
+ghost use Rattle.std.specs.Io.KnownBytes.{Appends, IsAtEnd};
 ghost use Rattle.forms.specs.Lines.{lines};
 ghost use Rattle.forms.specs.Outside.{Rose};
 ghost use Rattle.forms.specs.Ends.{GainsReplies, GainsFront, Ended, EndedWith, streams};
+ghost use Rattle.forms.specs.Sample.{AreUnknown, IsSample, SampleEndedWith, told};
 
 use crate::outside::{Sink, Source};
 use crate::pieces::answer_pieces;
 use crate::run_end::RunEnd;
+use crate::sample::{sample, sample_count};
 use std::alloc::Global;
 
 /// Writes one reply for each line of the source to the sink, in order, while it reads.
@@ -40,26 +42,33 @@ pub fn run<S: Source, K: Sink>(alloc: Global, source: &mut S, sink: &mut K, limi
 }
 
 /// How many bytes the input of the program may have.
-const LIMIT: u64 = 67_108_864;
+pub const LIMIT: u64 = 67_108_864;
 
 /// The status for words that aren't known.
 const UNKNOWN_WORDS: u8 = 2;
 
-/// The program: without words it runs over all lines of the source, with a limit of 67_108_864 bytes. It prints nothing
-/// but replies, and answers the exit status: that of the run's end, or 2 for words, with nothing taken and nothing
-/// written. A line that is refused is a reply and doesn't change the status.
+/// The program. Without words it runs over all lines of the source, with a limit of 67_108_864 bytes, and prints nothing but replies.
+/// A line that is refused is a reply and doesn't change the status.
+///
+/// With `sample N`, N from 1 to 100_000 in decimal without sign or leading zero, it takes nothing from the source: it makes N lines,
+/// answers them in memory, and writes one line such as `lines 10 ok 9 refused 1 bytes 378`, which tells how many replies are no refusals,
+/// how many are refusals, and how many bytes they have in all. A tenth of the lines is refused.
+///
+/// It answers the exit status: that of the run's end, as `RunEnd::status` has it, or 2 for other words, with nothing taken and nothing
+/// written.
 pub fn top<S: Source, K: Sink>(alloc: Global, words: &str, source: &mut S, sink: &mut K) -> u8
-    // Words are refused, with nothing taken and nothing written.
-    ensures words { (result ≡ 2) ↔ (words.now ≢ []) }
+    // Words that ask for nothing are refused, with nothing taken and nothing written.
+    ensures words { (result ≡ 2) ↔ AreUnknown words.now }
     ensures untouched { result ≡ 2 → (source.new ≡ source.old) × (sink.new ≡ sink.old) }
+
+    // Want of memory comes before the first byte.
+    ensures no_memory { result ≡ 6 → (source.new ≡ source.old) × (sink.new ≡ sink.old) }
 
     // Without words the status is that of a run.
     ensures ended { words.now ≡ [] → EndedWith 67_108_864
         (streams S.left S.taken S.faults K.held K.faults source.old sink.old)
         (streams S.left S.taken S.faults K.held K.faults source.new sink.new)
         result }
-    ensures no_memory { words.now ≡ [] → result ≡ 6
-        → (source.new ≡ source.old) × (sink.new ≡ sink.old) }
 
     // At status 0 the end came, and each line of all that was left has its reply, however the bytes were cut.
     ensures done { words.now ≡ [] → result ≡ 0 → IsAtEnd (S.left source.new) }
@@ -79,9 +88,22 @@ pub fn top<S: Source, K: Sink>(alloc: Global, words: &str, source: &mut S, sink:
         → ¬ (Rose (S.faults source.old) (S.faults source.new))
         → ¬ (Rose (K.faults sink.old) (K.faults sink.new))
         → (result ≡ 5) ⊎ (result ≡ 6)) }
+
+    // A sample leaves the source, and ends with the line that tells of its replies, a fault, or want of memory.
+    ensures source { words.now ≢ [] → source.new ≡ source.old }
+    ensures sampled { (count : ℕ) → IsSample words.now count → SampleEndedWith count
+        (K.held sink.old) (K.held sink.new) (K.faults sink.old) (K.faults sink.new) result }
+
+    // At status 0 the line tells that a tenth of the replies are refusals, rounded down.
+    ensures tenth { (count : ℕ) → IsSample words.now count → result ≡ 0 → (bytes : ℕ)
+        × Appends (K.held sink.old) (K.held sink.new)
+        (told count (count - count / 10) (count / 10) bytes) }
 {
-    if !words.is_empty() {
-        return UNKNOWN_WORDS;
+    if words.is_empty() {
+        return run(alloc, source, sink, LIMIT).status();
     }
-    run(alloc, source, sink, LIMIT).status()
+    match sample_count(words) {
+        Some(count) => sample(alloc, count, sink).status(),
+        None => UNKNOWN_WORDS,
+    }
 }

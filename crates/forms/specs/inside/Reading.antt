@@ -19,13 +19,6 @@ behind (Some rest) = codes " " ++ rest
 abbrev pub IsNamed : List ℕ → Form → Option (List ℕ) → Type 0
 IsNamed text form rest = text ≡ name_of form ++ behind rest
 
--- known bytes grow by a front of a text
-pub record AppendsFront (old new : Option (List ℕ)) (text : List ℕ) : Type 0 where
-  pub front : List ℕ
-  pub back : List ℕ
-  pub split : text ≡ front ++ back
-  pub written : Appends old new front
-
 -- a front of what waits was written, and the rest still waits
 pub record MovesFront (old new : Option (List ℕ)) (before after : List ℕ) : Type 0 where
   pub front : List ℕ

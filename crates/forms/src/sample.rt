@@ -1,0 +1,97 @@
+//! The command `sample`: a run in memory over lines that a generator makes, and a line that tells of the replies.
+ghost use Rattle.std.specs.Prelude.{◌≡◌, ◌↔◌, ◌≤◌, ◌-◌, ◌/◌, ℕ, IsTrue, decimal, IfSome, IfNone};
+ghost use Rattle.std.specs.Io.KnownBytes.{Appends};
+ghost use Rattle.forms.specs.Replies.{AreReplies};
+ghost use Rattle.forms.specs.Sample.{IsSample, SampleStands, sample_lines, told};
+
+mod lines;
+mod summary;
+
+use crate::laws::a_tenth_of_a_sample_is_refused;
+use crate::memory_sink::MemSink;
+use crate::memory_source::MemSource;
+use crate::output::{LONGEST, write_all};
+use crate::outside::{Failed, Sink};
+use crate::program::{LIMIT, run};
+use crate::run_end::RunEnd;
+use lines::sample_bytes;
+use scan_core::{Short, push_num};
+use std::alloc::Global;
+use summary::summary;
+
+/// How many lines may be asked for.
+const MOST: u64 = 100_000;
+
+/// The count of lines that the words ask for, or None exactly where they aren't `sample` and a count from 1 to 100_000 in decimal,
+/// without sign or leading zero: of `sample 10` it is 10.
+pub fn sample_count(words: &str) -> Option<u64>
+    ensures found { IfSome result (λ count. IsSample words.now count) }
+    ensures none { IfNone result ((count : ℕ) → ¬ (IsSample words.now count)) }
+{
+    let digits = words.strip_prefix("sample ")?;
+    let count = digits.parse::<u64>().ok()?;
+    if is_count(count, digits) {
+        Some(count)
+    } else {
+        None
+    }
+}
+
+/// Whether so many lines may be asked for, and the text is that count in decimal.
+fn is_count(count: u64, text: &str) -> bool
+    ensures { IsTrue result
+        ↔ ((1 ≤ count) × (count ≤ 100_000) × (text.now ≡ decimal count)) }
+{
+    1 <= count && count <= MOST && is_decimal(count, text)
+}
+
+/// Whether the text is the number in decimal.
+fn is_decimal(number: u64, text: &str) -> bool
+    ensures { IsTrue result ↔ (text.now ≡ decimal number) }
+{
+    let mut out = Short::new();
+    push_num(&mut out, number);
+    out.as_str() == text
+}
+
+/// Answers so many lines of the sample in memory, and writes a line to the sink that tells of the replies. It is done, or a write
+/// failed, or there is no memory, with nothing written.
+pub fn sample<K: Sink>(alloc: Global, count: u64, sink: &mut K) -> RunEnd
+    requires { count ≤ 100_000 }
+    ensures stands { SampleStands count
+        (K.held sink.old) (K.held sink.new) (K.faults sink.old) (K.faults sink.new) result }
+    ensures no_memory { result ≡ RunEnd.NoMemory → sink.new ≡ sink.old }
+    ensures tenth { result ≡ RunEnd.Done → (bytes : ℕ)
+        × Appends (K.held sink.old) (K.held sink.new)
+        (told count (count - count / 10) (count / 10) bytes) }
+{
+    a_tenth_of_a_sample_is_refused();
+    let Some(replies) = answer_sample(alloc, count) else {
+        return RunEnd::NoMemory;
+    };
+    let line = summary(count, replies.held());
+    match write_all(sink, line.as_str().as_bytes()) {
+        Ok(()) => RunEnd::Done,
+        Err(Failed) => RunEnd::WriteFault,
+    }
+}
+
+/// A sink with the replies to so many lines of the sample, or None for want of memory.
+fn answer_sample(alloc: Global, count: u64) -> Option<MemSink>
+    requires { count ≤ 100_000 }
+    ensures { IfSome result (λ sink. AreReplies (sample_lines count) sink.held) }
+{
+    let Ok(lines) = sample_bytes(alloc, count) else {
+        return None;
+    };
+    let Ok(mut source) = MemSource::new(alloc, &lines, usize::MAX, &[]) else {
+        return None;
+    };
+    let Ok(mut sink) = MemSink::new(alloc, LONGEST * count as usize, usize::MAX, &[]) else {
+        return None;
+    };
+    match run(alloc, &mut source, &mut sink, LIMIT) {
+        RunEnd::Done => Some(sink),
+        _ => None,
+    }
+}
