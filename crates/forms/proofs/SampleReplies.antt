@@ -1,5 +1,5 @@
 -- The replies to the sample: each tenth is a refusal, and no other.
-use Rattle.std.proofs.Common.{◌≡◌, ◌≢◌, ℕ, zero, suc, ◌+◌, ◌-◌, ◌/◌, ◌%◌, ◌<◌, ◌&&◌, ◌==◌, not, Bool, true, false, cond, IsTrue, List, [], ◌∷◌, ◌++◌, codes, Some, Result, Ok, Err, refl, sym, ◌∙◌, ap, subst, inl, inr, arith, append-nil, take}
+use Rattle.std.proofs.Common.{◌≡◌, ◌≢◌, ℕ, zero, suc, ◌+◌, ◌-◌, ◌/◌, ◌%◌, ◌<◌, ◌&&◌, ◌==◌, Bool, true, false, IsTrue, List, [], ◌∷◌, ◌++◌, codes, Some, Result, Ok, Err, refl, sym, ◌∙◌, ap, subst, inr, arith, append-nil, take}
 use Rattle.std.specs.Prelude.{nat_eq, nat_lt, get_or, ◌||◌, IsUtf8, if◌then◌else◌}
 use Rattle.std.proofs.lemmas.Bool.Decides.{nat_tests}
 use Rattle.std.proofs.lemmas.List.Folds.{list_all-append}
@@ -10,7 +10,7 @@ use Rattle.std.specs.List.{list_all, list_any}
 use Rattle.scan_core.specs.Blanks.{is_blank}
 use Rattle.scan_core.specs.Count.{Count}
 use Rattle.scan_core.proofs.Joins.{join_push}
-use Rattle.pg_interval_2.specs.Alphabet.{is_in_alphabet, is_no_feed}
+use Rattle.pg_interval_2.specs.Alphabet.{is_in_alphabet}
 use Rattle.pg_interval_2.specs.Denotes.{Denotes, HasNoShape}
 use Rattle.pg_interval_2.specs.Ranges.{IsInRange}
 use Rattle.pg_interval_2.specs.Styles.{Shape, written}

@@ -1,5 +1,5 @@
 -- What is told of the replies: the counts on the way through them, and the line of all counts.
-use Rattle.std.proofs.Common.{◌≡◌, ℕ, ◌+◌, ◌≤◌, Bool, true, false, List, [], ◌∷◌, ◌++◌, length, codes, decimal, refl, ◌∙◌, ap, arith, length-append}
+use Rattle.std.proofs.Common.{◌≡◌, ℕ, ◌+◌, ◌≤◌, true, false, List, [], ◌∷◌, ◌++◌, length, codes, decimal, refl, ◌∙◌, ap, arith, length-append}
 use Rattle.forms.specs.Lines.{whole_lines}
 use Rattle.forms.specs.Sample.{answers, is_refusal, refusals, told}
 use Rattle.forms.specs.inside.Pieces.{NoFeed}

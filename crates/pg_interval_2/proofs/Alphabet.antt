@@ -12,9 +12,9 @@ use Rattle.scan_core.specs.declared.share.Unit.{Unit as TimeUnit}
 use Rattle.scan_core.specs.declared.share.Unit.TheVariants.{Year, Month, Day, Hour, Minute, Second}
 use Rattle.pg_interval_2.specs.Alphabet.{is_in_alphabet}
 use Rattle.pg_interval_2.specs.Clock.{IsClock}
-use Rattle.pg_interval_2.specs.Iso.{date_unit, time_unit, unit_in, IsPair, ArePairs, IsIso}
-use Rattle.pg_interval_2.specs.Postgres.{IsNamed, IsItem, IsPostgres}
-use Rattle.pg_interval_2.specs.Sql.{IsSignOr, IsYearMonth, IsDays, IsSeconds, HasSeconds, IsTime, AreSqlWords, IsSql}
+use Rattle.pg_interval_2.specs.Iso.{date_unit, time_unit, unit_in, ArePairs, IsIso}
+use Rattle.pg_interval_2.specs.Postgres.{IsItem, IsPostgres}
+use Rattle.pg_interval_2.specs.Sql.{IsSignOr, IsYearMonth, IsDays, HasSeconds, IsTime, AreSqlWords, IsSql}
 use Rattle.pg_interval_2.specs.Styles.{Shape}
 use Rattle.pg_interval_2.specs.UnitNames.{postgres_names, verbose_names}
 use Rattle.pg_interval_2.specs.Verbose.{ago_or_none, IsBody, IsVerbose}

@@ -1,6 +1,6 @@
 -- The bytes that texts of the four styles are made of (PostgreSQL's manual, section 8.5.5): blanks, digits, signs, a point, a colon,
 -- `@`, the designators of ISO 8601, and the letters of the names of units and of `ago`.
-use Rattle.std.specs.Prelude.{ℕ, Bool, not, ◌||◌, ◌==◌, List, codes}
+use Rattle.std.specs.Prelude.{ℕ, Bool, not, ◌||◌, ◌==◌, codes}
 use Rattle.std.specs.Char.{is_ascii_digit}
 use Rattle.std.specs.List.{list_any}
 use Rattle.scan_core.specs.Blanks.{is_blank}
