@@ -55,6 +55,103 @@ fn ends_of_runs(rt: HostRuntime) -> Result<(), Fail> {
     Ok(())
 }
 
+/// Each of the 21 reads fails in turn: the replies to the lines taken before it are held.
+#[test]
+fn each_read_fails(rt: HostRuntime) -> Result<(), Fail> {
+    let alloc = rt.alloc();
+    for call in 0..21_u64 {
+        let mut source = MemSource::new(alloc, INPUT, 1, &[call])?;
+        let mut sink = MemSink::new(alloc, 100, 1, &[])?;
+        let ended = run(alloc, &mut source, &mut sink, 100);
+        let held = match call {
+            0..=17 => &b""[..],
+            18 | 19 => &b"P2Y\n"[..],
+            _ => REPLIES,
+        };
+        assert_eq!(rt; ended, RunEnd::ReadFault, "at read {call}");
+        assert_eq!(rt; sink.held(), held, "at read {call}");
+        assert_eq!(rt; (source.faults(), sink.faults()), (1, 0), "at read {call}");
+    }
+    Ok(())
+}
+
+/// Each of the 17 writes fails in turn: the bytes written before it are held.
+#[test]
+fn each_write_fails(rt: HostRuntime) -> Result<(), Fail> {
+    let alloc = rt.alloc();
+    let mut written = 0_usize;
+    for call in 0..17_u64 {
+        let mut source = MemSource::new(alloc, INPUT, 1, &[])?;
+        let mut sink = MemSink::new(alloc, 100, 1, &[call])?;
+        let ended = run(alloc, &mut source, &mut sink, 100);
+        assert_eq!(rt; ended, RunEnd::WriteFault, "at write {call}");
+        assert_eq!(rt; sink.held().len(), written, "at write {call}");
+        assert!(rt; REPLIES.starts_with(sink.held()), "at write {call}");
+        assert_eq!(rt; (source.faults(), sink.faults()), (0, 1), "at write {call}");
+        written = written.saturating_add(1);
+    }
+    Ok(())
+}
+
+/// The input ends after each of its bytes in turn.
+#[test]
+fn inputs_of_each_length(rt: HostRuntime) -> Result<(), Fail> {
+    let alloc = rt.alloc();
+    let line = "refused Line\n";
+    let syntax = "refused Syntax\n";
+    for (input, replies) in [
+        ("", ""),
+        ("P", line),
+        ("Pg", line),
+        ("PgI", line),
+        ("PgIs", line),
+        ("PgIso", line),
+        ("PgIso ", line),
+        ("PgIso P", line),
+        ("PgIso Pg", line),
+        ("PgIso PgI", line),
+        ("PgIso PgIs", line),
+        ("PgIso PgIso", syntax),
+        ("PgIso PgIso ", syntax),
+        ("PgIso PgIso P", syntax),
+        ("PgIso PgIso P1", syntax),
+        ("PgIso PgIso P1Y", "P1Y\n"),
+        ("PgIso PgIso P1Y1", syntax),
+        ("PgIso PgIso P1Y1Y", "P2Y\n"),
+        ("PgIso PgIso P1Y1Y\n", "P2Y\n"),
+        ("PgIso PgIso P1Y1Y\nx", "P2Y\nrefused Line\n"),
+        ("PgIso PgIso P1Y1Y\nx\n", "P2Y\nrefused Line\n"),
+    ] {
+        for cut in 1..22_usize {
+            let mut source = MemSource::new(alloc, input.as_bytes(), cut, &[])?;
+            let mut sink = MemSink::new(alloc, 100, cut, &[])?;
+            let ended = run(alloc, &mut source, &mut sink, 100);
+            assert_eq!(rt; ended, RunEnd::Done, "at {input:?} and {cut}");
+            assert_eq!(rt; sink.held(), replies.as_bytes(), "at {input:?} and {cut}");
+        }
+    }
+    Ok(())
+}
+
+/// The program answers an input of 67,108,864 bytes, which is one line here, and one byte more is too long.
+#[test]
+fn limit_of_the_program(rt: HostRuntime) -> Result<(), Fail> {
+    let alloc = rt.alloc();
+    let piece = [b'x'; 65_536];
+    let mut input = Vec::with_capacity(alloc, 67_108_865)?;
+    for _ in 0..1_024_u32 {
+        input.extend_from_slice(&piece)?;
+    }
+    for (status, held) in [(0, &b"refused Line\n"[..]), (5, b"")] {
+        let mut source = MemSource::new(alloc, &input, 65_536, &[])?;
+        let mut sink = MemSink::new(alloc, 100, 100, &[])?;
+        assert_eq!(rt; top(alloc, "", &mut source, &mut sink), status);
+        assert_eq!(rt; sink.held(), held, "at {status}");
+        input.push(b'x')?;
+    }
+    Ok(())
+}
+
 #[test]
 fn statuses(rt: HostRuntime) -> Result<(), Fail> {
     let alloc = rt.alloc();

@@ -44,6 +44,15 @@ fn hostile_lines(rt: HostRuntime) -> Result<(), Fail> {
         ("Postgres PgIso ", "1 day ", 20_000, "", "refused Syntax\n"),
         ("Postgres PgIso 0.", "9", 100_000, " years", "P1Y\n"),
         ("Postgres PgIso 0:0:0.", "9", 100_000, "", "PT.999999S\n"),
+        (
+            "Toml Toml 1979-05-27T07:32:00.",
+            "9",
+            1_000,
+            "Z",
+            "1979-05-27T07:32:00.999999999Z\n",
+        ),
+        ("IsoDuration IsoDuration P", "0", 1_000, "1D", "P1D\n"),
+        ("Fancy Fancy ", "9", 1_000, "ns", "refused Range\n"),
     ] {
         let line = text_of(rt.alloc(), front, piece, count, back)?;
         let outcome = outcome_of(rt.alloc(), line.as_str().as_bytes(), 65_536)?;

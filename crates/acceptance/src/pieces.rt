@@ -8,7 +8,7 @@ const LINE_AND_PART: &[u8] = b"PgIso PgIso P1D\nPgIso";
 /// Two lines of 16 bytes each.
 const TWO_LINES: &[u8] = b"PgIso PgIso P1D\nPgIso PgIso P2D\n";
 
-/// Three lines, the last without its line feed.
+/// Three lines in 60 bytes, the last without its line feed.
 const THREE_LINES: &[u8] = b"PgIso Postgres P1Y2M3DT4H5M6S\nx\nPostgres PgIso 1 day 2 hours";
 
 /// No call has this number.
@@ -58,12 +58,13 @@ fn lines_are_answered_when_they_end(rt: HostRuntime) -> Result<(), Fail> {
     Ok(())
 }
 
+/// Reads and writes of each size, to one more than there is to read and to write.
 #[test]
 fn cuts_change_nothing(rt: HostRuntime) -> Result<(), Fail> {
     let alloc = rt.alloc();
     let replies: &[u8] = b"1 year 2 mons 3 days 04:05:06\nrefused Line\nP1DT2H\n";
-    for given in 1..41_usize {
-        for taken in 1..41_usize {
+    for given in 1..62_usize {
+        for taken in 1..52_usize {
             let mut source = MemSource::new(alloc, THREE_LINES, given, &[])?;
             let mut sink = MemSink::new(alloc, 100, taken, &[])?;
             let ended = run(alloc, &mut source, &mut sink, 1_000);

@@ -21,6 +21,10 @@ fn sql_lines(rt: HostRuntime) -> Result<(), Fail> {
         ("PgIso PgSql P-178956970Y-8M\n", "-178956970-8\n"),
         ("PgIso PgSql P-2147483648D\n", "-2147483648 0:00:00\n"),
         ("PgIso PgSql P2147483648D\n", "refused Range\n"),
+        (
+            "PgIso PgSql PT-2562047788H-54.775808S\n",
+            "-2562047788:00:54.775808\n",
+        ),
         // From the style: a sign governs its word, and the days' minus a time without a sign.
         (
             "PgSql PgIso +1-2 -3 +4:05:06.5\n",
@@ -29,6 +33,7 @@ fn sql_lines(rt: HostRuntime) -> Result<(), Fail> {
         ("PgSql Postgres -1 1:00:00\n", "-1 days -01:00:00\n"),
         ("PgSql Postgres -1 +1:00:00\n", "-1 days 01:00:00\n"),
         ("PgSql PgIso -0 1:00:00\n", "PT-1H\n"),
+        ("PgSql PgIso -0-1\n", "P-1M\n"),
         ("PgSql PgIso 1-2 -3 4:00\n", "P1Y2M-3DT4H\n"),
         ("PgSql PgIso  1-2  3  4:05 \r\n", "P1Y2M3DT4H5M\n"),
         ("PgSql PgIso 1:2:3.\n", "PT1H2M3S\n"),

@@ -11,10 +11,11 @@ use std::rt::Files;
 use std::{fs, io};
 
 /// The tables, in data/.
-const TABLES: [&str; 4] = [
+const TABLES: [&str; 5] = [
     "intervals.tsv",
     "weeks.tsv",
     "iso_strict.tsv",
+    "postgres.tsv",
     "other_forms.tsv",
 ];
 

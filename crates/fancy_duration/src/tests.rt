@@ -83,6 +83,15 @@ fn sums_of_texts(rt: HostRuntime) -> Result<(), Fail> {
             "1m 340282366920938463463374607431768211456y",
             Err(FancyError::TooBig),
         ),
+        // Ten times a number that fits passes 2^128, and so do 2^119 seconds in nanoseconds.
+        (
+            "340282366920938463463374607431768211460ns",
+            Err(FancyError::TooBig),
+        ),
+        (
+            "664613997892457936451903530140172288s",
+            Err(FancyError::TooBig),
+        ),
     ] {
         assert_eq!(rt; sum_of(text), want, "of {text}");
     }
@@ -210,6 +219,9 @@ fn parts_of_the_original(rt: HostRuntime) -> Result<(), Fail> {
         ("10s", 3, "10s"),
         ("3m 5s", 2, "3m 5s"),
         ("3m 2w 2d 10m 10s", 3, "3m 2w 2d"),
+        // By hand: a month is no whole number of weeks, and 33 years are more than 10^9 seconds.
+        ("30d", 1, "1m"),
+        ("33y 1s", 1, "33y"),
     ] {
         let truncated = FancyDuration::<Duration>::parse(text)?
             .truncate(limit)

@@ -224,6 +224,8 @@ fn durations_and_operators(rt: HostRuntime) -> Result<(), Fail> {
     assert_eq!(rt; FileTime::NT_TIME_EPOCH + epoch, FileTime::UNIX_EPOCH);
     assert_eq!(rt; FileTime::UNIX_EPOCH - epoch, FileTime::NT_TIME_EPOCH);
     assert_eq!(rt; FileTime::UNIX_EPOCH - FileTime::NT_TIME_EPOCH, epoch);
+    let last = Duration::new(1_833_029_933_770, 955_161_500);
+    assert_eq!(rt; FileTime::MAX - FileTime::UNIX_EPOCH, last);
     let mut ft = FileTime::new(5);
     ft += Duration::from_nanos(1099);
     assert_eq!(rt; ft.to_raw(), 15);

@@ -9,6 +9,8 @@ fn texts_of_any_fields(rt: HostRuntime) -> Result<(), Fail> {
         (None, None, "255:00"),
         (None, Some(0), "255:00:00.0"),
         (None, Some(1), "255:00:00.000000001"),
+        (Some(99), None, "255:00:99"),
+        (Some(100), None, "255:00:100"),
         (Some(255), None, "255:00:255"),
         (Some(9), Some(1_000_000_000), "255:00:09.1"),
         (Some(9), Some(4_000_000_000), "255:00:09.4"),
@@ -27,6 +29,8 @@ fn texts_of_any_fields(rt: HostRuntime) -> Result<(), Fail> {
         (0, "+00:00"),
         (-1, "-00:01"),
         (1439, "+23:59"),
+        (5999, "+99:59"),
+        (6000, "+100:00"),
         (i16::MIN, "-546:08"),
         (i16::MAX, "+546:07"),
     ] {
@@ -36,6 +40,8 @@ fn texts_of_any_fields(rt: HostRuntime) -> Result<(), Fail> {
     for (year, written) in [
         (0, "0000-00-255"),
         (99, "0099-00-255"),
+        (9999, "9999-00-255"),
+        (10000, "10000-00-255"),
         (65535, "65535-00-255"),
     ] {
         let date = Date {
