@@ -10,4 +10,5 @@ pub mod ReadBack
 pub mod Replies
 pub mod Ends
 pub mod Sample
+pub mod Buffers
 pub mod inside

@@ -5,6 +5,7 @@
 #![tactic(auto)]
 
 mod answer;
+mod buffer;
 mod cause;
 mod faults;
 mod form;
@@ -21,6 +22,7 @@ mod sample;
 mod value;
 
 pub use answer::{ConvertError, convert, reply, reply_counted};
+pub use buffer::reply_lines;
 pub use cause::Cause;
 pub use form::Form;
 pub use memory_sink::MemSink;

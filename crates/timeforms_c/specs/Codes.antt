@@ -1,0 +1,26 @@
+-- What a call answers in place of an answer, each a negative number: the causes in the order in which they are judged, and then what is
+-- wrong with the call itself.
+use Rattle.std.specs.Prelude.{ℤ, pos, neg_ℤ}
+use Rattle.forms.specs.declared.cause.Cause.{Cause}
+use Rattle.forms.specs.declared.cause.Cause.TheVariants.{Syntax, NoSuchMoment, Range, Kind, Precision, Ambiguous}
+
+-- the code of a cause
+abbrev pub code_of : Cause → ℤ
+code_of Syntax = neg_ℤ (pos 1)
+code_of NoSuchMoment = neg_ℤ (pos 2)
+code_of Range = neg_ℤ (pos 3)
+code_of Kind = neg_ℤ (pos 4)
+code_of Precision = neg_ℤ (pos 5)
+code_of Ambiguous = neg_ℤ (pos 6)
+
+-- a number or a name that is no form's
+abbrev pub no_such_form : ℤ
+no_such_form = neg_ℤ (pos 101)
+
+-- a text that isn't UTF-8
+abbrev pub not_utf8 : ℤ
+not_utf8 = neg_ℤ (pos 102)
+
+-- an answer that is longer than the room for it
+abbrev pub no_room : ℤ
+no_room = neg_ℤ (pos 103)

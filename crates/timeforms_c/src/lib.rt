@@ -1,0 +1,16 @@
+//! The calls of this repository for C, and for all that calls C: a static library over `forms` and the crates below it.
+//!
+//! `include/timeforms.h` has each call as C sees it. Every call is one call of a crate below, with the clauses of that call; nothing is
+//! allocated, and no call stops its caller. A slice crosses as a pointer and a length, and a pointer whose length is 0 may be null.
+//!
+//! A call answers 0 or more where it has an answer, and else a negative code (`code`).
+#![tactic(auto)]
+
+pub mod code;
+pub mod duration;
+pub mod file_time;
+pub mod form;
+pub mod interval;
+pub mod reply;
+mod room;
+pub mod version;

@@ -1,0 +1,139 @@
+/* Timestamps, durations and intervals between written forms: the proved calls, for C99 and C++.
+ *
+ * Every call answers a number: 0 or more where it has an answer, and else one of the codes below. Where it answers a code, what the
+ * caller passed to be filled is as it was. Nothing is allocated, nothing is kept between calls, no call stops its caller, and calls
+ * in several threads don't meet.
+ *
+ * A text is a pointer and a length in bytes. It ends with no zero byte, and none is written. Where the length is 0 the pointer may be
+ * null; all other pointers must be valid, and what a call fills must not overlap what it reads. Texts are UTF-8; what isn't is
+ * answered by a code.
+ */
+#ifndef TIMEFORMS_H
+#define TIMEFORMS_H
+
+#include <stddef.h>
+#include <stdint.h>
+
+#ifdef __cplusplus
+extern "C" {
+#endif
+
+/* The version of this header. `timeforms_version` tells that of the library. */
+#define TIMEFORMS_VERSION "1.0.0"
+
+/* No text that a call puts into a buffer has more bytes than this. */
+#define TIMEFORMS_TEXT_MAX 96
+
+/* No reply to a line has more bytes than this, with its line feed. */
+#define TIMEFORMS_REPLY_MAX 97
+
+/* The forms, by number. A number never changes; further forms have further ones. README.md says what each is. */
+enum timeforms_form {
+    TIMEFORMS_FILE_TIME = 0,     /* `FileTime`: ticks of 100 nanoseconds since 1601, `125962560000000000` */
+    TIMEFORMS_ISO_DATE_TIME = 1, /* `IsoDateTime`: `2015-06-26T16:43:23.5+02:30` */
+    TIMEFORMS_ISO_DATE = 2,      /* `IsoDate`: `2015-06-26` */
+    TIMEFORMS_ISO_DURATION = 3,  /* `IsoDuration`: `P1Y2M3DT4H5M6.789S` */
+    TIMEFORMS_TOML = 4,          /* `Toml`: `1979-05-27T07:32:00Z` */
+    TIMEFORMS_FANCY = 5,         /* `Fancy`: `1h 20m 30s` */
+    TIMEFORMS_PG_ISO = 6,        /* `PgIso`, an interval form: `P1Y2M3DT4H5M6S` */
+    TIMEFORMS_POSTGRES = 7,      /* `Postgres`, an interval form: `1 year 2 mons 3 days 04:05:06` */
+    TIMEFORMS_PG_VERBOSE = 8,    /* `PgVerbose`, an interval form: `@ 1 year 2 mons 3 days 4 hours 5 mins 6 secs` */
+    TIMEFORMS_PG_SQL = 9,        /* `PgSql`, an interval form: `+1-2 -3 +4:05:06` */
+    TIMEFORMS_ISO_STRICT = 10    /* `IsoStrict`, an interval form: `P1Y2M3W4DT5H6M7S`, its units in one order */
+};
+
+/* What a call answers in place of an answer. The causes come in the order in which they are judged. */
+enum timeforms_code {
+    TIMEFORMS_SYNTAX = -1,         /* the text isn't in the form */
+    TIMEFORMS_NO_SUCH_MOMENT = -2, /* its fields name no day or no time of day, or an offset of a day or more */
+    TIMEFORMS_RANGE = -3,          /* a number, or the value, leaves the bounds of its form */
+    TIMEFORMS_KIND = -4,           /* the second form has no values of this kind */
+    TIMEFORMS_PRECISION = -5,      /* the value is no whole number of the second form's least unit */
+    TIMEFORMS_AMBIGUOUS = -6,      /* the written text would be read as another value */
+    TIMEFORMS_NO_SUCH_FORM = -101, /* a number or a name that is no form's, or no interval form's where one is asked for */
+    TIMEFORMS_NOT_UTF8 = -102,     /* the text isn't UTF-8 */
+    TIMEFORMS_NO_ROOM = -103       /* the answer is longer than the buffer */
+};
+
+/* An interval as PostgreSQL keeps it: a month is no number of days, and a day no number of hours. */
+typedef struct timeforms_interval {
+    int32_t months;       /* whole months, 12 a year */
+    int32_t days;         /* whole days */
+    int64_t microseconds; /* 3,600,000,000 an hour */
+} timeforms_interval;
+
+/* ---- Forms ---- */
+
+/* The number of the form of exactly this name, as in `PgIso`. NO_SUCH_FORM. The other calls take a code in place of a form's number
+ * as no form, so the answer need not be looked at first. */
+int32_t timeforms_form_by_name(const char *name, size_t name_len);
+
+/* Puts the name of a form into the buffer: how many bytes it has. NO_SUCH_FORM, NO_ROOM. */
+int32_t timeforms_form_name(int32_t form, char *out, size_t out_len);
+
+/* ---- One text ---- */
+
+/* Puts what a text of the form `from` is in the form `to` into the buffer: how many bytes that are. 96 bytes always suffice. Else the
+ * first of these that holds: NO_SUCH_FORM, NOT_UTF8, the six causes, NO_ROOM. */
+int32_t timeforms_reply(int32_t from, int32_t to, const char *text, size_t text_len, char *out, size_t out_len);
+
+/* The same with the names of the forms. */
+int32_t timeforms_reply_by_name(const char *from, size_t from_len, const char *to, size_t to_len, const char *text, size_t text_len,
+                                char *out, size_t out_len);
+
+/* ---- Lines ---- */
+
+/* Answers whole lines such as `PgIso Postgres P1Y2M`, as many at the front of `lines` as the buffer has room for, each by one line in
+ * the buffer: how many bytes were put there. `*used` is how many bytes of `lines` were answered. A line that can't be answered has
+ * the reply `refused` and why, as README.md says, so there is no code here.
+ *
+ * Call it again with what wasn't used. A last line without its line feed is never used: keep it in front of the bytes that come next,
+ * or at the end of all put a line feed behind it. With a buffer of 97 bytes or more each call answers a line where there is a whole
+ * one, so nothing used means that there is none. */
+size_t timeforms_replies(const char *lines, size_t lines_len, char *out, size_t out_len, size_t *used);
+
+/* ---- Intervals ---- */
+
+/* The interval that a text denotes in an interval form: 0. Else the first of these that holds: NO_SUCH_FORM, NOT_UTF8, SYNTAX,
+ * RANGE. */
+int32_t timeforms_interval_from_text(int32_t form, const char *text, size_t text_len, timeforms_interval *interval);
+
+/* Puts the text of an interval in an interval form into the buffer: how many bytes it has, 96 at most. Each interval has one.
+ * NO_SUCH_FORM, NO_ROOM. */
+int32_t timeforms_interval_to_text(int32_t form, const timeforms_interval *interval, char *out, size_t out_len);
+
+/* ---- File times: ticks of 100 nanoseconds since 1601-01-01 00:00:00 UTC ---- */
+
+/* The nanoseconds since 1970 of so many ticks: 0. RANGE where 64 bits don't hold them, before 1677-09-21 and after 2262-04-11. */
+int32_t timeforms_file_time_to_nanoseconds(uint64_t ticks, int64_t *nanoseconds);
+
+/* The latest tick that is not after so many nanoseconds since 1970, for any number of them: 0. */
+int32_t timeforms_file_time_from_nanoseconds(int64_t nanoseconds, uint64_t *ticks);
+
+/* The same as whole seconds since 1970, rounded down, and the nanoseconds beyond them, 0 to 999,999,900, for any number of ticks: 0. */
+int32_t timeforms_file_time_to_unix_time(uint64_t ticks, int64_t *seconds, uint32_t *nanoseconds);
+
+/* The latest tick that is not after so many seconds and nanoseconds since 1970, where the nanoseconds may be a second and more: 0.
+ * RANGE where the seconds are before 1601, or the sum is past the last tick, in the year 60056. */
+int32_t timeforms_file_time_from_unix_time(int64_t seconds, uint32_t nanoseconds, uint64_t *ticks);
+
+/* ---- Short durations, the form `Fancy` ---- */
+
+/* The length that a text denotes, in whole seconds and the nanoseconds beyond them, below 1,000,000,000: 0. NOT_UTF8, SYNTAX, and
+ * RANGE at 2^64 seconds and more. */
+int32_t timeforms_duration_from_text(const char *text, size_t text_len, uint64_t *seconds, uint32_t *nanoseconds);
+
+/* Puts the text of a length into the buffer: how many bytes it has, 96 at most. RANGE at 1,000,000,000 nanoseconds and more,
+ * AMBIGUOUS where the text would be read as another length, as the `1m` of 30 days, NO_ROOM. */
+int32_t timeforms_duration_to_text(uint64_t seconds, uint32_t nanoseconds, char *out, size_t out_len);
+
+/* ---- The library ---- */
+
+/* Puts the version of the library into the buffer, as in `1.0.0`: how many bytes it has. NO_ROOM. */
+int32_t timeforms_version(char *out, size_t out_len);
+
+#ifdef __cplusplus
+}
+#endif
+
+#endif

@@ -1,0 +1,66 @@
+"""The calls of `libtimeforms.so`, as include/timeforms.h has them."""
+from __future__ import annotations
+
+import ctypes
+import os
+from typing import Iterator
+
+TEXT_MAX = 96
+
+CAUSES = {
+    -1: "Syntax",
+    -2: "NoSuchMoment",
+    -3: "Range",
+    -4: "Kind",
+    -5: "Precision",
+    -6: "Ambiguous",
+    -101: "NoSuchForm",
+    -102: "NotUtf8",
+    -103: "NoRoom",
+}
+
+Text = ctypes.c_char * TEXT_MAX
+
+
+class Interval(ctypes.Structure):
+    _fields_ = [("months", ctypes.c_int32), ("days", ctypes.c_int32), ("microseconds", ctypes.c_int64)]
+
+
+_PATH = os.path.join(os.path.dirname(os.path.abspath(__file__)), "libtimeforms.so")
+# Calls for one text are shorter than to hand the interpreter's lock over and back; that for lines lets other threads run.
+_held, _free = ctypes.PyDLL(_PATH), ctypes.CDLL(_PATH)
+
+# Its one caller passes values of these types: to try each of them again takes as long as all the rest of the call.
+reply = _held.timeforms_reply
+reply.restype = ctypes.c_int32
+
+replies = _free.timeforms_replies
+replies.argtypes = [ctypes.c_void_p, ctypes.c_size_t, ctypes.c_char_p, ctypes.c_size_t, ctypes.POINTER(ctypes.c_size_t)]
+replies.restype = ctypes.c_size_t
+
+interval_from_text = _held.timeforms_interval_from_text
+interval_from_text.argtypes = [ctypes.c_int32, ctypes.c_char_p, ctypes.c_size_t, ctypes.POINTER(Interval)]
+interval_from_text.restype = ctypes.c_int32
+
+interval_to_text = _held.timeforms_interval_to_text
+interval_to_text.argtypes = [ctypes.c_int32, ctypes.POINTER(Interval), Text, ctypes.c_size_t]
+interval_to_text.restype = ctypes.c_int32
+
+form_name = _held.timeforms_form_name
+form_name.argtypes = [ctypes.c_int32, Text, ctypes.c_size_t]
+form_name.restype = ctypes.c_int32
+
+version = _held.timeforms_version
+version.argtypes = [Text, ctypes.c_size_t]
+version.restype = ctypes.c_int32
+
+
+def form_names() -> Iterator[str]:
+    """The names of the forms, by number from 0."""
+    out = Text()
+    count = form_name(0, out, TEXT_MAX)
+    number = 0
+    while count >= 0:
+        yield out.raw[:count].decode()
+        number += 1
+        count = form_name(number, out, TEXT_MAX)

@@ -1,0 +1,310 @@
+/* Tries each call of timeforms.h, and the rows of the tables that are named as words. Silent where all is as it must be.
+ * The values are from README.md, from the tables of crates/conformance and by hand. */
+#include "timeforms.h"
+
+#include <stdint.h>
+#include <stdio.h>
+#include <stdlib.h>
+#include <string.h>
+
+static int failed = 0;
+
+#define CHECK(holds)                                                          \
+    do {                                                                      \
+        if (!(holds)) {                                                       \
+            fprintf(stderr, "%s:%d: %s\n", __FILE__, __LINE__, #holds);       \
+            failed = 1;                                                       \
+        }                                                                     \
+    } while (0)
+
+/* A block of just so many bytes, so that a sanitizer sees each access beyond it. */
+static char *block(size_t len) {
+    char *bytes = malloc(len ? len : 1);
+    if (!bytes) abort();
+    memset(bytes, '#', len ? len : 1);
+    return bytes;
+}
+
+/* Whether a call answered this text, or this code where the text is null, with a buffer of so many bytes. */
+static int reply_is(const char *from, const char *to, const char *text, size_t text_len, size_t room, const char *want, int32_t code) {
+    char *out = block(room), *given = block(text_len);
+    if (text_len) memcpy(given, text, text_len);
+    int32_t by_name = timeforms_reply_by_name(from, strlen(from), to, strlen(to), given, text_len, out, room);
+    int holds = by_name == (want ? (int32_t)strlen(want) : code);
+    if (want) {
+        holds = holds && !memcmp(out, want, strlen(want));
+        for (size_t at = strlen(want); at < room; at++) holds = holds && out[at] == '#';
+    } else {
+        for (size_t at = 0; at < room; at++) holds = holds && out[at] == '#';
+    }
+    int32_t by_number = timeforms_reply(timeforms_form_by_name(from, strlen(from)), timeforms_form_by_name(to, strlen(to)), given, text_len,
+                                        out, room);
+    free(out);
+    free(given);
+    return holds && by_number == by_name;
+}
+
+static int answers(const char *from, const char *to, const char *text, const char *want) {
+    return reply_is(from, to, text, strlen(text), TIMEFORMS_TEXT_MAX, want, 0);
+}
+
+static int refuses(const char *from, const char *to, const char *text, int32_t code) {
+    return reply_is(from, to, text, strlen(text), TIMEFORMS_TEXT_MAX, NULL, code);
+}
+
+static void test_forms(void) {
+    static const char *names[] = {"FileTime", "IsoDateTime", "IsoDate", "IsoDuration", "Toml",
+                                  "Fancy",    "PgIso",       "Postgres", "PgVerbose",  "PgSql", "IsoStrict"};
+    for (int32_t form = TIMEFORMS_FILE_TIME; form <= TIMEFORMS_ISO_STRICT; form++) {
+        size_t len = strlen(names[form]);
+        char *out = block(len);
+        CHECK(timeforms_form_by_name(names[form], len) == form);
+        CHECK(timeforms_form_name(form, out, len) == (int32_t)len && !memcmp(out, names[form], len));
+        CHECK(timeforms_form_name(form, out, len - 1) == TIMEFORMS_NO_ROOM);
+        CHECK(timeforms_form_by_name(names[form], len - 1) == TIMEFORMS_NO_SUCH_FORM);
+        free(out);
+    }
+    CHECK(timeforms_form_by_name("pgiso", 5) == TIMEFORMS_NO_SUCH_FORM);
+    CHECK(timeforms_form_by_name("PgIso\0", 6) == TIMEFORMS_NO_SUCH_FORM);
+    CHECK(timeforms_form_by_name("\xff", 1) == TIMEFORMS_NO_SUCH_FORM);
+    CHECK(timeforms_form_by_name(NULL, 0) == TIMEFORMS_NO_SUCH_FORM);
+    CHECK(timeforms_form_name(-1, NULL, 0) == TIMEFORMS_NO_SUCH_FORM);
+    CHECK(timeforms_form_name(INT32_MAX, NULL, 0) == TIMEFORMS_NO_SUCH_FORM);
+    CHECK(timeforms_form_name(TIMEFORMS_TOML, NULL, 0) == TIMEFORMS_NO_ROOM);
+}
+
+static void test_replies_to_texts(void) {
+    CHECK(answers("PgIso", "PgIso", "P1Y1Y", "P2Y"));
+    CHECK(answers("FileTime", "IsoDateTime", "125962560000000000", "2000-02-29T00:00:00.000+00:00"));
+    CHECK(answers("Fancy", "Postgres", "36h", "1 day 12:00:00"));
+    CHECK(refuses("PgIso", "PgIso", "P", TIMEFORMS_SYNTAX));
+    CHECK(refuses("IsoDate", "IsoDate", "2015-09-31", TIMEFORMS_NO_SUCH_MOMENT));
+    CHECK(refuses("FileTime", "FileTime", "18446744073709551616", TIMEFORMS_RANGE));
+    CHECK(refuses("Toml", "FileTime", "12:00:00", TIMEFORMS_KIND));
+    CHECK(refuses("Fancy", "PgIso", "1ns", TIMEFORMS_PRECISION));
+    CHECK(refuses("Fancy", "Fancy", "30d", TIMEFORMS_AMBIGUOUS));
+    CHECK(refuses("Fancy", "fancy", "1s", TIMEFORMS_NO_SUCH_FORM));
+    CHECK(refuses("", "Fancy", "1s", TIMEFORMS_NO_SUCH_FORM));
+    CHECK(refuses("Fancy\xff", "Fancy", "\xff", TIMEFORMS_NO_SUCH_FORM));
+    CHECK(refuses("Fancy", "Fancy", "1s\xff", TIMEFORMS_NOT_UTF8));
+    /* a byte that is cut off its letter, and a half of a pair */
+    CHECK(refuses("PgIso", "PgIso", "\xc3", TIMEFORMS_NOT_UTF8));
+    CHECK(refuses("PgIso", "PgIso", "\xed\xa0\x80", TIMEFORMS_NOT_UTF8));
+    CHECK(reply_is("PgIso", "PgIso", "P1Y\0", 4, 96, NULL, TIMEFORMS_SYNTAX));
+    /* the buffer is as long as the text, or one byte too small; a cause comes before want of room */
+    CHECK(reply_is("PgIso", "PgIso", "P1Y1Y", 5, 3, "P2Y", 0));
+    CHECK(reply_is("PgIso", "PgIso", "P1Y1Y", 5, 2, NULL, TIMEFORMS_NO_ROOM));
+    CHECK(reply_is("PgIso", "PgIso", "P1Y1Y", 5, 0, NULL, TIMEFORMS_NO_ROOM));
+    CHECK(reply_is("PgIso", "PgIso", "P", 1, 0, NULL, TIMEFORMS_SYNTAX));
+    CHECK(timeforms_reply(TIMEFORMS_PG_ISO, TIMEFORMS_PG_ISO, NULL, 0, NULL, 0) == TIMEFORMS_SYNTAX);
+    /* the text of no counts is no time in `Postgres` */
+    CHECK(timeforms_reply(TIMEFORMS_POSTGRES, TIMEFORMS_PG_ISO, NULL, 0, NULL, 0) == TIMEFORMS_NO_ROOM);
+    CHECK(timeforms_reply_by_name(NULL, 0, NULL, 0, NULL, 0, NULL, 0) == TIMEFORMS_NO_SUCH_FORM);
+    CHECK(timeforms_reply(-1, TIMEFORMS_TOML, NULL, 0, NULL, 0) == TIMEFORMS_NO_SUCH_FORM);
+    CHECK(timeforms_reply(TIMEFORMS_TOML, 1000, NULL, 0, NULL, 0) == TIMEFORMS_NO_SUCH_FORM);
+}
+
+/* `P`, so many zeros and `1D`: one day. */
+static void test_long_texts(void) {
+    size_t len = 16u << 20;
+    char *text = block(len), out[TIMEFORMS_REPLY_MAX];
+    memset(text, '0', len);
+    text[0] = 'P';
+    memcpy(text + len - 2, "1D", 2);
+    CHECK(timeforms_reply(TIMEFORMS_PG_ISO, TIMEFORMS_PG_ISO, text, len, out, 3) == 3 && !memcmp(out, "P1D", 3));
+    text[len - 1] = 'd';
+    CHECK(timeforms_reply(TIMEFORMS_PG_ISO, TIMEFORMS_PG_ISO, text, len, out, 3) == TIMEFORMS_SYNTAX);
+    text[len - 1] = (char)0xff;
+    CHECK(timeforms_reply(TIMEFORMS_PG_ISO, TIMEFORMS_PG_ISO, text, len, out, 3) == TIMEFORMS_NOT_UTF8);
+    CHECK(timeforms_form_by_name(text, len) == TIMEFORMS_NO_SUCH_FORM);
+    memcpy(text, "PgIso PgIso P", 13);
+    memcpy(text + len - 3, "1D\n", 3);
+    size_t used = 1;
+    CHECK(timeforms_replies(text, len - 1, out, sizeof out, &used) == 0 && used == 0);
+    CHECK(timeforms_replies(text, len, out, sizeof out, &used) == 4 && used == len && !memcmp(out, "P1D\n", 4));
+    free(text);
+}
+
+static void test_replies_to_lines(void) {
+    const char *lines = "PgIso PgIso P1Y1Y\n\nFancy Fancy 30d\nPgIso PgIso P1";
+    size_t len = strlen(lines), used = 7;
+    char *out = block(37);
+    /* all whole lines: 4, 13 and 18 bytes; the last one has no line feed */
+    CHECK(timeforms_replies(lines, len, out, 37, &used) == 35 && used == 35);
+    CHECK(!memcmp(out, "P2Y\nrefused Line\nrefused Ambiguous\n##", 37));
+    memset(out, '#', 37);
+    CHECK(timeforms_replies(lines, len, out, 34, &used) == 17 && used == 19 && !memcmp(out, "P2Y\nrefused Line\n#", 18));
+    CHECK(timeforms_replies(lines, len, out, 4, &used) == 4 && used == 18);
+    memset(out, '#', 37);
+    CHECK(timeforms_replies(lines, len, out, 3, &used) == 0 && used == 0 && out[0] == '#');
+    CHECK(timeforms_replies(lines, 17, out, 37, &used) == 0 && used == 0 && out[0] == '#');
+    used = 7;
+    CHECK(timeforms_replies(NULL, 0, NULL, 0, &used) == 0 && used == 0);
+    used = 7;
+    CHECK(timeforms_replies("\n", 1, NULL, 0, &used) == 0 && used == 0);
+    CHECK(timeforms_replies("PgIso PgIso \xff\n", 14, out, 37, &used) == 13 && used == 14 && !memcmp(out, "refused Line\n", 13));
+    free(out);
+}
+
+static int interval_is(int32_t form, const char *text, int32_t months, int32_t days, int64_t microseconds) {
+    timeforms_interval interval = {7, 7, 7};
+    return timeforms_interval_from_text(form, text, strlen(text), &interval) == 0 && interval.months == months && interval.days == days &&
+           interval.microseconds == microseconds;
+}
+
+static int interval_refuses(int32_t form, const char *text, size_t len, int32_t code) {
+    timeforms_interval interval = {7, 8, 9};
+    return timeforms_interval_from_text(form, text, len, &interval) == code && interval.months == 7 && interval.days == 8 &&
+           interval.microseconds == 9;
+}
+
+static int interval_text_is(int32_t form, timeforms_interval interval, const char *want) {
+    size_t len = strlen(want);
+    char *out = block(len);
+    int holds = timeforms_interval_to_text(form, &interval, out, len) == (int32_t)len && !memcmp(out, want, len);
+    holds = holds && timeforms_interval_to_text(form, &interval, out, len - 1) == TIMEFORMS_NO_ROOM;
+    free(out);
+    return holds;
+}
+
+static void test_intervals(void) {
+    timeforms_interval some = {14, -3, 14706000000}, least = {INT32_MIN, INT32_MIN, INT64_MIN};
+    CHECK(interval_is(TIMEFORMS_PG_ISO, "P1Y2M-3DT4H5M6S", 14, -3, 14706000000));
+    CHECK(interval_is(TIMEFORMS_POSTGRES, "1 year 2 mons -3 days 04:05:06", 14, -3, 14706000000));
+    CHECK(interval_is(TIMEFORMS_PG_VERBOSE, "@ 1 hour 2 mins 3 secs ago", 0, 0, -3723000000));
+    CHECK(interval_is(TIMEFORMS_PG_SQL, "+1-2 -3 +4:05:06", 14, -3, 14706000000));
+    CHECK(interval_is(TIMEFORMS_ISO_STRICT, "P1Y2M-3DT4H5M6S", 14, -3, 14706000000));
+    CHECK(interval_refuses(TIMEFORMS_ISO_STRICT, "P1D1Y", 5, TIMEFORMS_SYNTAX));
+    CHECK(interval_is(TIMEFORMS_POSTGRES, "", 0, 0, 0));
+    CHECK(interval_refuses(TIMEFORMS_PG_ISO, NULL, 0, TIMEFORMS_SYNTAX));
+    CHECK(interval_refuses(TIMEFORMS_PG_ISO, "P2147483648D", 12, TIMEFORMS_RANGE));
+    CHECK(interval_refuses(TIMEFORMS_POSTGRES, "1 day 2 day", 11, TIMEFORMS_SYNTAX));
+    CHECK(interval_refuses(TIMEFORMS_PG_ISO, "P1D\xff", 4, TIMEFORMS_NOT_UTF8));
+    CHECK(interval_refuses(TIMEFORMS_FANCY, "1h", 2, TIMEFORMS_NO_SUCH_FORM));
+    CHECK(interval_refuses(TIMEFORMS_ISO_DURATION, "P1D", 3, TIMEFORMS_NO_SUCH_FORM));
+    CHECK(interval_refuses(-1, "\xff", 1, TIMEFORMS_NO_SUCH_FORM));
+    CHECK(interval_text_is(TIMEFORMS_PG_ISO, some, "P1Y2M-3DT4H5M6S"));
+    CHECK(interval_text_is(TIMEFORMS_POSTGRES, some, "1 year 2 mons -3 days 04:05:06"));
+    CHECK(interval_text_is(TIMEFORMS_PG_VERBOSE, some, "@ 1 year 2 mons -3 days 4 hours 5 mins 6 secs"));
+    CHECK(interval_text_is(TIMEFORMS_PG_SQL, some, "+1-2 -3 +4:05:06"));
+    CHECK(interval_text_is(TIMEFORMS_ISO_STRICT, some, "P1Y2M-3DT4H5M6S"));
+    CHECK(interval_text_is(TIMEFORMS_PG_ISO, least, "P-178956970Y-8M-2147483648DT-2562047788H-54.775808S"));
+    CHECK(timeforms_interval_to_text(TIMEFORMS_TOML, &some, NULL, 0) == TIMEFORMS_NO_SUCH_FORM);
+    CHECK(timeforms_interval_to_text(TIMEFORMS_PG_SQL, &some, NULL, 0) == TIMEFORMS_NO_ROOM);
+}
+
+static void test_file_times(void) {
+    uint64_t ticks = 7;
+    int64_t seconds = 7, nanos = 7;
+    uint32_t beyond = 7;
+    CHECK(timeforms_file_time_from_nanoseconds(0, &ticks) == 0 && ticks == 116444736000000000u);
+    CHECK(timeforms_file_time_from_nanoseconds(-1, &ticks) == 0 && ticks == 116444735999999999u);
+    CHECK(timeforms_file_time_from_nanoseconds(199, &ticks) == 0 && ticks == 116444736000000001u);
+    /* -9,223,372,036,854,775,808 and 9,223,372,036,854,775,807 nanoseconds, in ticks rounded down */
+    CHECK(timeforms_file_time_from_nanoseconds(INT64_MIN, &ticks) == 0 && ticks == 24211015631452241u);
+    CHECK(timeforms_file_time_to_nanoseconds(ticks, &nanos) == TIMEFORMS_RANGE && nanos == 7);
+    CHECK(timeforms_file_time_to_nanoseconds(ticks + 1, &nanos) == 0 && nanos == INT64_MIN + 8);
+    CHECK(timeforms_file_time_from_nanoseconds(INT64_MAX, &ticks) == 0 && ticks == 208678456368547758u);
+    CHECK(timeforms_file_time_to_nanoseconds(ticks, &nanos) == 0 && nanos == INT64_MAX - 7);
+    CHECK(timeforms_file_time_to_nanoseconds(ticks + 1, &nanos) == TIMEFORMS_RANGE && nanos == INT64_MAX - 7);
+    CHECK(timeforms_file_time_to_unix_time(116444735999999999u, &seconds, &beyond) == 0 && seconds == -1 && beyond == 999999900);
+    CHECK(timeforms_file_time_to_unix_time(0, &seconds, &beyond) == 0 && seconds == -11644473600 && beyond == 0);
+    CHECK(timeforms_file_time_to_unix_time(UINT64_MAX, &seconds, &beyond) == 0 && seconds == 1833029933770 && beyond == 955161500);
+    CHECK(timeforms_file_time_from_unix_time(1833029933770, 955161599, &ticks) == 0 && ticks == UINT64_MAX);
+    ticks = 7;
+    CHECK(timeforms_file_time_from_unix_time(1833029933770, 955161600, &ticks) == TIMEFORMS_RANGE && ticks == 7);
+    CHECK(timeforms_file_time_from_unix_time(-11644473601, UINT32_MAX, &ticks) == TIMEFORMS_RANGE && ticks == 7);
+    CHECK(timeforms_file_time_from_unix_time(-11644473600, 0, &ticks) == 0 && ticks == 0);
+    CHECK(timeforms_file_time_from_unix_time(0, 1000000000, &ticks) == 0 && ticks == 116444736010000000u);
+}
+
+static void test_durations(void) {
+    uint64_t seconds = 7;
+    uint32_t nanos = 7;
+    char out[TIMEFORMS_TEXT_MAX];
+    CHECK(timeforms_duration_from_text("1.5h", 4, &seconds, &nanos) == TIMEFORMS_SYNTAX && seconds == 7 && nanos == 7);
+    CHECK(timeforms_duration_from_text(NULL, 0, &seconds, &nanos) == TIMEFORMS_SYNTAX && seconds == 7 && nanos == 7);
+    CHECK(timeforms_duration_from_text("\xff", 1, &seconds, &nanos) == TIMEFORMS_NOT_UTF8 && seconds == 7 && nanos == 7);
+    CHECK(timeforms_duration_from_text("18446744073709551616s", 21, &seconds, &nanos) == TIMEFORMS_RANGE && seconds == 7 && nanos == 7);
+    CHECK(timeforms_duration_from_text("3m 5s", 5, &seconds, &nanos) == 0 && seconds == 185 && nanos == 0);
+    CHECK(timeforms_duration_from_text("18446744073709551615s 999999999ns", 33, &seconds, &nanos) == 0);
+    CHECK(seconds == UINT64_MAX && nanos == 999999999);
+    CHECK(timeforms_duration_to_text(185, 0, out, 5) == 5 && !memcmp(out, "3m 5s", 5));
+    CHECK(timeforms_duration_to_text(185, 0, out, 4) == TIMEFORMS_NO_ROOM);
+    CHECK(timeforms_duration_to_text(0, 0, out, 96) == 1 && out[0] == '0');
+    CHECK(timeforms_duration_to_text(UINT64_MAX, 999999999, out, 96) == 47);
+    CHECK(!memcmp(out, "593066617596y 1m 1w 4d 7h 15s 999ms 999us 999ns", 47));
+    CHECK(timeforms_duration_to_text(30 * 86400, 0, out, 96) == TIMEFORMS_AMBIGUOUS);
+    CHECK(timeforms_duration_to_text(0, 1000000000, NULL, 0) == TIMEFORMS_RANGE);
+}
+
+static void test_version(void) {
+    char out[8];
+    CHECK(timeforms_version(out, sizeof out) == (int32_t)strlen(TIMEFORMS_VERSION));
+    CHECK(!memcmp(out, TIMEFORMS_VERSION, strlen(TIMEFORMS_VERSION)));
+    CHECK(timeforms_version(NULL, 0) == TIMEFORMS_NO_ROOM);
+}
+
+/* Writes the bytes that a field of a table spells over the field, where \x0A is one byte: how many they are. */
+static size_t spelled(char *field) {
+    size_t len = 0;
+    for (char *at = field; *at; len++) {
+        unsigned byte = (unsigned char)*at;
+        int is_code = at[0] == '\\' && at[1] == 'x' && sscanf(at + 2, "%2X", &byte) == 1;
+        at += is_code ? 4 : 1;
+        field[len] = (char)byte;
+    }
+    return len;
+}
+
+/* Whether the calls for one text agree with a row: its line without its line feed, and its reply. */
+static int row_agrees(const char *line, size_t len, const char *reply, size_t reply_len) {
+    static const char *const causes[] = {"Syntax", "NoSuchMoment", "Range", "Kind", "Precision", "Ambiguous"};
+    const char *end = line + len, *to = memchr(line, ' ', len);
+    if (!to++) return reply_len == 12 && !memcmp(reply, "refused Line", 12);
+    const char *text = memchr(to, ' ', (size_t)(end - to));
+    size_t to_len = (size_t)((text ? text : end) - to);
+    text = text ? text + 1 : end;
+    char out[TIMEFORMS_TEXT_MAX];
+    int32_t got = timeforms_reply_by_name(line, (size_t)(to - line) - 1, to, to_len, text, (size_t)(end - text), out, sizeof out);
+    if (got >= 0) return (size_t)got == reply_len && !memcmp(out, reply, reply_len);
+    const char *cause = got == TIMEFORMS_NO_SUCH_FORM || got == TIMEFORMS_NOT_UTF8 ? "Line" : got >= -6 ? causes[-got - 1] : "";
+    return reply_len == 8 + strlen(cause) && !memcmp(reply, "refused ", 8) && !memcmp(reply + 8, cause, strlen(cause));
+}
+
+/* Each row of a table by both calls: the line with its line feed alone, and its text. */
+static void test_table(const char *path) {
+    static char row[1 << 16];
+    FILE *table = fopen(path, "r");
+    size_t rows = 0;
+    CHECK(table != NULL);
+    while (table && fgets(row, sizeof row, table)) {
+        char *line = row, *tab = strchr(row, '\t'), *next = tab ? strchr(tab + 1, '\t') : NULL, out[TIMEFORMS_REPLY_MAX];
+        if (row[0] == '#' || !next) continue;
+        *tab = *next = 0;
+        size_t reply_len = spelled(tab + 1), len = spelled(line), used;
+        line[len] = '\n';
+        size_t put = timeforms_replies(line, len + 1, out, sizeof out, &used);
+        int agrees = used == len + 1 && put == reply_len + 1 && !memcmp(out, tab + 1, reply_len) && out[reply_len] == '\n';
+        if (!agrees || !row_agrees(line, len, tab + 1, reply_len)) {
+            fprintf(stderr, "%s disagrees: %.*s\n", path, (int)len, line);
+            failed = 1;
+        }
+        rows++;
+    }
+    CHECK(rows > 0);
+    if (table) fclose(table);
+}
+
+int main(int argc, char **argv) {
+    test_forms();
+    test_replies_to_texts();
+    test_replies_to_lines();
+    test_long_texts();
+    test_intervals();
+    test_file_times();
+    test_durations();
+    test_version();
+    for (int table = 1; table < argc; table++) test_table(argv[table]);
+    return failed;
+}
