@@ -109,6 +109,7 @@ names_no_feed style.Iso = refl
 names_no_feed style.Postgres = refl
 names_no_feed style.Verbose = refl
 names_no_feed style.Sql = refl
+names_no_feed style.IsoStrict = refl
 
 -- what the law of the crate below says of written texts
 abbrev pub OneLineEach : Type 0

@@ -60,7 +60,7 @@ one_small (l ∷ more) b all h =
 in_small : (b : ℕ) → is_in_alphabet b ≡ true → is_small b ≡ true
 in_small b h =
     either (is_blank b) _ h (λ blank. grind (arith, nat_tests)) (λ h.
-    either (is_ascii_digit b) _ h (λ digit. grind (arith, nat_tests)) (λ h. one_small (codes "+-.:@PTYMDHSacdeghimnorstuy") b refl h))
+    either (is_ascii_digit b) _ h (λ digit. grind (arith, nat_tests)) (λ h. one_small (codes "+-.:@PTYMWDHSacdeghimnorstuy") b refl h))
 
 all_small : (bytes : List ℕ) → list_all is_in_alphabet bytes ≡ true → list_all is_small bytes ≡ true
 all_small [] h = refl
@@ -83,6 +83,7 @@ small_names style.Iso = refl
 small_names style.Postgres = refl
 small_names style.Verbose = refl
 small_names style.Sql = refl
+small_names style.IsoStrict = refl
 
 line_utf8 : Texts → (index : ℕ) (t : Interval) → IsInRange t → IsUtf8 (line_of index t)
 line_utf8 texts index t range =
@@ -107,6 +108,7 @@ same_style style.Iso = refl
 same_style style.Postgres = refl
 same_style style.Verbose = refl
 same_style style.Sql = refl
+same_style style.IsoStrict = refl
 
 is_answer : (s u : Style) (text : List ℕ) (answer : Result (List ℕ) Cause) → IsIntervalAnswer s u text answer → IsAnswer (form_of s) (form_of u) text answer
 is_answer s u text answer h = rw (same_style s, same_style u) h

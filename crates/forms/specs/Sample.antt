@@ -9,7 +9,7 @@ use Rattle.pg_interval_2.specs.declared.style.Style.{Style}
 use Rattle.pg_interval_2.specs.declared.style.Style.TheVariants as style
 use Rattle.pg_interval_2.specs.Styles.{written}
 use Rattle.forms.specs.declared.form.Form.{Form}
-use Rattle.forms.specs.declared.form.Form.TheVariants.{PgIso, Postgres, PgVerbose, PgSql}
+use Rattle.forms.specs.declared.form.Form.TheVariants.{PgIso, Postgres, PgVerbose, PgSql, IsoStrict}
 use Rattle.forms.specs.declared.run_end.RunEnd.{RunEnd}
 use Rattle.forms.specs.declared.run_end.RunEnd.TheVariants.{Done, WriteFault, NoMemory}
 use Rattle.forms.specs.Ends.{status_of}
@@ -49,7 +49,7 @@ interval_of_draws a b c = record {
 abbrev pub sample_interval : ℕ → Interval
 sample_interval index = interval_of_draws (drawn (3 * index + 1)) (drawn (3 * index + 2)) (drawn (3 * index + 3))
 
--- the four styles in turn
+-- four styles in turn
 abbrev pub style_at : ℕ → Style
 style_at number =
     if number == 0 then style.Iso else if number == 1 then style.Postgres else if number == 2 then style.Verbose else style.Sql
@@ -60,6 +60,7 @@ form_of style.Iso = PgIso
 form_of style.Postgres = Postgres
 form_of style.Verbose = PgVerbose
 form_of style.Sql = PgSql
+form_of style.IsoStrict = IsoStrict
 
 -- the styles that a line reads and writes: the first changes with each line, the second with each four
 abbrev pub style_from : ℕ → Style

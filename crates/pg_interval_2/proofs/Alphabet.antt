@@ -1,5 +1,6 @@
 -- A text in one of the styles is made of their alphabet.
 use Rattle.std.proofs.Common.{◌≡◌, ◌⊎◌, ℕ, Bool, true, false, cond, IsTrue, ◌==◌, List, [], ◌∷◌, ◌++◌, codes, Some, refl, sym, subst, inl, inr, arith}
+use Rattle.std.proofs.lemmas.Bool.{and_parts}
 use Rattle.std.proofs.lemmas.Bool.Decides.{nat_tests}
 use Rattle.std.specs.Char.{is_ascii_digit}
 use Rattle.std.specs.List.{list_all}
@@ -9,19 +10,19 @@ use Rattle.scan_core.specs.Digits.{AreDigits}
 use Rattle.scan_core.specs.Join.{IsJoin, onto_first}
 use Rattle.scan_core.specs.Number.{IsSign, IsFraction, IsNumber}
 use Rattle.scan_core.specs.declared.share.Unit.{Unit as TimeUnit}
-use Rattle.scan_core.specs.declared.share.Unit.TheVariants.{Year, Month, Day, Hour, Minute, Second}
+use Rattle.scan_core.specs.declared.share.Unit.TheVariants.{Year, Month, Week, Day, Hour, Minute, Second}
 use Rattle.pg_interval_2.specs.Alphabet.{is_in_alphabet}
 use Rattle.pg_interval_2.specs.Clock.{IsClock}
-use Rattle.pg_interval_2.specs.Iso.{date_unit, time_unit, unit_in, ArePairs, IsIso}
+use Rattle.pg_interval_2.specs.Iso.{date_unit, time_unit, unit_in, ArePairs, IsDateAlone, IsDateAndTime, IsIso}
+use Rattle.pg_interval_2.specs.IsoStrict.{IsIsoStrict}
 use Rattle.pg_interval_2.specs.Postgres.{IsItem, IsPostgres}
 use Rattle.pg_interval_2.specs.Sql.{IsSignOr, IsYearMonth, IsDays, HasSeconds, IsTime, AreSqlWords, IsSql}
 use Rattle.pg_interval_2.specs.Styles.{Shape}
 use Rattle.pg_interval_2.specs.UnitNames.{postgres_names, verbose_names}
 use Rattle.pg_interval_2.specs.Verbose.{ago_or_none, IsBody, IsVerbose}
 use Rattle.pg_interval_2.specs.declared.style.Style.{Style}
-use Rattle.pg_interval_2.specs.declared.style.Style.TheVariants.{Iso, Postgres, Verbose, Sql}
+use Rattle.pg_interval_2.specs.declared.style.Style.TheVariants.{Iso, Postgres, Verbose, Sql, IsoStrict}
 use Rattle.pg_interval_2.proofs.EachByte.{Each, EachWord, each-append, each_word-append, each-weaker, each-digits, first_of, second_of}
-use Rattle.pg_interval_2.proofs.ItemFacts.{both}
 use Rattle.pg_interval_2.proofs.UnitNameFacts.{chosen_unit, named_passes}
 use Rattle.pg_interval_2.proofs.Verdicts.{Names}
 
@@ -94,16 +95,18 @@ date_letter : (letter : ℕ) (unit : TimeUnit) → date_unit letter ≡ Some uni
 date_letter letter unit h =
     chosen_unit (letter == 89) unit Year _ h (designator letter 89 refl) (λ h.
     chosen_unit (letter == 77) unit Month _ h (designator letter 77 refl) (λ h.
+    chosen_unit (letter == 87) unit Week _ h (designator letter 87 refl) (λ h.
     chosen_unit (letter == 68) unit Day _ h (designator letter 68 refl) (λ h.
-    chosen_unit (letter == 72) unit Hour _ h (designator letter 72 refl) (λ h. cc))))
+    chosen_unit (letter == 72) unit Hour _ h (designator letter 72 refl) (λ h. cc)))))
 
 time_letter : (letter : ℕ) (unit : TimeUnit) → time_unit letter ≡ Some unit → In (letter ∷ [])
 time_letter letter unit h =
     chosen_unit (letter == 89) unit Year _ h (designator letter 89 refl) (λ h.
     chosen_unit (letter == 77) unit Minute _ h (designator letter 77 refl) (λ h.
+    chosen_unit (letter == 87) unit Week _ h (designator letter 87 refl) (λ h.
     chosen_unit (letter == 68) unit Day _ h (designator letter 68 refl) (λ h.
     chosen_unit (letter == 72) unit Hour _ h (designator letter 72 refl) (λ h.
-    chosen_unit (letter == 83) unit Second _ h (designator letter 83 refl) (λ h. cc)))))
+    chosen_unit (letter == 83) unit Second _ h (designator letter 83 refl) (λ h. cc))))))
 
 letter_in : (behind : Bool) (letter : ℕ) (unit : TimeUnit) → unit_in behind letter ≡ Some unit → In (letter ∷ [])
 letter_in false letter unit h = date_letter letter unit h
@@ -117,17 +120,27 @@ pairs_in behind text (c ∷ cs) h =
     let piece = joined h.0 pair.number (pair.letter ∷ []) pair.joined number (letter_in behind pair.letter c.unit pair.unit) in
     joined text h.0 h.1 h.4 piece (pairs_in behind h.1 cs h.3)
 
-iso_in : (text : List ℕ) (counts : List Count) → IsIso text counts → In text
-iso_in text counts (inl h) = joined text (codes "P") h.0 h.3 (bytes_in (codes "P") refl) (pairs_in false h.0 counts h.1)
-iso_in text counts (inr h) =
+date_in : (text : List ℕ) (counts : List Count) → IsDateAlone unit_in text counts → In text
+date_in text counts h = joined text (codes "P") h.0 h.3 (bytes_in (codes "P") refl) (pairs_in false h.0 counts h.1)
+
+date_and_time_in : (text : List ℕ) (counts : List Count) → IsDateAndTime unit_in text counts → In text
+date_and_time_in text counts h =
     let time = append (codes "T") h.time (bytes_in (codes "T") refl) (pairs_in true h.time h.time_counts h.times) in
     let both_parts = append h.date (codes "T" ++ h.time) (pairs_in false h.date h.date_counts h.dates) time in
     joined text (codes "P") (h.date ++ (codes "T" ++ h.time)) h.spelled (bytes_in (codes "P") refl) both_parts
 
+iso_in : (text : List ℕ) (counts : List Count) → IsIso text counts → In text
+iso_in text counts (inl h) = date_in text counts h
+iso_in text counts (inr h) = date_and_time_in text counts h
+
+strict_in : (text : List ℕ) (counts : List Count) → IsIsoStrict text counts → In text
+strict_in text counts (inl h) = date_in text counts h.0
+strict_in text counts (inr h) = date_and_time_in text counts h.0
+
 -- ---- words
 
 first_in : (b : ℕ) (bs : List ℕ) → In (b ∷ bs) → (is_in_alphabet b ≡ true) × In bs
-first_in b bs h = let parts = both (is_in_alphabet b) (list_all is_in_alphabet bs) h.passes in (parts.0, bytes_in bs parts.1)
+first_in b bs h = let parts = and_parts (is_in_alphabet b) (list_all is_in_alphabet bs) h.passes in (parts.0, bytes_in bs parts.1)
 
 one_word : (t : Bool) (b : ℕ) → (t ≡ true → is_in_alphabet b ≡ true) → AllIn (cond t [] ((b ∷ []) ∷ [])) → In (b ∷ [])
 one_word true b blank h = let in_blank = blank refl in bytes_in (b ∷ []) (rw in_blank refl)
@@ -158,6 +171,7 @@ AreIn names = (unit : TimeUnit) → IsTrue (list_all (λ name. list_all is_in_al
 postgres_names_in : AreIn postgres_names
 postgres_names_in Year = refl
 postgres_names_in Month = refl
+postgres_names_in Week = refl
 postgres_names_in Day = refl
 postgres_names_in Hour = refl
 postgres_names_in Minute = refl
@@ -166,6 +180,7 @@ postgres_names_in Second = refl
 verbose_names_in : AreIn verbose_names
 verbose_names_in Year = refl
 verbose_names_in Month = refl
+verbose_names_in Week = refl
 verbose_names_in Day = refl
 verbose_names_in Hour = refl
 verbose_names_in Minute = refl
@@ -255,3 +270,4 @@ in_alphabet Iso text counts h = (iso_in text counts h).passes
 in_alphabet Postgres text counts h = (postgres_in text counts h).passes
 in_alphabet Verbose text counts h = (verbose_in text counts h).passes
 in_alphabet Sql text counts h = (sql_in text counts h).passes
+in_alphabet IsoStrict text counts h = (strict_in text counts h).passes

@@ -2,10 +2,10 @@
 use Rattle.std.proofs.Common.{◌≡◌, ℕ, Bool, true, false, cond, ◌||◌, List, [], ◌∷◌, ◌++◌, refl}
 use Rattle.std.specs.Char.{is_ascii_digit}
 use Rattle.std.specs.List.{list_all}
+use Rattle.std.proofs.lemmas.Bool.{and_parts}
 use Rattle.std.proofs.lemmas.List.Folds.{list_all-append}
 use Rattle.scan_core.specs.Digits.{AreDigits}
 use Rattle.scan_core.proofs.DigitFacts.{all_from_digits}
-use Rattle.pg_interval_2.proofs.ItemFacts.{both}
 
 -- each byte passes the test
 pub record Each (p : ℕ → Bool) (bytes : List ℕ) : Type 0 where
@@ -35,7 +35,7 @@ each_word-if p false a b h k = k
 pub each-weaker : (p q : ℕ → Bool) → ((x : ℕ) → p x ≡ true → q x ≡ true) → (xs : List ℕ) → list_all p xs ≡ true → list_all q xs ≡ true
 each-weaker p q weaker [] h = refl
 each-weaker p q weaker (x ∷ xs) h =
-    let parts = both (p x) (list_all p xs) h in
+    let parts = and_parts (p x) (list_all p xs) h in
     let first = weaker x parts.0 in
     let rest = each-weaker p q weaker xs parts.1 in
     rw (first, rest) refl

@@ -23,7 +23,7 @@ use Rattle.pg_interval_2.specs.Turned.{turned_sign}
 use Rattle.pg_interval_2.specs.VerboseText.{behind_spaces, unit_words, second_digits, second_words, verbose_date, verbose_time, parts_text, verbose_text, has_ago}
 use Rattle.pg_interval_2.specs.declared.interval.Interval.{Interval}
 use Rattle.pg_interval_2.specs.declared.style.Style.{Style}
-use Rattle.pg_interval_2.specs.declared.style.Style.TheVariants.{Iso, Postgres, Verbose, Sql}
+use Rattle.pg_interval_2.specs.declared.style.Style.TheVariants.{Iso, Postgres, Verbose, Sql, IsoStrict}
 use Rattle.pg_interval_2.proofs.EachByte.{Each, EachWord, each-append, each_word-append, each-digits, each-if, each_word-if}
 use Rattle.pg_interval_2.proofs.Signs.{abs_fits}
 use Rattle.pg_interval_2.proofs.SumsTo.{fits_months, fits_micros}
@@ -333,6 +333,7 @@ style_line Iso t m d u = iso_line t.months t.days t.microseconds m d u
 style_line Postgres t m d u = postgres_line t.months t.days t.microseconds m d u
 style_line Verbose t m d u = verbose_line t.months t.days t.microseconds m d u
 style_line Sql t m d u = sql_line t.months t.days t.microseconds m d u
+style_line IsoStrict t m d u = iso_line t.months t.days t.microseconds m d u
 
 pub one_line : (style : Style) (t : Interval) → IsInRange t → IsTrue (list_all is_no_feed (written style t))
 one_line style t range =

@@ -62,7 +62,7 @@ fn line_of(index: u64, interval: Interval) -> Short
     out
 }
 
-/// The style with the number, of four.
+/// The style with the number, of the four in turn.
 fn style_at(number: u64) -> Style
     ensures { result ≡ style_at number }
 {
@@ -85,6 +85,7 @@ fn push_name(out: &mut Short, style: Style)
         Style::Postgres => push_text(out, "Postgres "),
         Style::Verbose => push_text(out, "PgVerbose "),
         Style::Sql => push_text(out, "PgSql "),
+        Style::IsoStrict => push_text(out, "IsoStrict "),
     }
 }
 
