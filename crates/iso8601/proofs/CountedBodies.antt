@@ -1,5 +1,5 @@
 -- Which kind of duration stands behind a `P`, by the byte behind its first digits.
-use Rattle.std.proofs.Common.{◌≡◌, ◌≢◌, ℕ, ◌+◌, ◌-◌, ◌<◌, ◌⊎◌, ◌==◌, nat_lt, Bool, true, false, List, [], ◌∷◌, ◌++◌, length, Option, Some, None, IfSome, IfNone, refl, sym, ◌∙◌, ap, subst, append-nil, arith, inl, inr}
+use Rattle.std.proofs.Common.{◌≡◌, ◌≢◌, ℕ, ◌-◌, ◌<◌, ◌⊎◌, ◌==◌, nat_lt, false, List, [], ◌∷◌, length, Option, Some, None, IfSome, IfNone, refl, sym, ◌∙◌, ap, subst, append-nil, arith, inl, inr}
 use Rattle.std.specs.Prelude.{option_and_then}
 use Rattle.std.proofs.lemmas.Bool.Decides.{nat_tests}
 use Rattle.std.proofs.lemmas.Option.{option_and_then_some, some_pair_parts}
@@ -9,7 +9,7 @@ use Rattle.scan_core.specs.Scanning.{Passes, Place, ahead, front_byte}
 use Rattle.scan_core.specs.declared.runs.Run.{Run}
 use Rattle.scan_core.proofs.FrontFacts.{front_are_digits, front_and_after}
 use Rattle.scan_core.proofs.RunFacts.{run_length}
-use Rattle.iso8601.specs.Durations.{IsBody, IsDuration}
+use Rattle.iso8601.specs.Durations.{IsDuration}
 use Rattle.iso8601.specs.declared.types.Duration.{Duration}
 use Rattle.iso8601.specs.declared.types.Duration.TheVariants.{Weeks}
 use Rattle.iso8601.specs.declared.types.Time.{Time}
@@ -18,7 +18,7 @@ use Rattle.iso8601.specs.inside.DurationReading.{Peeked, dated_of, peek, read_bo
 use Rattle.iso8601.specs.inside.Reading.{or_else, read_field, read_marked}
 use Rattle.iso8601.specs.inside.TimeReading.{read_time}
 use Rattle.iso8601.proofs.CountedFacts.{none_passed, number_none, other_byte, peek_behind, peek_none, behind_number, some_passed}
-use Rattle.iso8601.proofs.DurationReading.{PeeksDate, body_sound, body_whole, clock_missing, not_dated, not_less, perhaps_none, some_none}
+use Rattle.iso8601.proofs.DurationReading.{body_sound, body_whole, clock_missing, not_dated, not_less, perhaps_none, some_none}
 use Rattle.iso8601.proofs.FieldFacts.{NotFirst, digits_first}
 
 some_bytes : (run : Run) (place : Place) (n : ℕ) → n ≡ run.end - run.start → IsBehind run place → run.start ≢ run.end → 0 < n

@@ -1,12 +1,12 @@
 -- Runs of digits that a scan passed, as the readers on lists see them.
-use Rattle.std.proofs.Common.{◌≡◌, ◌≢◌, ℕ, ℤ, pos, zero, suc, ◌+◌, ◌-◌, ◌*◌, ◌^◌, ◌<◌, ◌≤◌, ◌⊎◌, ◌==◌, ◌&&◌, nat_lt, Bool, true, false, cond, List, [], ◌∷◌, ◌++◌, length, take, drop, Option, Some, None, refl, sym, ◌∙◌, ap, subst, arith, inl, inr, codes, length-take, length-append}
+use Rattle.std.proofs.Common.{◌≡◌, ◌≢◌, ℕ, pos, zero, suc, ◌-◌, ◌*◌, ◌^◌, ◌<◌, ◌≤◌, ◌⊎◌, ◌==◌, ◌&&◌, nat_lt, Bool, true, false, cond, List, [], ◌∷◌, ◌++◌, length, take, drop, Option, Some, None, refl, sym, ◌∙◌, ap, subst, arith, inl, inr, length-take, length-append}
 use Rattle.std.proofs.lemmas.Bool.Decides.{nat_tests}
 use Rattle.std.proofs.lemmas.List.{take_at, drop_at}
 use Rattle.std.proofs.lemmas.Option.{some_pair_parts}
 use Rattle.std.proofs.Math.Nat.{pow-le-pow_right}
 use Rattle.std.specs.Char.{is_ascii_digit}
 use Rattle.scan_core.specs.Digits.{AreDigits, number_of}
-use Rattle.scan_core.specs.Fronts.{front_digits, after_digits, NoDigitFirst}
+use Rattle.scan_core.specs.Fronts.{front_digits, after_digits}
 use Rattle.scan_core.specs.Runs.{IsRun, Knows, digits_of}
 use Rattle.scan_core.specs.Scanning.{Passes, Place, ahead, front_byte}
 use Rattle.scan_core.specs.declared.runs.Run.{Run}
@@ -17,7 +17,7 @@ use Rattle.iso8601.specs.declared.types.Time.{Time}
 use Rattle.iso8601.specs.inside.CountedReading.{BeginsField, BeginsNoPoint, IsBehind, IsPointed, IsStuck, from_run, number_in}
 use Rattle.iso8601.specs.inside.DurationReading.{closed_by, with_letter, peek, read_count, read_perhaps, read_seconds}
 use Rattle.iso8601.specs.inside.Reading.{read_field, read_mark, read_marked}
-use Rattle.iso8601.specs.inside.TimeReading.{millis_of, or_zero, read_fraction, read_later, read_offset, read_signed, read_tail, read_time, time_of}
+use Rattle.iso8601.specs.inside.TimeReading.{millis_of, read_fraction, read_later, read_offset, read_signed, read_tail, read_time, time_of}
 use Rattle.iso8601.proofs.FieldFacts.{field_some, field_none, is_byte}
 use Rattle.iso8601.proofs.Longest.{nothing}
 use Rattle.iso8601.proofs.TimeParts.{is_digit, stops_later}

@@ -1,5 +1,5 @@
 -- What a scan knows that has passed digits whose unit isn't known yet. Cited by private contracts alone.
-use Rattle.std.specs.Prelude.{◌≡◌, ◌≢◌, ℕ, ◌<◌, ◌^◌, ◌==◌, ◌&&◌, nat_lt, List, [], drop, length, Option, Some, None, if◌then◌else◌, ◌⊎◌, ◌∷◌, true}
+use Rattle.std.specs.Prelude.{◌≡◌, ◌≢◌, ℕ, ◌^◌, ◌&&◌, nat_lt, List, [], drop, length, Option, Some, None, if◌then◌else◌, ◌⊎◌, ◌∷◌, true}
 use Rattle.std.specs.Char.{is_ascii_digit}
 use Rattle.scan_core.specs.Digits.{number_of}
 use Rattle.scan_core.specs.Fronts.{front_digits, after_digits}

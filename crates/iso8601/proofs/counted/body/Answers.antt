@@ -1,7 +1,7 @@
-use Rattle.std.proofs.Common.{◌≡◌, ◌≢◌, ℕ, List, [], ◌∷◌, Option, Some, None, true, false, sym, subst, ◌∙◌, ap}
+use Rattle.std.proofs.Common.{◌≡◌, true, false, sym, subst, ◌∙◌, ap}
 use Rattle.scan_core.specs.Scanning.{Place, ahead}
 use Rattle.iso8601.specs.inside.CountedReading.{BeginsUnit, from_run}
-use Rattle.iso8601.specs.inside.DurationReading.{read_body, read_counted, read_dated}
+use Rattle.iso8601.specs.inside.DurationReading.{read_counted}
 use Rattle.iso8601.proofs.CountedBodies.{is_weeks, is_counts, is_no_number, is_dated, some_as, none_as, weeks_some, weeks_none, dated_some, dated_none, number_apart}
 use Rattle.iso8601.proofs.counted.body.Goals as goal
 

@@ -1,4 +1,4 @@
-use Rattle.std.proofs.Common.{◌≡◌, ℕ, List, refl, sym, ◌∙◌, ap}
+use Rattle.std.proofs.Common.{refl}
 use Rattle.iso8601.proofs.CountedBodies.{whole_start, whole_body, no_body}
 use Rattle.iso8601.proofs.counted.duration_counted.Goals as goal
 

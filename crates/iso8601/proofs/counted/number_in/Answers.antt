@@ -1,4 +1,4 @@
-use Rattle.std.proofs.Common.{◌≡◌, ◌≢◌, ℕ, ◌^◌, ◌<◌, List, Some, Result, Ok, Err, OkIff, sym, inl, inr, ap, ◌∙◌, arith}
+use Rattle.std.proofs.Common.{◌≡◌, ◌≢◌, ℕ, ◌<◌, List, Some, Result, Ok, Err, OkIff, sym, inl, inr, ap, ◌∙◌, arith}
 use Rattle.std.specs.Result.{result_ok}
 use Rattle.scan_core.specs.Runs.{IsRun, digits_of}
 use Rattle.scan_core.specs.declared.runs.Run.{Run}

@@ -1,6 +1,6 @@
-use Rattle.std.proofs.Common.{◌≡◌, ◌≢◌, ℕ, List, Option, Some, None, sym, subst, inl, ◌∙◌}
+use Rattle.std.proofs.Common.{sym, subst, inl, ◌∙◌}
 use Rattle.scan_core.specs.Scanning.{Place, ahead}
-use Rattle.iso8601.specs.inside.CountedReading.{BeginsNoPoint, IsPointed, from_run}
+use Rattle.iso8601.specs.inside.CountedReading.{BeginsNoPoint, IsPointed}
 use Rattle.iso8601.proofs.CountedFacts.{none_passed, some_passed, number_none, seconds_none, seconds_whole, seconds_other, seconds_closed, seconds_open, left_over}
 use Rattle.iso8601.proofs.counted.seconds.Goals as goal
 

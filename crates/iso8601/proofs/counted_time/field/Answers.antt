@@ -1,4 +1,4 @@
-use Rattle.std.proofs.Common.{◌≡◌, ℕ, sym, arith}
+use Rattle.std.proofs.Common.{sym, arith}
 use Rattle.iso8601.proofs.CountedFacts.{IsShort, field_passed, field_missing}
 use Rattle.iso8601.proofs.counted_time.field.Goals as goal
 

@@ -1,4 +1,4 @@
-use Rattle.std.proofs.Common.{◌≡◌, ℕ, sym, arith}
+use Rattle.std.proofs.Common.{sym}
 use Rattle.iso8601.proofs.CountedFacts.{IsShort, millis_passed}
 use Rattle.iso8601.proofs.counted_time.millis.Goals as goal
 

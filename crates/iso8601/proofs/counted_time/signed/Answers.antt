@@ -1,4 +1,3 @@
-use Rattle.std.proofs.Common.{◌≡◌, ℕ, List}
 use Rattle.iso8601.proofs.CountedFacts.{signed_stuck}
 use Rattle.iso8601.proofs.counted_time.signed.Goals as goal
 

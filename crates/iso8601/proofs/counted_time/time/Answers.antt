@@ -1,4 +1,3 @@
-use Rattle.std.proofs.Common.{◌≡◌, ℕ, List}
 use Rattle.iso8601.proofs.CountedFacts.{time_stuck}
 use Rattle.iso8601.proofs.counted_time.time.Goals as goal
 
