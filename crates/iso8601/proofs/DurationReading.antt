@@ -243,10 +243,7 @@ dated_sound bytes rest d h =
       joins bytes year.0 (month.0 ++ (day.0 ++ (84 ∷ time.0))) y.1 rest year.2 (joins y.1 month.0 (day.0 ++ (84 ∷ time.0)) m.1 rest month.2 (joins m.1 day.0 (84 ∷ time.0) k.1 rest day.2 last)),
     ))))))
 
--- behind its first digits stands a hyphen or the `T`
-abbrev IsDateByte : ℕ → Type 0
-IsDateByte b = (b ≡ 45) ⊎ (b ≡ 84)
-
+-- behind its first digits stands no letter of a unit
 abbrev pub PeeksDate : List ℕ → Type 0
 PeeksDate bytes = (p : Peeked) × (peek bytes ≡ Some p) × IsNoUnit p.letter × ((p.letter == 87) ≡ false)
 
