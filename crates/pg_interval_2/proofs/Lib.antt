@@ -17,6 +17,7 @@ pub mod PostgresReadBack
 pub mod Numbers
 pub mod IsoCounts
 pub mod TallyFacts
+pub mod UnitFacts
 pub mod CountedFacts
 pub mod OrderFacts
 pub mod IsoSteps
@@ -31,7 +32,6 @@ pub mod IsoWeeks
 pub mod BadNames
 pub mod NoItems
 pub mod PostgresCounts
-pub mod UnitFacts
 pub mod ItemSteps
 pub mod ItemEnds
 pub mod IsoStrictFacts

@@ -1,29 +1,32 @@
 -- The order of units by places is that by lists of units.
-use Rattle.std.proofs.Common.{◌≡◌, ℕ, suc, ◌≤◌, Bool, true, false, ◌&&◌, nat_le, List, [], ◌∷◌, ◌++◌, refl, sym, subst, ◌∙◌, ap, arith, inl, inr, le-leb, leb-true}
-use Rattle.std.proofs.Math.Bool.{and-true}
-use Rattle.std.proofs.lemmas.Bool.{and_from, and_parts, cases_lt}
+use Rattle.std.proofs.Common.{◌≡◌, ℕ, suc, ◌+◌, ◌<◌, ◌≤◌, Bool, true, false, nat_le, List, [], ◌∷◌, ◌++◌, refl, sym, subst, ◌∙◌, ap, arith, inl, inr, le-leb, leb-true}
+use Rattle.std.proofs.lemmas.Bool.{cases_lt}
+use Rattle.std.proofs.lemmas.Bool.Decides.{nat_tests}
 use Rattle.scan_core.specs.Count.{Count}
 use Rattle.scan_core.specs.declared.share.Unit.{Unit as TimeUnit}
 use Rattle.pg_interval_2.specs.IsoStrict.{AreInOrder, units_in_order}
 use Rattle.pg_interval_2.specs.Postgres.{place_of}
 use Rattle.pg_interval_2.specs.declared.order.Order.{Order}
-use Rattle.pg_interval_2.specs.inside.Orders.{Orders, behind_last, end_place, first_place, is_kept, rises}
+use Rattle.pg_interval_2.specs.inside.Orders.{Orders, behind_last, end_place, first_place, is_kept, place_behind}
 use Rattle.pg_interval_2.proofs.CountedFacts.{same_unit}
+use Rattle.pg_interval_2.proofs.UnitFacts.{place_small}
 
--- ---- one more count behind
+-- ---- what may follow
 
-three : (a g r : Bool) → (a && (g && r)) ≡ ((a && g) && r)
-three true g r = refl
-three false g r = refl
+behind_push : (least : ℕ) (counts : List Count) (c : Count) → behind_last least (counts ++ c ∷ []) ≡ place_behind (behind_last least counts) (place_of c.unit)
+behind_push least [] c = refl
+behind_push least (x ∷ xs) c = behind_push (place_behind least (place_of x.unit)) xs c
 
-rises_push : (from : ℕ) (counts : List Count) (c : Count) → rises from (counts ++ c ∷ []) ≡ (rises from counts && nat_le (behind_last from counts) (place_of c.unit))
-rises_push from [] c = and-true (nat_le from (place_of c.unit))
-rises_push from (x ∷ xs) c =
-    ap (λ (t : Bool). nat_le from (place_of x.unit) && t) (rises_push (suc (place_of x.unit)) xs c) ∙ three (nat_le from (place_of x.unit)) (rises (suc (place_of x.unit)) xs) _
+behind_next : (least place : ℕ) → least ≤ place → place_behind least place ≡ place + 1
+behind_next least place h = let next : nat_le least place ≡ true = le-leb least place h in rw next refl
 
-behind_push : (from : ℕ) (counts : List Count) (c : Count) → behind_last from (counts ++ c ∷ []) ≡ suc (place_of c.unit)
-behind_push from [] c = refl
-behind_push from (x ∷ xs) c = behind_push (suc (place_of x.unit)) xs c
+behind_none : (least place : ℕ) → place < least → place_behind least place ≡ 8
+behind_none least place h = let none : nat_le least place ≡ false = grind (arith, nat_tests) in rw none refl
+
+-- nothing may follow what came out of order
+stays : (counts : List Count) → behind_last 8 counts ≡ 8
+stays [] = refl
+stays (c ∷ cs) = ap (λ (least : ℕ). behind_last least cs) (behind_none 8 (place_of c.unit) (place_small c.unit)) ∙ stays cs
 
 -- ---- places and lists of units
 
@@ -36,41 +39,61 @@ stand-le : (from to : ℕ) (units : List TimeUnit) → StandFrom from to units �
 stand-le from to [] stand = omega (arith, stand)
 stand-le from to (unit ∷ units) stand = omega (arith, stand-le (suc from) to units stand.1)
 
-least_grows : (from : ℕ) (counts : List Count) → rises from counts ≡ true → from ≤ behind_last from counts
-least_grows from [] h = omega arith
-least_grows from (c ∷ cs) h =
-    let parts = and_parts (nat_le from (place_of c.unit)) (rises (suc (place_of c.unit)) cs) h in
-    omega (arith, leb-true from (place_of c.unit) parts.0, least_grows (suc (place_of c.unit)) cs parts.1)
+-- a first unit that isn't behind the least place
+out_of_order : (least to : ℕ) (c : Count) (cs : List Count) {P : Type 0} → to < 8 → place_of c.unit < least → behind_last least (c ∷ cs) ≤ to → P
+out_of_order least to c cs below less high =
+    let broken : behind_last least (c ∷ cs) ≡ 8 = ap (λ (place : ℕ). behind_last place cs) (behind_none least (place_of c.unit) less) ∙ stays cs in
+    absurd (omega (arith, broken, high, below))
 
--- the places rise from one on, and end at another
-abbrev RisesTo : ℕ → ℕ → List Count → Type 0
-RisesTo from to counts = (rises from counts ≡ true) × (behind_last from counts ≤ to)
+least_grows : (least : ℕ) (counts : List Count) → least ≤ 8 → least ≤ behind_last least counts
+least_grows least [] h = omega arith
+least_grows least (c ∷ cs) h =
+    elim (cases_lt (place_of c.unit) least) [
+      | inl less ↦ (let broken : behind_last least (c ∷ cs) ≡ 8 = ap (λ (place : ℕ). behind_last place cs) (behind_none least (place_of c.unit) less) ∙ stays cs in omega (arith, broken, h))
+      | inr next ↦
+          let below = least_grows (place_of c.unit + 1) cs (omega (arith, place_small c.unit)) in
+          let step : behind_last least (c ∷ cs) ≡ behind_last (place_of c.unit + 1) cs = ap (λ (place : ℕ). behind_last place cs) (behind_next least (place_of c.unit) (omega (arith, next))) in
+          omega (arith, below, step, next)
+    ]
 
-in_order_rises : (units : List TimeUnit) (from to : ℕ) (counts : List Count) → StandFrom from to units → AreInOrder units counts → RisesTo from to counts
-in_order_rises units from to [] stand h = (refl, stand-le from to units stand)
-in_order_rises [] from to (c ∷ cs) stand h = absurd h
-in_order_rises (unit ∷ units) from to (c ∷ cs) stand (inl first) =
+in_order_ends : (units : List TimeUnit) (from to : ℕ) (counts : List Count) → to < 8 → StandFrom from to units → AreInOrder units counts → behind_last from counts ≤ to
+in_order_ends units from to [] below stand h = stand-le from to units stand
+in_order_ends [] from to (c ∷ cs) below stand h = absurd h
+in_order_ends (unit ∷ units) from to (c ∷ cs) below stand (inl first) =
     let here : place_of c.unit ≡ from = ap place_of first.0 ∙ stand.0 in
-    let below : RisesTo (suc (place_of c.unit)) to cs = subst (λ (place : ℕ). RisesTo (suc place) to cs) (sym here) (in_order_rises units (suc from) to cs stand.1 first.1) in
-    (and_from _ _ (le-leb from (place_of c.unit) (omega (arith, here))) below.0, below.1)
-in_order_rises (unit ∷ units) from to (c ∷ cs) stand (inr later) =
-    let below = in_order_rises units (suc from) to (c ∷ cs) stand.1 later in
-    let parts = and_parts (nat_le (suc from) (place_of c.unit)) (rises (suc (place_of c.unit)) cs) below.0 in
-    (and_from _ _ (le-leb from (place_of c.unit) (omega (arith, leb-true (suc from) (place_of c.unit) parts.0))) parts.1, below.1)
+    let next : place_behind from (place_of c.unit) ≡ suc from = behind_next from (place_of c.unit) (omega (arith, here)) ∙ omega (arith, here) in
+    subst (λ (place : ℕ). behind_last place cs ≤ to) (sym next) (in_order_ends units (suc from) to cs below stand.1 first.1)
+in_order_ends (unit ∷ units) from to (c ∷ cs) below stand (inr later) =
+    let rest = in_order_ends units (suc from) to (c ∷ cs) below stand.1 later in
+    elim (cases_lt (place_of c.unit) (suc from)) [
+      | inl less ↦ out_of_order (suc from) to c cs below less rest
+      | inr next ↦
+          let same : place_behind (suc from) (place_of c.unit) ≡ place_behind from (place_of c.unit) = behind_next (suc from) (place_of c.unit) (omega (arith, next)) ∙ sym (behind_next from (place_of c.unit) (omega (arith, next))) in
+          subst (λ (place : ℕ). behind_last place cs ≤ to) same rest
+    ]
 
-rises_in_order : (units : List TimeUnit) (from to : ℕ) (counts : List Count) → StandFrom from to units → RisesTo from to counts → AreInOrder units counts
-rises_in_order units from to [] stand h = tt
-rises_in_order [] from to (c ∷ cs) stand h =
-    let parts = and_parts (nat_le from (place_of c.unit)) (rises (suc (place_of c.unit)) cs) h.0 in
-    absurd (omega (arith, stand, leb-true from (place_of c.unit) parts.0, least_grows (suc (place_of c.unit)) cs parts.1, h.1))
-rises_in_order (unit ∷ units) from to (c ∷ cs) stand h =
-    let parts = and_parts (nat_le from (place_of c.unit)) (rises (suc (place_of c.unit)) cs) h.0 in
-    let low = leb-true from (place_of c.unit) parts.0 in
-    elim (cases_lt from (place_of c.unit)) [
-      | inl later ↦ inr (rises_in_order units (suc from) to (c ∷ cs) stand.1 (and_from _ _ (le-leb (suc from) (place_of c.unit) (omega (arith, later))) parts.1, h.1))
-      | inr here ↦
-          let place : place_of c.unit ≡ from = omega (arith, low, here) in
-          inl (same_unit c.unit unit (place ∙ sym stand.0), rises_in_order units (suc from) to cs stand.1 (subst (λ (p : ℕ). RisesTo (suc p) to cs) place (parts.1, h.1)))
+ends_in_order : (units : List TimeUnit) (from to : ℕ) (counts : List Count) → to < 8 → StandFrom from to units → behind_last from counts ≤ to → AreInOrder units counts
+ends_in_order units from to [] below stand h = tt
+ends_in_order [] from to (c ∷ cs) below stand h =
+    elim (cases_lt (place_of c.unit) from) [
+      | inl less ↦ out_of_order from to c cs below less h
+      | inr next ↦
+          let step : behind_last from (c ∷ cs) ≡ behind_last (place_of c.unit + 1) cs = ap (λ (place : ℕ). behind_last place cs) (behind_next from (place_of c.unit) (omega (arith, next))) in
+          absurd (omega (arith, stand, next, step, h, least_grows (place_of c.unit + 1) cs (omega (arith, place_small c.unit))))
+    ]
+ends_in_order (unit ∷ units) from to (c ∷ cs) below stand h =
+    elim (cases_lt (place_of c.unit) from) [
+      | inl less ↦ out_of_order from to c cs below less h
+      | inr next ↦
+          elim (cases_lt from (place_of c.unit)) [
+            | inl later ↦
+                let same : place_behind from (place_of c.unit) ≡ place_behind (suc from) (place_of c.unit) = behind_next from (place_of c.unit) (omega (arith, next)) ∙ sym (behind_next (suc from) (place_of c.unit) (omega (arith, later))) in
+                inr (ends_in_order units (suc from) to (c ∷ cs) below stand.1 (subst (λ (place : ℕ). behind_last place cs ≤ to) same h))
+            | inr here ↦
+                let place : place_of c.unit ≡ from = omega (arith, next, here) in
+                let one : place_behind from (place_of c.unit) ≡ suc from = behind_next from (place_of c.unit) (omega (arith, place)) ∙ omega (arith, place) in
+                inl (same_unit c.unit unit (place ∙ sym stand.0), ends_in_order units (suc from) to cs below stand.1 (subst (λ (least : ℕ). behind_last least cs ≤ to) one h))
+          ]
     ]
 
 -- ---- the order beside a reader
@@ -79,25 +102,20 @@ stands : (in_time : Bool) → StandFrom (first_place in_time) (end_place in_time
 stands false = (refl, (refl, (refl, (refl, refl))))
 stands true = (refl, (refl, (refl, refl)))
 
+small : (in_time : Bool) → end_place in_time < 8
+small false = omega arith
+small true = omega arith
+
 -- the order is kept where the counts are in order, and not where they aren't
 pub in_order : (in_time : Bool) (order : Order) (counts : List Count) → Orders in_time order counts → is_kept in_time order ≡ true → AreInOrder (units_in_order in_time) counts
 in_order in_time order counts orders kept =
-    let parts = and_parts order.rising (nat_le order.least (end_place in_time)) kept in
-    let low = leb-true order.least (end_place in_time) parts.1 in
-    rises_in_order (units_in_order in_time) _ _ counts (stands in_time) (sym orders.rising ∙ parts.0, omega (arith, orders.least, low))
+    ends_in_order (units_in_order in_time) _ _ counts (small in_time) (stands in_time) (subst (λ (least : ℕ). least ≤ end_place in_time) orders (leb-true order.least (end_place in_time) kept))
 
 pub kept : (in_time : Bool) (order : Order) (counts : List Count) → Orders in_time order counts → AreInOrder (units_in_order in_time) counts → is_kept in_time order ≡ true
 kept in_time order counts orders is =
-    let rising = in_order_rises (units_in_order in_time) _ _ counts (stands in_time) is in
-    and_from _ _ (orders.rising ∙ rising.0) (le-leb order.least (end_place in_time) (omega (arith, orders.least, rising.1)))
+    le-leb order.least (end_place in_time) (subst (λ (least : ℕ). least ≤ end_place in_time) (sym orders) (in_order_ends (units_in_order in_time) _ _ counts (small in_time) (stands in_time) is))
 
 -- one more count
-pub orders_push : (in_time : Bool) (old new : Order) (counts : List Count) (c : Count) → Orders in_time old counts
-    → new.rising ≡ (old.rising && nat_le old.least (place_of c.unit)) → new.least ≡ suc (place_of c.unit) → Orders in_time new (counts ++ c ∷ [])
-orders_push in_time old new counts c orders rising_now least_now =
-    let was = orders.rising in
-    let at = orders.least in
-    record {
-      rising = rising_now ∙ rw (was, at) (sym (rises_push (first_place in_time) counts c));
-      least = least_now ∙ sym (behind_push (first_place in_time) counts c);
-    }
+pub orders_push : (in_time : Bool) (old new : Order) (counts : List Count) (c : Count) → Orders in_time old counts → new.least ≡ place_behind old.least (place_of c.unit)
+    → Orders in_time new (counts ++ c ∷ [])
+orders_push in_time old new counts c orders now = now ∙ ap (λ (least : ℕ). place_behind least (place_of c.unit)) orders ∙ sym (behind_push (first_place in_time) counts c)

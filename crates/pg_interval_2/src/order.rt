@@ -1,15 +1,16 @@
 //! The order of units in a strict ISO text, kept beside its reader.
-ghost use Rattle.std.specs.Prelude.{◌≡◌, ◌++◌, ◌∷◌, ◌&&◌, not, nat_le, true, false, [], Bool, List};
+ghost use Rattle.std.specs.Prelude.{◌≡◌, ◌++◌, ◌∷◌, ◌&&◌, not, true, false, [], Bool, List};
 ghost use Rattle.scan_core.specs.Count.{Count};
-ghost use Rattle.pg_interval_2.specs.inside.Orders.{Orders, end_place, first_place, is_kept};
+ghost use Rattle.pg_interval_2.specs.inside.Orders.{Orders, end_place, first_place, is_kept, place_behind};
+ghost use Rattle.pg_interval_2.specs.Postgres.{place_of};
 
 use crate::units::place_of;
 use scan_core::Unit;
 
-/// Whether each unit stood behind the one before it, and the place behind the last one.
+/// The least place that the next unit may have: one behind the last unit's, or 8, which none has, where a unit didn't stand behind
+/// the one before it.
 #[derive(Clone, Copy)]
 pub(crate) struct Order {
-    rising: bool,
     least: u8,
 }
 
@@ -20,7 +21,6 @@ impl Order {
         ensures { Orders in_time result [] }
     {
         Order {
-            rising: true,
             least: first_place(in_time),
         }
     }
@@ -31,26 +31,25 @@ impl Order {
         ensures { (in_time : Bool) (counts : List Count) (c : Count) → c.unit ≡ unit
             → Orders in_time self.old counts → Orders in_time self.new (counts ++ c ∷ []) }
     {
-        let place = place_of(unit);
-        self.rising = self.rises_to(place);
-        self.least = place + 1;
+        self.least = place_behind(self.least, unit);
     }
 
-    /// Whether each unit stood behind the one before it, and one at this place does too.
-    #[inline(always)]
-    fn rises_to(&self, place: u8) -> bool
-        ensures { result ≡ (self.now.rising && nat_le self.now.least place) }
-    {
-        self.rising && self.least <= place
-    }
-
-    /// Whether each unit stood behind the one before it, and the last one may stand on this side of the `T`.
+    /// Whether all units came in order, and the last of them may stand on this side of the `T`.
     #[inline(always)]
     pub(crate) fn is_kept(&self, in_time: bool) -> bool
         ensures { result ≡ is_kept in_time self.now }
     {
-        self.rising && self.least <= end_place(in_time)
+        self.least <= end_place(in_time)
     }
+}
+
+/// The least place behind this unit, where the unit comes in order, and else 8.
+#[inline(always)]
+fn place_behind(least: u8, unit: Unit) -> u8
+    ensures { result ≡ place_behind least (place_of unit) }
+{
+    let place = place_of(unit);
+    if least <= place { place + 1 } else { 8 }
 }
 
 /// Whether the units before a `T` and those behind it came in order, and the text behind it isn't bare.

@@ -32,7 +32,12 @@ impl Interval {
         ensures len { array_string_len out.new ≤ array_string_len out.old + 96 }
     {
         match style {
-            Style::Iso | Style::IsoStrict => push_iso(out, self.months, self.days, self.microseconds),
+            Style::Iso | Style::IsoStrict => push_iso(
+                out,
+                self.months,
+                self.days,
+                self.microseconds,
+            ),
             Style::Postgres => push_postgres(out, self.months, self.days, self.microseconds),
             Style::Verbose => push_verbose(out, self.months, self.days, self.microseconds),
             Style::Sql => push_sql(out, self.months, self.days, self.microseconds),

@@ -1,5 +1,5 @@
 -- The order of units beside a reader of ISO texts, by places: cited by private contracts alone.
-use Rattle.std.specs.Prelude.{◌≡◌, ℕ, suc, Bool, true, false, ◌&&◌, nat_le, List, [], ◌∷◌}
+use Rattle.std.specs.Prelude.{◌≡◌, ℕ, ◌+◌, Bool, true, false, nat_le, List, [], ◌∷◌, if◌then◌else◌}
 use Rattle.scan_core.specs.Count.{Count}
 use Rattle.pg_interval_2.specs.declared.order.Order.{Order}
 use Rattle.pg_interval_2.specs.Postgres.{place_of}
@@ -14,21 +14,19 @@ abbrev pub end_place : Bool → ℕ
 end_place false = 4
 end_place true = 7
 
--- the units' places rise, from one on
-abbrev pub rises : ℕ → List Count → Bool
-rises from [] = true
-rises from (c ∷ cs) = nat_le from (place_of c.unit) && rises (suc (place_of c.unit)) cs
+-- the place behind a unit's, where that is no less than the least that may follow, and else one that nothing may follow
+abbrev pub place_behind : ℕ → ℕ → ℕ
+place_behind least place = if nat_le least place then place + 1 else 8
 
--- one behind the last unit's place
+-- the least place that may follow these counts, where this one may stand first
 abbrev pub behind_last : ℕ → List Count → ℕ
-behind_last from [] = from
-behind_last from (c ∷ cs) = behind_last (suc (place_of c.unit)) cs
+behind_last least [] = least
+behind_last least (c ∷ cs) = behind_last (place_behind least (place_of c.unit)) cs
 
--- the order knows whether the places of these counts rise, and where they end
-pub record Orders (in_time : Bool) (order : Order) (counts : List Count) : Type 0 where
-  pub rising : order.rising ≡ rises (first_place in_time) counts
-  pub least : order.least ≡ behind_last (first_place in_time) counts
+-- the order knows what place may follow these counts
+abbrev pub Orders : Bool → Order → List Count → Type 0
+Orders in_time order counts = order.least ≡ behind_last (first_place in_time) counts
 
--- the places rise, and end where those of this side do
+-- the counts came in order, and the last of them is one of this side
 abbrev pub is_kept : Bool → Order → Bool
-is_kept in_time order = order.rising && nat_le order.least (end_place in_time)
+is_kept in_time order = nat_le order.least (end_place in_time)

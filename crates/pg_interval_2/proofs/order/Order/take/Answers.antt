@@ -1,9 +1,9 @@
-use Rattle.std.proofs.Common.{◌∙◌, ap, arith, sym}
+use Rattle.std.proofs.Common.{ap, sym}
 use Rattle.pg_interval_2.specs.Postgres.{place_of}
 use Rattle.pg_interval_2.proofs.OrderFacts.{orders_push}
 use Rattle.pg_interval_2.proofs.order.Order.take.Goals as goal
 
 pub returns : goal.returns
 returns c = λ in_time counts count same orders.
-    let place = c.place_of-place.ensures ∙ sym (ap place_of same) in
-    orders_push in_time c.args.self.now _ counts count orders (rw place at c.rises_to-self.ensures) (omega (arith, place))
+    let place = sym (ap place_of same) in
+    orders_push in_time c.args.self.now _ counts count orders (rw place at c.place_behind-self.ensures)
