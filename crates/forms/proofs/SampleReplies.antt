@@ -1,6 +1,7 @@
 -- The replies to the sample: each tenth is a refusal, and no other.
 use Rattle.std.proofs.Common.{◌≡◌, ◌≢◌, ℕ, zero, suc, ◌+◌, ◌-◌, ◌/◌, ◌%◌, ◌<◌, ◌&&◌, ◌==◌, Bool, true, false, IsTrue, List, [], ◌∷◌, ◌++◌, codes, Some, Result, Ok, Err, refl, sym, ◌∙◌, ap, subst, inr, arith, append-nil, take}
 use Rattle.std.specs.Prelude.{nat_eq, nat_lt, get_or, ◌||◌, IsUtf8, if◌then◌else◌}
+use Rattle.std.proofs.lemmas.Bool.{and_parts}
 use Rattle.std.proofs.lemmas.Bool.Decides.{nat_tests}
 use Rattle.std.proofs.lemmas.List.Folds.{list_all-append}
 use Rattle.std.proofs.lemmas.Str.{IsUtf8-from_ascii}
@@ -44,10 +45,6 @@ is_small b = nat_lt b 128
 either : (x y : Bool) {P : Type 0} → (x || y) ≡ true → (x ≡ true → P) → (y ≡ true → P) → P
 either true y h f g = f refl
 either false y h f g = g h
-
-and_parts : (x y : Bool) → (x && y) ≡ true → (x ≡ true) × (y ≡ true)
-and_parts true y h = (refl, h)
-and_parts false y h = absurd (let e : false ≡ true = h in cc)
 
 -- a byte that is one of some small ones
 one_small : (letters : List ℕ) (b : ℕ) → list_all is_small letters ≡ true → list_any (λ l. l == b) letters ≡ true → is_small b ≡ true
