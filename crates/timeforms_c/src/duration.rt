@@ -1,5 +1,5 @@
 //! Short durations such as `1h 20m 30s`, as whole seconds and the nanoseconds beyond them.
-ghost use Rattle.std.specs.Prelude.{◌≡◌, ◌+◌, ◌*◌, ◌<◌, ◌≤◌, ℕ, pos, List, Result as AnyResult, IsUtf8};
+ghost use Rattle.std.specs.Prelude.{◌≡◌, ◌≢◌, ◌+◌, ◌*◌, ◌<◌, ◌≤◌, ℕ, pos, List, Result as AnyResult, IsUtf8};
 ghost use Rattle.fancy_duration.specs.Meanings.{Denotes, IsTooBig};
 ghost use Rattle.fancy_duration.specs.Strict.{IsStrict};
 ghost use Rattle.forms.specs.Forms.{Writes};
@@ -11,7 +11,7 @@ ghost use Rattle.timeforms_c.specs.Rooms.{Answers, Refused};
 
 use crate::code::{NOT_UTF8, code_of};
 use crate::room::put_answer;
-use fancy_duration::{FancyDuration, FancyError};
+use fancy_duration::FancyDuration;
 use forms::{Cause, Form, Value, write_value};
 use std::str;
 use std::time::Duration;
@@ -33,7 +33,7 @@ pub extern "C" fn timeforms_duration_from_text(
     ensures syntax { IsUtf8 text.now → ¬ (IsStrict text.now)
         → result ≡ code_of AnyCause.Syntax }
     ensures utf8 { ¬ (IsUtf8 text.now) → result ≡ not_utf8 }
-    ensures kept { (result ≡ pos 0 → ⊥)
+    ensures kept { result ≢ pos 0
         → (seconds.new ≡ seconds.old) × (nanoseconds.new ≡ nanoseconds.old) }
 {
     let Ok(text) = str::from_utf8(text) else {

@@ -1,5 +1,5 @@
 //! Windows file times, the ticks of 100 nanoseconds since 1601-01-01 00:00:00 UTC, and Unix time.
-ghost use Rattle.std.specs.Prelude.{◌≡◌, ◌<◌, ◌^◌, ◌-◌, ◌⊎◌, ℤ, pos, neg_ℤ, ◌+ℤ◌, ◌*ℤ◌, ◌<ℤ◌, ◌≤ℤ◌, FitsSigned};
+ghost use Rattle.std.specs.Prelude.{◌≡◌, ◌<◌, ◌^◌, ◌⊎◌, ℤ, pos, neg_ℤ, ◌+ℤ◌, ◌*ℤ◌, ◌<ℤ◌, ◌≤ℤ◌, FitsSigned};
 ghost use Rattle.std.specs.Int.{w64};
 ghost use Rattle.nt_time.specs.FileTime.{unix_nanos};
 ghost use Rattle.nt_time.specs.UnixTime.{IsLatestNotAfter};

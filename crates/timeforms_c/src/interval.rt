@@ -84,7 +84,11 @@ pub extern "C" fn timeforms_interval_to_text(
     out: &mut [u8],
 ) -> i32
     ensures text { (f : AnyForm) (style : AnyStyle) → form ≡ number_of f → style_of f ≡ Some style
-        → let t : AnyInterval = record { months = interval.now.months; days = interval.now.days; microseconds = interval.now.microseconds } in
+        → let t : AnyInterval = record {
+          months = interval.now.months;
+          days = interval.now.days;
+          microseconds = interval.now.microseconds;
+        } in
         Leaves (written style t) out.old out.new result }
     ensures form { ((f : AnyForm) → form ≡ number_of f → style_of f ≡ None)
         → Refused no_such_form out.old out.new result }

@@ -1,5 +1,5 @@
 //! The text of one form in another form, and the replies to lines.
-ghost use Rattle.std.specs.Prelude.{◌≡◌, ◌≢◌, ◌⊎◌, List, ℕ, Result as AnyResult, IsUtf8};
+ghost use Rattle.std.specs.Prelude.{◌≡◌, ◌≢◌, List, ℕ, Result as AnyResult, IsUtf8};
 ghost use Rattle.forms.specs.Buffers.{AnswersInto};
 ghost use Rattle.forms.specs.Names.{name_of};
 ghost use Rattle.forms.specs.Replies.{IsAnswer};

@@ -1,5 +1,5 @@
 //! Texts that go into the room of a caller.
-ghost use Rattle.std.specs.Prelude.{◌≡◌, ◌≤◌, length, IfOk};
+ghost use Rattle.std.specs.Prelude.{◌≤◌, length, IfOk};
 ghost use Rattle.arrayvec.specs.ArrayString.{array_string_len};
 ghost use Rattle.forms.specs.Answers.{bytes_of};
 ghost use Rattle.timeforms_c.specs.Rooms.{Answers, Leaves};
