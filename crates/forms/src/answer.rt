@@ -45,9 +45,7 @@ pub fn reply(from: Form, to: Form, text: &str) -> Result<Short, Cause>
     }
     all_lawful();
     answers_are_readings_written();
-    let mut out = Short::new();
-    push_turned(from, to, text, &mut out)?;
-    Ok(out)
+    turned(from, to, text)
 }
 
 /// The answer of `reply` to a text that is seen by counted looks alone, from an interval form or `Form::IsoDuration`. It takes no
@@ -73,9 +71,7 @@ pub fn reply_counted<L: Ledger>(
 {
     all_lawful();
     answers_are_readings_written();
-    let mut out = Short::new();
-    push_counted(from, to, text, steps, &mut out)?;
-    Ok(out)
+    turned_counted(from, to, text, steps)
 }
 
 /// The same with a counter of its own.
@@ -98,6 +94,34 @@ fn reply_alone<L: Ledger>(
     reply_counted(from, to, text, &mut Steps::<L>::new(blank))
 }
 
+/// The text of one form in another form.
+fn turned(from: Form, to: Form, text: &str) -> Result<Short, Cause>
+    ensures turned { Turns from to text.now (bytes_of result) }
+    ensures len { IfOk result (λ out. array_string_len out ≤ 96) }
+{
+    let mut out = Short::new();
+    push_turned(from, to, text, &mut out)?;
+    Ok(out)
+}
+
+/// The text of one form, read by counted looks, in another form.
+fn turned_counted<L: Ledger>(
+    from: Form,
+    to: Form,
+    text: &Looked<'_>,
+    steps: &mut Steps<L>,
+) -> Result<Short, Cause>
+    requires { IsTrue (is_counted from) }
+    ensures turned { Turns from to text.now (bytes_of result) }
+    ensures len { IfOk result (λ out. array_string_len out ≤ 96) }
+    ensures most { steps.new ≤ steps.old + (2 * length text.now + 4) }
+    ensures least { IfOk result (λ _. steps.old + length text.now ≤ steps.new) }
+{
+    let mut out = Short::new();
+    push_counted(from, to, text, steps, &mut out)?;
+    Ok(out)
+}
+
 /// Appends the text of one form in another form.
 fn push_turned<const CAP: usize>(
     from: Form,
@@ -109,8 +133,10 @@ fn push_turned<const CAP: usize>(
     ensures turned { Puts (Turns from to text.now) out.old.bytes out.new.bytes result }
     ensures len { array_string_len out.new ≤ array_string_len out.old + 96 }
 {
-    let value = read_value(from, text)?;
-    push_value(to, value, out)
+    match read_value(from, text) {
+        Ok(value) => push_value(to, value, out),
+        Err(cause) => Err(cause),
+    }
 }
 
 /// Appends the text of one form, read by counted looks, in another form.
@@ -128,44 +154,9 @@ fn push_counted<L: Ledger, const CAP: usize>(
     ensures most { steps.new ≤ steps.old + (2 * length text.now + 4) }
     ensures least { IfOk result (λ _. steps.old + length text.now ≤ steps.new) }
 {
-    let value = read_counted(from, text, steps)?;
-    push_value(to, value, out)
-}
-
-/// The same with a counter of its own.
-fn push_alone<L: Ledger, const CAP: usize>(
-    from: Form,
-    to: Form,
-    text: &Looked<'_>,
-    blank: Blank,
-    out: &mut ArrayString<CAP>,
-) -> Result<(), Cause>
-    requires name { blank.name ≡ L.name }
-    requires parts { blank.parts ≡ L.parts }
-    requires some { 0 < L.parts }
-    requires form { IsTrue (is_counted from) }
-    requires room { array_string_len out.old + 96 ≤ CAP }
-    ensures turned { Puts (Turns from to text.now) out.old.bytes out.new.bytes result }
-    ensures len { array_string_len out.new ≤ array_string_len out.old + 96 }
-{
-    push_counted(from, to, text, &mut Steps::<L>::new(blank), out)
-}
-
-/// Appends what `reply` answers, or nothing where it refuses.
-fn push_answer<const CAP: usize>(
-    from: Form,
-    to: Form,
-    text: &str,
-    out: &mut ArrayString<CAP>,
-) -> Result<(), Cause>
-    requires room { array_string_len out.old + 96 ≤ CAP }
-    ensures turned { Puts (Turns from to text.now) out.old.bytes out.new.bytes result }
-    ensures len { array_string_len out.new ≤ array_string_len out.old + 96 }
-{
-    if from.is_counted() {
-        push_alone::<Brand, CAP>(from, to, &Looked::new(text), Blank::new(1), out)
-    } else {
-        push_turned(from, to, text, out)
+    match read_counted(from, text, steps) {
+        Ok(value) => push_value(to, value, out),
+        Err(cause) => Err(cause),
     }
 }
 
@@ -187,6 +178,16 @@ pub fn convert(alloc: Global, from: Form, to: Form, text: &str) -> Result<String
     }
 }
 
+/// The reply to a line, as `push_line_reply` appends it.
+pub(crate) fn line_reply(line: &[u8]) -> Short
+    ensures reply { IsReply line.now result.bytes }
+    ensures len { array_string_len result ≤ 96 }
+{
+    let mut out = Short::new();
+    push_line_reply(line, &mut out);
+    out
+}
+
 /// Appends the reply to a line, without its line feed. Where the line is no request it is `refused Line`.
 pub(crate) fn push_line_reply<const CAP: usize>(line: &[u8], out: &mut ArrayString<CAP>)
     requires room { array_string_len out.old + 96 ≤ CAP }
@@ -197,7 +198,7 @@ pub(crate) fn push_line_reply<const CAP: usize>(line: &[u8], out: &mut ArrayStri
     let Some((from, to, text)) = request(line) else {
         return push_refusal("Line", out);
     };
-    match push_answer(from, to, text, out) {
+    match push_turned(from, to, text, out) {
         Ok(()) => (),
         Err(cause) => push_refusal(cause.name(), out),
     }

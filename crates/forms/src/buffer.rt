@@ -3,7 +3,7 @@ ghost use Rattle.std.specs.Prelude.{◌≡◌, ◌+◌, ◌≤◌, ◌++◌, len
 ghost use Rattle.forms.specs.Buffers.{AnswersInto, Stops};
 ghost use Rattle.forms.specs.inside.Buffers.{IsNext};
 
-use crate::answer::push_line_reply;
+use crate::answer::line_reply;
 use crate::line::split_line;
 use scan_core::Short;
 
@@ -32,8 +32,7 @@ fn next_reply(text: &[u8], room: usize) -> Option<(Short, &[u8])>
     ensures none { IfNone result (Stops text.now room) }
 {
     let (line, after) = split_line(text)?;
-    let mut reply = Short::new();
-    push_line_reply(line, &mut reply);
+    let mut reply = line_reply(line);
     reply.push('\n');
     if reply.len() <= room {
         Some((reply, after))

@@ -19,9 +19,8 @@ ghost use Rattle.forms.specs.Sample.{answers, refusals, sample_lines};
 ghost use Rattle.forms.specs.Values.{IsWithinBounds};
 ghost use Rattle.forms.specs.inside.Lawful.{Lawful};
 
-use crate::answer::push_line_reply;
+use crate::answer::line_reply;
 use crate::form::{fancy, file_time, intervals, iso_date, iso_date_time, iso_duration, toml};
-use scan_core::Short;
 
 /// Each form is lawful.
 pub(crate) fn all_lawful()
@@ -100,7 +99,7 @@ pub fn one_reply(line: &[u8])
 {
     all_lawful();
     answers_are_readings_written();
-    push_line_reply(line, &mut Short::new());
+    let _ = line_reply(line);
 }
 
 /// Lines have one list of replies at most.

@@ -1,5 +1,5 @@
 -- What writers onto a text do: cited by private contracts alone.
-use Rattle.std.specs.Prelude.{◌≡◌, ℕ, List, ◌++◌, Result, Ok, Err}
+use Rattle.std.specs.Prelude.{◌≡◌, ℕ, ⊤, List, ◌++◌, Result, Ok, Err}
 use Rattle.forms.specs.declared.cause.Cause.{Cause}
 
 -- some text of this kind was put behind what stood there

@@ -79,9 +79,13 @@ pub fn push<const CAP: usize>(
         out.old.bytes out.new.bytes result }
     ensures len { array_string_len out.new ≤ array_string_len out.old + 96 }
 {
-    let interval = interval_for(value)?;
-    interval.push_text(style, out);
-    Ok(())
+    match interval_for(value) {
+        Ok(interval) => {
+            interval.push_text(style, out);
+            Ok(())
+        }
+        Err(cause) => Err(cause),
+    }
 }
 
 /// The interval of a value.

@@ -1,0 +1,30 @@
+-- What was put behind a text, where a writer answers that something was or wasn't.
+use Rattle.std.proofs.Common.{◌≡◌, ℕ, List, [], ◌++◌, Result, Ok, Err, sym, subst, ap, ◌∙◌}
+use Rattle.std.specs.Prelude.{⊤}
+use Rattle.forms.specs.declared.cause.Cause.{Cause}
+use Rattle.forms.specs.inside.Putting.{Gains, IsPut, Puts}
+
+same_err : (a b : Cause) → (let left : Result ⊤ Cause = Err a in left ≡ Err b) → a ≡ b
+same_err a b h = cc
+
+ok_put : (P : Result (List ℕ) Cause → Type 0) (answer : Result (List ℕ) Cause) (before after : List ℕ) → P answer → IsPut answer before after (Ok tt) → Gains (λ text. P (Ok text)) before after
+ok_put P (Ok text) before after is put = record { text = text; is = is; gained = put.1 }
+ok_put P (Err cause) before after is put = absurd (let e : Ok tt ≡ Err cause = put.0 in cc)
+
+err_put : (P : Result (List ℕ) Cause → Type 0) (answer : Result (List ℕ) Cause) (cause : Cause) (before after : List ℕ) → P answer → IsPut answer before after (Err cause) → P (Err cause) × (after ≡ before)
+err_put P (Ok text) cause before after is put = absurd (let e : Err cause ≡ Ok tt = put.0 in cc)
+err_put P (Err other) cause before after is put = (subst (λ (c : Cause). P (Err c)) (sym (same_err cause other put.0)) is, put.1)
+
+-- a text was put there
+pub gains : (P : Result (List ℕ) Cause → Type 0) (before after : List ℕ) → Puts P before after (Ok tt) → Gains (λ text. P (Ok text)) before after
+gains P before after puts = ok_put P puts.answer before after puts.is puts.put
+
+-- nothing was put there, for a cause
+pub refuses : (P : Result (List ℕ) Cause → Type 0) (before after : List ℕ) (cause : Cause) → Puts P before after (Err cause) → P (Err cause) × (after ≡ before)
+refuses P before after cause puts = err_put P puts.answer cause before after puts.is puts.put
+
+-- a text was put where nothing stood
+pub alone : (P : Result (List ℕ) Cause → Type 0) (before after : List ℕ) → before ≡ [] → Puts P before after (Ok tt) → P (Ok after)
+alone P before after none puts =
+    let all = gains P before after puts in
+    subst (λ (text : List ℕ). P (Ok text)) (sym (all.gained ∙ ap (λ (l : List ℕ). l ++ all.text) none)) all.is

@@ -1,0 +1,9 @@
+use Rattle.std.proofs.Common.{Err, refl}
+use Rattle.forms.proofs.answer.push_counted.Goals as goal
+
+pub returns-in-Err-clause-turned : goal.returns-in-Err-clause-turned
+returns-in-Err-clause-turned g c = record {
+  answer = Err c.in-Err.cause;
+  is = (Err c.in-Err.cause, c.in-Err.ensures.read, refl);
+  put = (refl, refl);
+}
