@@ -6,7 +6,7 @@ use Rattle.scan_core.proofs.Joins.{join_push}
 use Rattle.forms.specs.Lines.{lines, whole_lines}
 use Rattle.forms.specs.Replies.{IsReplyLine, AreReplies}
 use Rattle.forms.specs.Buffers.{Stops, AnswersInto}
-use Rattle.forms.specs.inside.Buffers.{IsNext}
+use Rattle.forms.specs.inside.Buffers.{PutsNext}
 use Rattle.forms.specs.inside.Pieces.{NoFeed, IsEnded, AreWhole}
 use Rattle.forms.proofs.LinePieces.{feed_whole, lines_behind, whole_lines_behind, part_not_whole}
 
@@ -34,9 +34,11 @@ filled_length bytes rest old new written h =
     omega (arith, h.within)
 
 -- the next reply stands behind those before it
-pub filled_next : (bytes rest old new newer reply after : List ℕ) (written room : ℕ) → IsFilled bytes rest old new written → IsNext rest room reply after → room ≡ length new - written
-    → newer ≡ take written new ++ (reply ++ drop (written + length reply) new) → IsFilled bytes after old newer (written + length reply)
-filled_next bytes rest old new newer reply after written room h next left put =
+pub filled_put : (bytes rest old new newer after : List ℕ) (written len : ℕ) → IsFilled bytes rest old new written → PutsNext rest new newer written len after
+    → IsFilled bytes after old newer (written + len)
+filled_put bytes rest old new newer after written len h puts =
+    let next = puts.next in
+    let reply : List ℕ = puts.reply in
     let ended : List ℕ = next.line ++ codes "\n" in
     let end : ℕ = written + length reply in
     let same = filled_length bytes rest old new written h in
@@ -51,9 +53,9 @@ filled_next bytes rest old new newer reply after written room h next left put =
       whole = join_push IsEnded h.front ended h.answered next.line h.whole (next.part, refl);
       split = h.split ∙ (ap (λ (l : List ℕ). h.front ++ l) (next.first ∙ sym (append_assoc next.line (codes "\n") after)) ∙ sym (append_assoc h.front ended after));
       joined = join_push IsReplyLine h.replies reply h.answered next.line h.joined next.answered;
-      buffer = put ∙ (ap (λ (l : List ℕ). l ++ (reply ++ drop end new)) before ∙ (ap (λ (l : List ℕ). h.replies ++ (reply ++ l)) behind ∙ sym (append_assoc h.replies reply (drop (length (h.replies ++ reply)) old))));
+      buffer = puts.put ∙ (ap (λ (l : List ℕ). l ++ (reply ++ drop end new)) before ∙ (ap (λ (l : List ℕ). h.replies ++ (reply ++ l)) behind ∙ sym (append_assoc h.replies reply (drop (length (h.replies ++ reply)) old))));
       within = omega (arith, next.fits, h.count, h.within);
-      count = sym sum;
+      count = omega (arith, sum, puts.count);
     }
 
 -- where no further reply goes in, the call is done

@@ -1,11 +1,10 @@
 //! Replies that are written into a buffer.
-ghost use Rattle.std.specs.Prelude.{◌≡◌, ◌+◌, ◌≤◌, ◌++◌, length, take, drop, IfSome, IfNone};
+ghost use Rattle.std.specs.Prelude.{◌≡◌, ◌+◌, ◌-◌, ◌≤◌, ◌++◌, length, take, drop, IfSome, IfNone};
 ghost use Rattle.forms.specs.Buffers.{AnswersInto, Stops};
-ghost use Rattle.forms.specs.inside.Buffers.{IsNext};
+ghost use Rattle.forms.specs.inside.Buffers.{PutsNext};
 
 use crate::answer::line_reply;
 use crate::line::split_line;
-use scan_core::Short;
 
 /// Answers whole lines at the front of a text into a buffer, as many as it has room for: how many bytes of the text they have, and how
 /// many bytes of the buffer their replies. A last line without its line feed isn't used. It takes no memory.
@@ -17,28 +16,30 @@ pub fn reply_lines(text: &[u8], out: &mut [u8]) -> (usize, usize)
 {
     let mut rest = text;
     let mut written = 0;
-    while let Some((reply, after)) = next_reply(rest, out.len() - written) {
-        put_at(out, written, reply.as_str().as_bytes());
-        written += reply.len();
+    while let Some((len, after)) = put_next(rest, out, written) {
+        written += len;
         rest = after;
     }
     (text.len() - rest.len(), written)
 }
 
-/// The reply to the first whole line with its line feed, and what follows that line, where there is such a line and room for the reply.
+/// Puts the reply to the first whole line with its line feed at a place of the buffer: how many bytes it has, and what follows that line.
+/// None where there is no such line or no room for the reply, and the buffer is as it was.
 #[inline(always)]
-fn next_reply(text: &[u8], room: usize) -> Option<(Short, &[u8])>
-    ensures found { IfSome result (λ r. IsNext text.now room r.0.bytes r.1.now) }
-    ensures none { IfNone result (Stops text.now room) }
+fn put_next<'a>(text: &'a [u8], out: &mut [u8], at: usize) -> Option<(usize, &'a [u8])>
+    requires { at ≤ length out.old }
+    ensures found { IfSome result (λ r. PutsNext text.now out.old out.new at r.0 r.1.now) }
+    ensures none { IfNone result
+        (Stops text.now (length out.old - at) × (out.new ≡ out.old)) }
 {
     let (line, after) = split_line(text)?;
     let mut reply = line_reply(line);
     reply.push('\n');
-    if reply.len() <= room {
-        Some((reply, after))
-    } else {
-        None
+    if out.len() - at < reply.len() {
+        return None;
     }
+    put_at(out, at, reply.as_str().as_bytes());
+    Some((reply.len(), after))
 }
 
 /// Puts bytes at a place of a buffer.

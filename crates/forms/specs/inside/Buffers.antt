@@ -1,5 +1,5 @@
 -- The next reply that goes into a buffer: cited by private contracts alone.
-use Rattle.std.specs.Prelude.{◌≡◌, ℕ, ◌≤◌, List, ◌++◌, codes, length}
+use Rattle.std.specs.Prelude.{◌≡◌, ℕ, ◌+◌, ◌-◌, ◌≤◌, List, ◌++◌, codes, length, take, drop}
 use Rattle.forms.specs.Replies.{IsReplyLine}
 use Rattle.forms.specs.inside.Pieces.{NoFeed}
 
@@ -10,3 +10,10 @@ pub record IsNext (bytes : List ℕ) (room : ℕ) (reply rest : List ℕ) : Type
   pub first : bytes ≡ line ++ (codes "\n" ++ rest)
   pub answered : IsReplyLine reply line
   pub fits : length reply ≤ room
+
+-- the next reply, of so many bytes, was put at a place of the buffer
+pub record PutsNext (bytes old new : List ℕ) (at len : ℕ) (rest : List ℕ) : Type 0 where
+  pub reply : List ℕ
+  pub next : IsNext bytes (length old - at) reply rest
+  pub count : len ≡ length reply
+  pub put : new ≡ take at old ++ (reply ++ drop (at + length reply) old)

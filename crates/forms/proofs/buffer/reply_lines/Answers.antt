@@ -1,19 +1,23 @@
-use Rattle.std.proofs.Common.{length, refl, ap, ◌∙◌, arith}
+use Rattle.std.proofs.Common.{ℕ, ◌-◌, List, length, refl, sym, ap, subst, arith, ◌∙◌}
 use Rattle.std.proofs.lemmas.List.{length-append}
-use Rattle.forms.proofs.Buffers.{filled_none, filled_next, filled_all, filled_length}
+use Rattle.forms.specs.Buffers.{AnswersInto}
+use Rattle.forms.proofs.Buffers.{filled_none, filled_put, filled_all, filled_length}
 use Rattle.forms.proofs.buffer.reply_lines.Goals as goal
 
-pub loop-reply-init : goal.loop-reply-init
-loop-reply-init c = record { filled = filled_none c.args.text.now c.args.out.now; room = omega arith; left = omega arith }
+pub loop-len-init : goal.loop-len-init
+loop-len-init c = record { filled = filled_none c.args.text.now c.args.out.now; room = omega arith; left = omega arith }
 
-pub loop-reply-preserved : goal.loop-reply-preserved
-loop-reply-preserved c =
-    let next = c.in-Some.ensures.found in
-    let filled = filled_next _ _ _ _ _ _ _ _ _ c.loop-reply.invariant.filled next refl c.put_at.ensures in
-    let before = filled_length _ _ _ _ _ c.loop-reply.invariant.filled in
+pub loop-len-preserved : goal.loop-len-preserved
+loop-len-preserved c =
+    let put = c.in-Some.ensures.found in
+    let filled = filled_put _ _ _ _ _ _ _ _ c.loop-len.invariant.filled put in
+    let before = filled_length _ _ _ _ _ c.loop-len.invariant.filled in
     let after = filled_length _ _ _ _ _ filled in
-    let split = ap length next.first ∙ length-append next.line _ in
-    record { filled = filled; room = omega (arith, c.loop-reply.invariant.room, next.fits); left = omega (arith, c.loop-reply.invariant.left) }
+    let split = ap length put.next.first ∙ length-append put.next.line _ in
+    record { filled = filled; room = omega (arith, c.loop-len.invariant.room, put.next.fits, put.count); left = omega (arith, c.loop-len.invariant.left) }
 
 pub returns : goal.returns
-returns c = filled_all _ _ _ _ _ _ _ c.loop-reply.invariant.filled refl c.in_default.ensures.none refl
+returns c =
+    let none = c.in_default.ensures.none in
+    let all = filled_all _ _ _ _ _ _ _ c.loop-len.invariant.filled refl none.0 refl in
+    subst (λ (l : List ℕ). AnswersInto c.args.text.now c.args.out.now l (length c.args.text.now - length c.loop-len.rest.now) c.loop-len.written) (sym none.1) all
