@@ -1,6 +1,6 @@
 -- The replies to the sample: each tenth is a refusal, and no other.
-use Rattle.std.proofs.Common.{◌≡◌, ◌≢◌, ℕ, zero, suc, ◌+◌, ◌-◌, ◌/◌, ◌%◌, ◌<◌, ◌&&◌, ◌==◌, Bool, true, false, IsTrue, List, [], ◌∷◌, ◌++◌, codes, Some, Result, Ok, Err, refl, sym, ◌∙◌, ap, subst, inr, arith, append-nil, take}
-use Rattle.std.specs.Prelude.{nat_eq, nat_lt, get_or, ◌||◌, IsUtf8, if◌then◌else◌}
+use Rattle.std.proofs.Common.{◌≡◌, ◌≢◌, ℕ, zero, suc, ◌+◌, ◌-◌, ◌/◌, ◌%◌, ◌&&◌, ◌==◌, Bool, true, false, IsTrue, List, [], ◌∷◌, ◌++◌, codes, Some, Result, Ok, Err, refl, sym, ◌∙◌, ap, subst, inr, arith, append-nil, take}
+use Rattle.std.specs.Prelude.{nat_eq, ◌||◌, IsUtf8, if◌then◌else◌}
 use Rattle.std.proofs.lemmas.Bool.{and_parts}
 use Rattle.std.proofs.lemmas.Bool.Decides.{nat_tests}
 use Rattle.std.proofs.lemmas.List.Folds.{list_all-append}
@@ -25,6 +25,7 @@ use Rattle.forms.specs.Names.{name_of, style_of}
 use Rattle.forms.specs.Replies.{IsRequest, IsIntervalAnswer, IsAnswer, AnswersRequest, IsReply, IsReplyLine, AreReplies}
 use Rattle.forms.specs.Sample.{answers, form_of, is_refusal, line_of, mark_of, refusals, sample_interval, sample_lines, style_from, style_to}
 use Rattle.forms.specs.inside.Pieces.{NoFeed, IsEnded, AreWhole}
+use Rattle.forms.proofs.AsciiNames.{is_small, ascii, small_name}
 use Rattle.forms.proofs.LinePieces.{whole_lines_behind}
 use Rattle.forms.proofs.SampleLines.{OneLineEach, each_of_line, no_feed_each, sample_in_range}
 
@@ -38,9 +39,6 @@ written_in : Texts → (s : Style) (t : Interval) → IsInRange t → list_all i
 written_in texts s t range = let d = texts.back s t range in texts.alphabet s (written s t) d.0 d.1
 
 -- ---- a line is a request
-
-abbrev is_small : ℕ → Bool
-is_small b = nat_lt b 128
 
 either : (x y : Bool) {P : Type 0} → (x || y) ≡ true → (x ≡ true → P) → (y ≡ true → P) → P
 either true y h f g = f refl
@@ -67,25 +65,10 @@ all_small (b ∷ bs) h =
     let rest = all_small bs parts.1 in
     rw (first, rest) refl
 
-small_below : (b : ℕ) → is_small b ≡ true → b < 128
-small_below b h = grind (arith, nat_tests)
-
-ascii : (bytes : List ℕ) → list_all is_small bytes ≡ true → (i : ℕ) → get_or bytes i 0 < 128
-ascii [] h i = omega arith
-ascii (b ∷ bs) h zero = small_below b (and_parts (is_small b) (list_all is_small bs) h).0
-ascii (b ∷ bs) h (suc i) = ascii bs (and_parts (is_small b) (list_all is_small bs) h).1 i
-
-small_names : (s : Style) → list_all is_small (name_of (form_of s)) ≡ true
-small_names style.Iso = refl
-small_names style.Postgres = refl
-small_names style.Verbose = refl
-small_names style.Sql = refl
-small_names style.IsoStrict = refl
-
 line_utf8 : Texts → (index : ℕ) (t : Interval) → IsInRange t → IsUtf8 (line_of index t)
 line_utf8 texts index t range =
     IsUtf8-from_ascii (line_of index t)
-    (ascii (line_of index t) (each_of_line is_small small_names refl refl index t (all_small (written (style_from index) t) (written_in texts (style_from index) t range))))
+    (ascii (line_of index t) (each_of_line is_small (λ s. small_name (form_of s)) refl refl index t (all_small (written (style_from index) t) (written_in texts (style_from index) t range))))
 
 -- the text that a line asks for
 abbrev text_of : ℕ → Interval → List ℕ

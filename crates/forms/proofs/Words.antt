@@ -1,5 +1,5 @@
 -- Words and the names in front of texts: what stands before the first space is fixed by the text.
-use Rattle.std.proofs.Common.{◌≡◌, ◌≢◌, ℕ, suc, ◌<◌, ◌==◌, ◌&&◌, not, Bool, true, false, List, [], ◌∷◌, ◌++◌, length, get_or, Option, Some, None, refl, sym, ◌∙◌, arith, inl, inr}
+use Rattle.std.proofs.Common.{◌≡◌, ◌≢◌, ℕ, ◌==◌, ◌&&◌, not, Bool, true, false, List, [], ◌∷◌, ◌++◌, Option, Some, None, refl, sym, ◌∙◌, arith, inl, inr}
 use Rattle.std.specs.Prelude.{unwrap_or}
 use Rattle.std.proofs.lemmas.Bool.Decides.{nat_tests}
 use Rattle.forms.specs.declared.form.Form.{Form}
@@ -8,16 +8,8 @@ use Rattle.forms.specs.Names.{name_of}
 use Rattle.forms.specs.Replies.{IsTail}
 use Rattle.forms.specs.inside.Reading.{NoSpace, behind, IsNamed}
 
-not_space : (byte : ℕ) → byte ≢ 32 → (byte == 32) ≡ false
-not_space byte h = grind (arith, nat_tests)
-
 is_no_space : (byte : ℕ) → (byte == 32) ≡ false → byte ≢ 32
 is_no_space byte h = grind (arith, nat_tests)
-
--- a word none of whose places has a space
-pub no_space_at : (word : List ℕ) → ((i : ℕ) → i < length word → get_or word i 0 ≢ 32) → NoSpace word
-no_space_at [] h = tt
-no_space_at (byte ∷ bytes) h = (not_space byte (h 0 (omega arith)), no_space_at bytes (λ i below. h (suc i) (omega arith)))
 
 abbrev has_no_space : List ℕ → Bool
 has_no_space [] = true

@@ -43,18 +43,25 @@ impl Form {
     pub fn by_name(name: &str) -> Option<Form>
         ensures { (form : AnyForm) → (result ≡ Some form) ↔ (name.now ≡ name_of form) }
     {
+        Form::named(name.as_bytes())
+    }
+
+    /// The form whose name these bytes are, or None where they are no form's.
+    pub(crate) fn named(name: &[u8]) -> Option<Form>
+        ensures { (form : AnyForm) → (result ≡ Some form) ↔ (name.now ≡ name_of form) }
+    {
         match name {
-            "FileTime" => Some(Form::FileTime),
-            "IsoDateTime" => Some(Form::IsoDateTime),
-            "IsoDate" => Some(Form::IsoDate),
-            "IsoDuration" => Some(Form::IsoDuration),
-            "Toml" => Some(Form::Toml),
-            "Fancy" => Some(Form::Fancy),
-            "PgIso" => Some(Form::PgIso),
-            "Postgres" => Some(Form::Postgres),
-            "PgVerbose" => Some(Form::PgVerbose),
-            "PgSql" => Some(Form::PgSql),
-            "IsoStrict" => Some(Form::IsoStrict),
+            b"FileTime" => Some(Form::FileTime),
+            b"IsoDateTime" => Some(Form::IsoDateTime),
+            b"IsoDate" => Some(Form::IsoDate),
+            b"IsoDuration" => Some(Form::IsoDuration),
+            b"Toml" => Some(Form::Toml),
+            b"Fancy" => Some(Form::Fancy),
+            b"PgIso" => Some(Form::PgIso),
+            b"Postgres" => Some(Form::Postgres),
+            b"PgVerbose" => Some(Form::PgVerbose),
+            b"PgSql" => Some(Form::PgSql),
+            b"IsoStrict" => Some(Form::IsoStrict),
             _ => None,
         }
     }

@@ -1,5 +1,5 @@
 //! Lines and the requests in them.
-ghost use Rattle.std.specs.Prelude.{◌≡◌, List, ℕ, ◌++◌, codes, Option, IfSome, IfNone};
+ghost use Rattle.std.specs.Prelude.{◌≡◌, List, [], ℕ, ◌++◌, codes, Option, IfSome, IfNone, unwrap_or, IsUtf8};
 ghost use Rattle.std.specs.Option.{option_copied};
 ghost use Rattle.forms.specs.Replies.{IsRequest, IsNoRequest};
 ghost use Rattle.forms.specs.inside.Reading.{NoSpace, behind, IsNamed};
@@ -25,31 +25,41 @@ pub fn request(line: &[u8]) -> Option<(Form, Form, &str)>
     ensures found { IfSome result (λ r. IsRequest line.now r.0 r.1 r.2.now) }
     ensures none { IfNone result (IsNoRequest line.now) }
 {
-    let Ok(line) = str::from_utf8(line) else {
-        return None;
-    };
     let (from, rest) = split_form(line)?;
-    let (to, text) = split_form(rest?)?;
-    Some((from, to, text.unwrap_or("")))
+    let (to, end) = split_form(rest?)?;
+    let text = text_behind(end)?;
+    Some((from, to, text))
+}
+
+/// The text that follows the names of a request, or None exactly where it isn't UTF-8.
+fn text_behind(end: Option<&[u8]>) -> Option<&str>
+    ensures found { IfSome result (λ text.
+        (text.now ≡ unwrap_or (option_copied end.entry) []) × IsUtf8 text.now) }
+    ensures none { IfNone result (¬ (IsUtf8 (unwrap_or (option_copied end.entry) []))) }
+{
+    match end {
+        Some(text) => str::from_utf8(text).ok(),
+        None => Some(""),
+    }
 }
 
 /// The form that the first word names, and what follows the space behind it.
-fn split_form(text: &str) -> Option<(Form, Option<&str>)>
+fn split_form(text: &[u8]) -> Option<(Form, Option<&[u8]>)>
     ensures found { IfSome result (λ r. IsNamed text.now r.0 (option_copied r.1)) }
     ensures none { IfNone result
         ((form : AnyForm) (rest : Option (List ℕ)) → ¬ (IsNamed text.now form rest)) }
 {
     let (name, rest) = split_word(text);
-    Some((Form::by_name(name)?, rest))
+    Some((Form::named(name)?, rest))
 }
 
 /// The bytes before the first space, and what follows it.
-fn split_word(text: &str) -> (&str, Option<&str>)
+fn split_word(text: &[u8]) -> (&[u8], Option<&[u8]>)
     ensures word { NoSpace result.0.now }
     ensures joined { text.now ≡ result.0.now ++ behind (option_copied result.1) }
 {
-    match text.split_once(' ') {
-        Some((word, rest)) => (word, Some(rest)),
+    match memchr(b' ', text) {
+        Some(end) => (&text[..end], Some(&text[end + 1..])),
         None => (text, None),
     }
 }

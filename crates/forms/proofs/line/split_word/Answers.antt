@@ -1,10 +1,18 @@
-use Rattle.std.proofs.Common.{Some, None, lit<}
-use Rattle.std.proofs.lemmas.Str.Pattern.{split_parts}
-use Rattle.forms.proofs.Words.{no_space_at}
+use Rattle.std.proofs.Common.{length, add-one, arith}
+use Rattle.std.proofs.Math.Seq.{take-length}
+use Rattle.std.proofs.lemmas.List.{take_rest}
+use Rattle.forms.proofs.FirstFeed.{no_space_before, split_at}
 use Rattle.forms.proofs.line.split_word.Goals as goal
 
 pub returns-in-Some-clause-word : goal.returns-in-Some-clause-word
-returns-in-Some-clause-word c = no_space_at c.in-Some.word.now (split_parts 32 c.args.text.now (Some (c.in-Some.word, c.in-Some.rest)) c.in-Some.ensures.cases (lit< tt)).1
+returns-in-Some-clause-word c =
+    let first = c.in-Some.ensures in
+    no_space_before c.args.text.now c.in-Some.end (omega (arith, first.0.high)) first.0.before
+
+pub returns-in-Some-clause-joined : goal.returns-in-Some-clause-joined
+returns-in-Some-clause-joined c =
+    let first = c.in-Some.ensures in
+    rw (take_rest, add-one) (split_at 32 c.args.text.now c.in-Some.end first.0.high first.1)
 
 pub returns-in-None-clause-word : goal.returns-in-None-clause-word
-returns-in-None-clause-word c = no_space_at c.args.text.now (split_parts 32 c.args.text.now None c.in-None.ensures.cases (lit< tt))
+returns-in-None-clause-word c = rw take-length at (no_space_before c.args.text.now (length c.args.text.now) (omega arith) c.in-None.ensures)

@@ -1,0 +1,69 @@
+-- The forms' names are ASCII: a line is UTF-8 exactly where the text behind its names is.
+use Rattle.std.proofs.Common.{◌≡◌, ℕ, zero, suc, ◌<◌, Bool, true, List, [], ◌∷◌, ◌++◌, codes, Option, Some, None, refl, sym, ◌∙◌, ap, subst, inl, inr, arith}
+use Rattle.std.specs.Prelude.{nat_lt, get_or, IsUtf8, unwrap_or}
+use Rattle.std.specs.List.{list_all}
+use Rattle.std.proofs.lemmas.Bool.{and_parts}
+use Rattle.std.proofs.lemmas.Bool.Decides.{nat_tests}
+use Rattle.std.proofs.lemmas.Str.{IsUtf8-append, IsUtf8-from_ascii, IsUtf8-past_char, encode_ascii}
+use Rattle.forms.specs.declared.form.Form.{Form}
+use Rattle.forms.specs.declared.form.Form.TheVariants.{FileTime, IsoDateTime, IsoDate, IsoDuration, Toml, Fancy, PgIso, Postgres, PgVerbose, PgSql, IsoStrict}
+use Rattle.forms.specs.Names.{name_of}
+use Rattle.forms.specs.Replies.{IsTail, IsRequest}
+use Rattle.forms.specs.inside.Reading.{behind, IsNamed}
+
+abbrev pub is_small : ℕ → Bool
+is_small b = nat_lt b 128
+
+small_below : (b : ℕ) → is_small b ≡ true → b < 128
+small_below b h = grind (arith, nat_tests)
+
+pub ascii : (bytes : List ℕ) → list_all is_small bytes ≡ true → (i : ℕ) → get_or bytes i 0 < 128
+ascii [] h i = omega arith
+ascii (b ∷ bs) h zero = small_below b (and_parts (is_small b) (list_all is_small bs) h).0
+ascii (b ∷ bs) h (suc i) = ascii bs (and_parts (is_small b) (list_all is_small bs) h).1 i
+
+pub small_name : (form : Form) → list_all is_small (name_of form) ≡ true
+small_name FileTime = refl
+small_name IsoDateTime = refl
+small_name IsoDate = refl
+small_name IsoDuration = refl
+small_name Toml = refl
+small_name Fancy = refl
+small_name PgIso = refl
+small_name Postgres = refl
+small_name PgVerbose = refl
+small_name PgSql = refl
+small_name IsoStrict = refl
+
+-- bytes are UTF-8 behind ASCII exactly where the whole is
+
+utf8_with : (front bytes : List ℕ) → list_all is_small front ≡ true → IsUtf8 bytes → IsUtf8 (front ++ bytes)
+utf8_with front bytes h utf8 = IsUtf8-append front bytes (IsUtf8-from_ascii front (ascii front h)) utf8
+
+utf8_past : (front bytes : List ℕ) → list_all is_small front ≡ true → IsUtf8 (front ++ bytes) → IsUtf8 bytes
+utf8_past [] bytes h utf8 = utf8
+utf8_past (b ∷ bs) bytes h utf8 =
+    let parts = and_parts (is_small b) (list_all is_small bs) h in
+    let spelled = ap (λ (l : List ℕ). l ++ (bs ++ bytes)) (sym (encode_ascii b (small_below b parts.0))) in
+    utf8_past bs bytes parts.1 (IsUtf8-past_char (b ∷ (bs ++ bytes)) (bs ++ bytes) b utf8 spelled)
+
+utf8_named : (text : List ℕ) (form : Form) (rest : Option (List ℕ)) → IsNamed text form rest → IsUtf8 (unwrap_or rest []) → IsUtf8 text
+utf8_named text form None named utf8 = subst IsUtf8 (sym named) (utf8_with (name_of form) [] (small_name form) utf8)
+utf8_named text form (Some rest) named utf8 = subst IsUtf8 (sym named) (utf8_with (name_of form) (codes " " ++ rest) (small_name form) (utf8_with (codes " ") rest refl utf8))
+
+pub utf8_behind : (text : List ℕ) (form : Form) (rest : Option (List ℕ)) → IsNamed text form rest → IsUtf8 text → IsUtf8 (unwrap_or rest [])
+utf8_behind text form None named utf8 = utf8_past (name_of form) [] (small_name form) (subst IsUtf8 named utf8)
+utf8_behind text form (Some rest) named utf8 = utf8_past (codes " ") rest refl (utf8_past (name_of form) (codes " " ++ rest) (small_name form) (subst IsUtf8 named utf8))
+
+behind_tail : (text : List ℕ) (end : Option (List ℕ)) → text ≡ unwrap_or end [] → IsTail text (behind end)
+behind_tail text None h = inl (h, refl)
+behind_tail text (Some rest) h = inr (ap (λ (l : List ℕ). codes " " ++ l) (sym h))
+
+-- two names, and behind them the end or a text in UTF-8
+pub request_of : (line rest text : List ℕ) (from to : Form) (end : Option (List ℕ)) → IsNamed line from (Some rest) → IsNamed rest to end → text ≡ unwrap_or end [] → IsUtf8 text → IsRequest line from to text
+request_of line rest text from to end first second told utf8 = record {
+  tail = behind end;
+  utf8 = utf8_named line from (Some rest) first (utf8_named rest to end second (subst IsUtf8 told utf8));
+  rest = behind_tail text end told;
+  joined = first ∙ ap (λ (l : List ℕ). name_of from ++ (codes " " ++ l)) second;
+}
