@@ -1,1 +1,4 @@
+pub mod Answered
+pub mod Intervals
 pub mod Names
+pub mod Rooms

@@ -1,0 +1,5 @@
+use Rattle.std.proofs.Common.{refl}
+use Rattle.timeforms_c.proofs.form.timeforms_form_by_name.Goals as goal
+
+pub returns-in-Some-clause-none : goal.returns-in-Some-clause-none
+returns-in-Some-clause-none c none = absurd (none c.in-Some.form ((c.in-Some.ensures c.in-Some.form).0 refl))

@@ -1,0 +1,12 @@
+use Rattle.std.proofs.Common.{Ok, ap}
+use Rattle.timeforms_c.proofs.Answered.{not_ok, same_ok}
+use Rattle.timeforms_c.proofs.interval.read_alone.Goals as goal
+
+pub returns-in-Ok-clause-done : goal.returns-in-Ok-clause-done
+returns-in-Ok-clause-done g c t denoted = ap Ok (same_ok c.in-Ok.interval t (c.in-Ok.ensures.all t denoted))
+
+pub returns-in-Ok-clause-range : goal.returns-in-Ok-clause-range
+returns-in-Ok-clause-range g c part misfits = absurd (c.in-Ok.ensures.range part misfits)
+
+pub returns-in-Err-clause-done : goal.returns-in-Err-clause-done
+returns-in-Err-clause-done g c t denoted = absurd (not_ok t c.in-Err.error (c.in-Err.ensures.all t denoted))
