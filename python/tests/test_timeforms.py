@@ -77,7 +77,7 @@ class Texts(unittest.TestCase):
         self.assertEqual(replies(b""), b"")
         self.assertEqual(replies(b"\n"), b"refused Line\n")
         self.assertEqual(replies(b"PgIso PgIso P1Y1Y\nPgIso PgIso \xff\nPgIso PgIso P"), b"P2Y\nrefused Line\nrefused Syntax\n")
-        self.assertEqual(replies(b"Fancy Postgres 36h\r\n"), b"refused Syntax\n")
+        self.assertEqual(replies(b"Fancy Postgres 36h\r\nPgIso PgIso P1D\r\n"), b"1 day 12:00:00\nrefused Syntax\n")
         self.assertEqual(replies(b"\n" * 100_000), b"refused Line\n" * 100_000)
 
     def test_forms(self):
