@@ -47,6 +47,7 @@ impl Form {
     }
 
     /// The form whose name these bytes are, or None where they are no form's.
+    #[inline(always)]
     pub(crate) fn named(name: &[u8]) -> Option<Form>
         ensures { (form : AnyForm) → (result ≡ Some form) ↔ (name.now ≡ name_of form) }
     {

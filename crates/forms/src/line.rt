@@ -25,6 +25,7 @@ pub fn request(line: &[u8]) -> Option<(Form, Form, &str)>
     ensures found { IfSome result (λ r. IsRequest line.now r.0 r.1 r.2.now) }
     ensures none { IfNone result (IsNoRequest line.now) }
 {
+    // Names are ASCII: the line is UTF-8 exactly where the text behind its names is.
     let (from, rest) = split_form(line)?;
     let (to, end) = split_form(rest?)?;
     let text = text_behind(end)?;
@@ -32,6 +33,7 @@ pub fn request(line: &[u8]) -> Option<(Form, Form, &str)>
 }
 
 /// The text that follows the names of a request, or None exactly where it isn't UTF-8.
+#[inline(always)]
 fn text_behind(end: Option<&[u8]>) -> Option<&str>
     ensures found { IfSome result (λ text.
         (text.now ≡ unwrap_or (option_copied end.entry) []) × IsUtf8 text.now) }
@@ -44,6 +46,7 @@ fn text_behind(end: Option<&[u8]>) -> Option<&str>
 }
 
 /// The form that the first word names, and what follows the space behind it.
+#[inline(always)]
 fn split_form(text: &[u8]) -> Option<(Form, Option<&[u8]>)>
     ensures found { IfSome result (λ r. IsNamed text.now r.0 (option_copied r.1)) }
     ensures none { IfNone result
@@ -54,6 +57,7 @@ fn split_form(text: &[u8]) -> Option<(Form, Option<&[u8]>)>
 }
 
 /// The bytes before the first space, and what follows it.
+#[inline(always)]
 fn split_word(text: &[u8]) -> (&[u8], Option<&[u8]>)
     ensures word { NoSpace result.0.now }
     ensures joined { text.now ≡ result.0.now ++ behind (option_copied result.1) }
