@@ -4,13 +4,13 @@ use Rattle.std.specs.Prelude.{ℤ}
 use Rattle.std.proofs.Math.Facts.{to_z-of_z}
 use Rattle.scan_core.specs.declared.share.Part.{Part}
 use Rattle.pg_interval_2.specs.Denotes.{Denotes, Misfits}
+use Rattle.pg_interval_2.specs.Ranges.{IsInRange}
 use Rattle.pg_interval_2.specs.Styles.{Shape, written}
 use Rattle.pg_interval_2.specs.declared.interval.Interval.{Interval}
 use Rattle.pg_interval_2.specs.declared.style.Style.{Style}
 use Rattle.forms.specs.declared.cause.Cause.{Cause}
 use Rattle.forms.specs.declared.cause.Cause.TheVariants.{Range}
 use Rattle.timeforms_c.specs.Codes.{code_of}
-use Rattle.forms.proofs.Intervals.{denoted_in_range}
 use Rattle.timeforms_c.proofs.Answered.{same_ok}
 
 -- the numbers of an interval, as 32, 32 and 64 bits hold them
@@ -18,9 +18,8 @@ abbrev pub IsHeldAs : Interval → Interval → Type 0
 IsHeldAs read t = (to_z w32 (of_z w32 read.months) ≡ t.months) × (to_z w32 (of_z w32 read.days) ≡ t.days) × (to_z w64 (of_z w64 read.microseconds) ≡ t.microseconds)
 
 -- the one interval that a text denotes is held
-pub read_held : (style : Style) (text : List ℕ) (read t : Interval) → ◌≡◌ {A = Result Interval Cause} (Ok read) (Ok t) → Denotes (Shape style) text t → IsHeldAs read t
-read_held style text read t is denoted =
-    let range = denoted_in_range style text t denoted in
+pub read_held : (read t : Interval) → ◌≡◌ {A = Result Interval Cause} (Ok read) (Ok t) → IsInRange t → IsHeldAs read t
+read_held read t is range =
     let fit : IsHeldAs t t = (to_z-of_z range.months, to_z-of_z range.days, to_z-of_z range.microseconds) in
     subst (λ (u : Interval). IsHeldAs u t) (sym (same_ok read t is)) fit
 

@@ -16,6 +16,7 @@ use crate::code::{NO_SUCH_FORM, NOT_UTF8, code_of};
 use crate::form::{form_numbered, style_of};
 use crate::room::put_text;
 use forms::Cause;
+use pg_interval_2::laws::denoted_interval_is_in_range;
 use pg_interval_2::{Interval, Style, read_counted};
 use scan_core::{Looked, Steps};
 use std::marker::Brand;
@@ -58,6 +59,7 @@ pub extern "C" fn timeforms_interval_from_text(
         → result ≡ no_such_form }
     ensures kept { result ≢ pos 0 → interval.new ≡ interval.old }
 {
+    denoted_interval_is_in_range();
     let Some(style) = style_numbered(form) else {
         return NO_SUCH_FORM;
     };

@@ -8,7 +8,8 @@ pub returns-in-Ok-read_alone-clause-done : goal.returns-in-Ok-read_alone-clause-
 returns-in-Ok-read_alone-clause-done c f style t numbered styled utf8 denoted =
     let same = same_some c.in-Some.style style (c.in-Some.ensures.some f style (to_z-of_z c.ranges.form ∙ numbered) styled) in
     let again = denoted_again _ style _ c.args.text.now t same (c.new.ensures ∙ c.in-Ok.ensures.cases.0) denoted in
-    let held = read_held c.in-Some.style c.new.result c.in-Ok-read_alone.read t (c.in-Ok-read_alone.ensures.done t again) again in
+    let range = c.denoted_interval_is_in_range.ensures style c.args.text.now t denoted in
+    let held = read_held c.in-Ok-read_alone.read t (c.in-Ok-read_alone.ensures.done t again) range in
     (refl, held.0, held.1, held.2)
 
 pub returns-in-Ok-read_alone-clause-range : goal.returns-in-Ok-read_alone-clause-range
