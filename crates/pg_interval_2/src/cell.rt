@@ -70,6 +70,7 @@ mod tests {
     use super::*;
     use std::test::Fail;
 
+    /// What `interval_send` of PostgreSQL 15.18 answers, but for the last row, which tells each byte from the others.
     #[test]
     fn cells_are_those_of_the_server(rt: HostRuntime) -> Result<(), Fail> {
         for (months, days, microseconds, cell) in [
@@ -81,6 +82,14 @@ mod tests {
                 [0, 0, 0, 0, 0xd6, 0x93, 0xa4, 0, 0, 0, 0, 1, 0, 0, 0, 0x0d],
             ),
             (-1, -1, -1, [0xff; 16]),
+            (
+                14,
+                3,
+                14_706_000_007,
+                [
+                    0, 0, 0, 3, 0x6c, 0x8b, 0xc0, 0x87, 0, 0, 0, 3, 0, 0, 0, 0x0e,
+                ],
+            ),
             (
                 i32::MIN,
                 i32::MAX,

@@ -277,6 +277,42 @@ mod tests {
         Ok(())
     }
 
+    /// What PostgreSQL 15.18 answers for `+` and `-`, and `None` where it says `interval out of range`.
+    #[test]
+    fn sums_are_those_of_the_server(rt: HostRuntime) -> Result<(), Fail> {
+        for (a, b, sum) in [
+            (
+                "P1Y2M3DT4H5M6.789S",
+                "P-1Y-1M1DT-5H",
+                Some("P1M4DT-54M-53.211S"),
+            ),
+            ("P1M30DT24H", "P1M1DT1H", Some("P2M31DT25H")),
+            ("P2147483646D", "P1D", Some("P2147483647D")),
+            ("P2147483647D", "P1D", None),
+            ("P178956970Y7M", "P1M", None),
+            ("PT2562047788H54.775807S", "PT0.000001S", None),
+        ] {
+            let (a, b) = (Interval::from_iso(a)?, Interval::from_iso(b)?);
+            let sum = match sum {
+                Some(text) => Some(Interval::from_iso(text)?),
+                None => None,
+            };
+            assert_eq!(rt; a.checked_add(b), sum);
+        }
+        for (a, b, difference) in [
+            ("P1M30DT24H", "P2M31DT25H", "P-1M-1DT-1H"),
+            (
+                "PT-2562047788H-54.775807S",
+                "PT0.000001S",
+                "PT-2562047788H-54.775808S",
+            ),
+        ] {
+            let (a, b) = (Interval::from_iso(a)?, Interval::from_iso(b)?);
+            assert_eq!(rt; a.checked_sub(b), Some(Interval::from_iso(difference)?));
+        }
+        Ok(())
+    }
+
     #[test]
     fn days_and_times_are_added(rt: HostRuntime) -> Result<(), Fail> {
         let start = Interval::new(13, 0, 0);
