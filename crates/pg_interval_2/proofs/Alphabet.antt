@@ -1,6 +1,6 @@
 -- A text in one of the styles is made of their alphabet.
 use Rattle.std.proofs.Common.{◌≡◌, ◌⊎◌, ℕ, Bool, true, false, cond, IsTrue, ◌==◌, List, [], ◌∷◌, ◌++◌, codes, Some, refl, sym, subst, inl, inr, arith}
-use Rattle.std.proofs.lemmas.Bool.{and_parts}
+use Rattle.std.proofs.lemmas.Bool.{and_parts, or_left, or_right}
 use Rattle.std.proofs.lemmas.Bool.Decides.{nat_tests}
 use Rattle.std.specs.Char.{is_ascii_digit}
 use Rattle.std.specs.List.{list_all}
@@ -22,7 +22,7 @@ use Rattle.pg_interval_2.specs.UnitNames.{postgres_names, verbose_names}
 use Rattle.pg_interval_2.specs.Verbose.{ago_or_none, IsBody, IsVerbose}
 use Rattle.pg_interval_2.specs.declared.style.Style.{Style}
 use Rattle.pg_interval_2.specs.declared.style.Style.TheVariants.{Iso, Postgres, Verbose, Sql, IsoStrict}
-use Rattle.pg_interval_2.proofs.EachByte.{Each, EachWord, each-append, each_word-append, each-weaker, each-digits, first_of, second_of}
+use Rattle.pg_interval_2.proofs.EachByte.{Each, EachWord, each-append, each_word-append, each-weaker, each-digits}
 use Rattle.pg_interval_2.proofs.UnitNameFacts.{chosen_unit, named_passes}
 use Rattle.pg_interval_2.proofs.Verdicts.{Names}
 
@@ -47,13 +47,13 @@ same whole bytes is h = subst In (sym is) (bytes_in bytes h)
 -- ---- numbers
 
 blank_in : (b : ℕ) → is_blank b ≡ true → is_in_alphabet b ≡ true
-blank_in b h = first_of (is_blank b) _ h
+blank_in b h = or_left (is_blank b) _ h
 
 blanks_in : (bs : List ℕ) → list_all is_blank bs ≡ true → In bs
 blanks_in bs h = bytes_in bs (each-weaker is_blank is_in_alphabet blank_in bs h)
 
 digit_in : (d : ℕ) → is_ascii_digit d ≡ true → is_in_alphabet d ≡ true
-digit_in d h = second_of (is_blank d) _ (first_of (is_ascii_digit d) _ h)
+digit_in d h = or_right (is_blank d) _ (or_left (is_ascii_digit d) _ h)
 
 digits_in : (ds : List ℕ) → AreDigits ds → In ds
 digits_in ds h = each-digits is_in_alphabet digit_in ds h

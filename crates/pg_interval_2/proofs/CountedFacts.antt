@@ -1,6 +1,8 @@
 -- Items counted one after the other.
 use Rattle.std.proofs.Common.{◌≡◌, ◌≢◌, ℕ, ◌||◌, ◌==◌, Bool, true, false, cond, List, [], ◌∷◌, ◌++◌, refl, sym, ◌∙◌, ap, subst, append_assoc, append-nil, length-append, arith, inl, inr, ◌+◌, ◌≤◌, length, codes, take, Some}
 use Rattle.std.specs.Prelude.{filter}
+use Rattle.std.proofs.Math.Bool.{or-false, or-true}
+use Rattle.std.proofs.lemmas.Bool.{false_from_ne_true}
 use Rattle.std.proofs.lemmas.Bool.Decides.{eqb_tells}
 use Rattle.scan_core.specs.Count.{Count, count_of}
 use Rattle.scan_core.specs.declared.share.Unit.{Unit as TimeUnit}
@@ -24,14 +26,6 @@ use Rattle.pg_interval_2.proofs.Turning.{turned_fields}
 use Rattle.pg_interval_2.specs.inside.Tallies.{Tallies}
 use Rattle.pg_interval_2.specs.inside.UnitSets.{holds_unit}
 use Rattle.pg_interval_2.proofs.Verdicts.{counts_unit-append, same_both, distinct_push, fresh_behind}
-
-or_false : (x : Bool) → (x || false) ≡ x
-or_false true = refl
-or_false false = refl
-
-or_true : (x : Bool) → (x || true) ≡ true
-or_true true = refl
-or_true false = refl
 
 unit_at : ℕ → TimeUnit
 unit_at n = cond (n == 0) Year (cond (n == 1) Month (cond (n == 2) Week (cond (n == 3) Day (cond (n == 4) Hour (cond (n == 5) Minute Second)))))
@@ -66,10 +60,10 @@ units_push counts c old new units same others unit =
     elim (eqb_tells (place_of unit) (place_of c.unit)) [
       | inl equal ↦
           let here = (same_unit unit c.unit equal.1) in
-          rw here (same ∙ sym (counts_unit-append c.unit counts (c ∷ []) ∙ rw (same_place_test c.unit) (or_true (counts_unit c.unit counts))))
+          rw here (same ∙ sym (counts_unit-append c.unit counts (c ∷ []) ∙ rw (same_place_test c.unit) (or-true (counts_unit c.unit counts))))
       | inr apart ↦
           let other = same_both (place_of unit) (place_of c.unit) apart.0 in
-          others unit apart.1 ∙ units unit ∙ sym (counts_unit-append unit counts (c ∷ []) ∙ rw other (or_false (counts_unit unit counts)))
+          others unit apart.1 ∙ units unit ∙ sym (counts_unit-append unit counts (c ∷ []) ∙ rw other (or-false (counts_unit unit counts)))
     ]
 
 -- one more count of a unit that was in none
@@ -78,20 +72,13 @@ pub counted_push : (counts : List Count) (c : Count) (old new : Counted) → IsC
 counted_push counts c old new h fresh tallied same others =
     record { tallied = tallied; units = units_push counts c old new h.units same others; distinct = distinct_push counts c h.distinct fresh }
 
-again_if : (t : Bool) → (t ≡ true → ⊥) → t ≡ false
-again_if true h = absurd (h refl)
-again_if false h = refl
-
 -- a unit that is counted again
 pub again : (counts : List Count) (c : Count) (more : List Count) → counts_unit c.unit counts ≡ true → has_distinct_units (counts ++ (c ∷ more)) ≡ false
-again counts c more h = again_if (has_distinct_units (counts ++ (c ∷ more))) (λ distinct. let clash : true ≡ false = sym h ∙ fresh_behind counts c more distinct in cc)
+again counts c more h = false_from_ne_true (has_distinct_units (counts ++ (c ∷ more))) (λ distinct. let clash : true ≡ false = sym h ∙ fresh_behind counts c more distinct in cc)
 
 -- a count that isn't 0, or none
 abbrev pub nonzero : Count → List Count
 nonzero c = filter is_nonzero (c ∷ [])
-
-pub perhaps_none : (counts : List Count) (c : Count) (old : Counted) → is_nonzero c ≡ false → IsCounted old counts → IsCounted old (counts ++ nonzero c)
-perhaps_none counts c old none h = rw none (subst (IsCounted old) (sym (append-nil counts)) h)
 
 -- ---- clocks
 

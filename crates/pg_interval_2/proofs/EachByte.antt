@@ -1,5 +1,5 @@
 -- Tests that each byte of a text passes, and of words each byte of each.
-use Rattle.std.proofs.Common.{◌≡◌, ℕ, Bool, true, false, cond, ◌||◌, List, [], ◌∷◌, ◌++◌, refl}
+use Rattle.std.proofs.Common.{◌≡◌, ℕ, Bool, true, false, cond, List, [], ◌∷◌, ◌++◌, refl}
 use Rattle.std.specs.Char.{is_ascii_digit}
 use Rattle.std.specs.List.{list_all}
 use Rattle.std.proofs.lemmas.Bool.{and_parts}
@@ -43,10 +43,3 @@ each-weaker p q weaker (x ∷ xs) h =
 -- digits pass where each digit does
 pub each-digits : (q : ℕ → Bool) → ((d : ℕ) → is_ascii_digit d ≡ true → q d ≡ true) → (ds : List ℕ) → AreDigits ds → Each q ds
 each-digits q weaker ds h = record { passes = each-weaker is_ascii_digit q weaker ds (all_from_digits ds h) }
-
-pub first_of : (x y : Bool) → x ≡ true → (x || y) ≡ true
-first_of x y h = rw h refl
-
-pub second_of : (x y : Bool) → y ≡ true → (x || y) ≡ true
-second_of true y h = refl
-second_of false y h = h

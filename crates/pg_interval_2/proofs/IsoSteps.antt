@@ -1,6 +1,6 @@
 -- One more pair, read and counted.
-use Rattle.std.proofs.Common.{◌≡◌, ℕ, Bool, true, false, List, [], ◌∷◌, ◌++◌, Option, Some, None, IfSome, IfNone, refl, sym, ◌∙◌, ap, subst, append_assoc, append-nil, arith, inl, inr, codes, ◌≢◌, ◌==◌}
-use Rattle.std.proofs.lemmas.Bool.Decides.{nat_tests}
+use Rattle.std.proofs.Common.{◌≡◌, ℕ, Bool, true, false, List, [], ◌∷◌, ◌++◌, Option, Some, None, IfSome, IfNone, refl, sym, ◌∙◌, ap, subst, append_assoc, append-nil, inl, inr, codes, ◌≢◌, ◌==◌}
+use Rattle.std.proofs.lemmas.Bool.{eqb-true}
 use Rattle.scan_core.specs.Count.{Count}
 use Rattle.scan_core.proofs.Joins.{join_push, join_same}
 use Rattle.pg_interval_2.specs.declared.order.Order.{Order}
@@ -65,20 +65,17 @@ no_shape_behind_times text date time rest old mid new was is from to spelled dat
 
 -- ---- where the pairs end
 
-is_time : (b : ℕ) → (b == 84) ≡ true → b ≡ 84
-is_time b h = grind (arith, nat_tests)
-
 -- no pair stands where pairs may end
 pub no_pair_at_end : (in_time : Bool) (rest : List ℕ) → ends_pairs rest ≡ true → read_pair (unit_in in_time) rest ≡ None
 unfolding read_pair read_number read_unsigned
 no_pair_at_end in_time [] ends = refl
-no_pair_at_end in_time (b ∷ bs) ends = let letter = is_time b ends in rw letter refl
+no_pair_at_end in_time (b ∷ bs) ends = let letter = eqb-true b 84 ends in rw letter refl
 
 -- behind the pairs of the date, where the text goes on, the time begins
 pub time_begins : (passed : Option ℕ) (old new : Place) → IfSome passed (λ byte. Passes (byte ∷ []) old new) → IfNone passed ((ahead old ≡ []) × (new ≡ old))
     → ends_pairs (ahead old) ≡ true → ahead old ≢ [] → ahead old ≡ codes "T" ++ ahead new
 time_begins None old new some none ends more = absurd (more none.0)
-time_begins (Some b) old new some none ends more = let letter : b ≡ 84 = is_time b (sym (ap ends_pairs some.split) ∙ ends) in some.split ∙ ap (λ (x : ℕ). x ∷ ahead new) letter
+time_begins (Some b) old new some none ends more = let letter : b ≡ 84 = eqb-true b 84 (sym (ap ends_pairs some.split) ∙ ends) in some.split ∙ ap (λ (x : ℕ). x ∷ ahead new) letter
 
 some_left : (rest : List ℕ) → ends_pairs rest ≡ false → rest ≢ []
 some_left [] goes_on e = cc

@@ -4,7 +4,7 @@ use Rattle.std.specs.Char.{is_ascii_digit}
 use Rattle.std.specs.List.{list_all}
 use Rattle.std.proofs.lemmas.Bool.Decides.{nat_tests}
 use Rattle.std.proofs.lemmas.List.Folds.{list_any-append}
-use Rattle.std.proofs.lemmas.Bool.{and_parts}
+use Rattle.std.proofs.lemmas.Bool.{and_parts, or_parts}
 use Rattle.scan_core.specs.Count.{Count}
 use Rattle.scan_core.specs.Digits.{AreDigits}
 use Rattle.scan_core.specs.Number.{IsFraction, IsNumber, IsSign}
@@ -13,7 +13,6 @@ use Rattle.scan_core.specs.declared.share.Unit.{Unit as TimeUnit}
 use Rattle.pg_interval_2.specs.Denotes.{HasNoShape}
 use Rattle.pg_interval_2.specs.Iso.{ArePairs, IsDateAlone, IsDateAndTime, IsIso, IsPair, unit_in}
 use Rattle.pg_interval_2.specs.IsoWithoutWeeks.{IsIsoWithoutWeeks, has_week, unit_without_weeks}
-use Rattle.pg_interval_2.proofs.Verdicts.{neither}
 
 -- ---- a text without the letter
 
@@ -22,7 +21,7 @@ week_append xs ys = list_any-append (λ byte. byte == 87) xs ys
 
 -- neither part of a join has the letter
 apart : (whole xs ys : List ℕ) → has_week whole ≡ false → whole ≡ xs ++ ys → (has_week xs ≡ false) × (has_week ys ≡ false)
-apart whole xs ys none split = neither (has_week xs) (has_week ys) (sym (ap has_week split ∙ week_append xs ys) ∙ none)
+apart whole xs ys none split = or_parts (has_week xs) (has_week ys) (sym (ap has_week split ∙ week_append xs ys) ∙ none)
 
 -- without the letter, both tables mean the same
 same_unit : (in_time : Bool) (letter : ℕ) → (letter == 87) ≡ false → unit_in in_time letter ≡ unit_without_weeks in_time letter
@@ -41,7 +40,7 @@ back in_time letter unit other means = same_unit in_time letter other ∙ means
 
 pair_over : (from to : ℕ → Option TimeUnit) → GoesOver from to → (piece : List ℕ) (c : Count) → has_week piece ≡ false → IsPair from piece c → IsPair to piece c
 pair_over from to over piece c none pair =
-    let letter = (neither (pair.letter == 87) false (apart piece pair.number (pair.letter ∷ []) none pair.joined).1).0 in
+    let letter = (or_parts (pair.letter == 87) false (apart piece pair.number (pair.letter ∷ []) none pair.joined).1).0 in
     record { number = pair.number; letter = pair.letter; digits = pair.digits; unit = over pair.letter c.unit letter pair.unit; joined = pair.joined }
 
 pairs_over : (from to : ℕ → Option TimeUnit) → GoesOver from to → (bytes : List ℕ) (counts : List Count) → has_week bytes ≡ false → ArePairs from bytes counts → ArePairs to bytes counts

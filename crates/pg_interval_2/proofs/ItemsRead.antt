@@ -1,6 +1,6 @@
 -- What is read as an item stands in front.
 use Rattle.std.proofs.Common.{◌≡◌, ℕ, ◌+◌, ◌<◌, ◌&&◌, ◌==◌, Bool, true, false, cond, nat_lt, List, [], ◌∷◌, ◌++◌, length, Option, Some, None, refl, sym, ◌∙◌, ap, append_assoc, inl, inr, codes, eqb-true}
-use Rattle.std.proofs.lemmas.Bool.{and_parts}
+use Rattle.std.proofs.lemmas.Bool.{and_parts, ltb-true}
 use Rattle.scan_core.specs.Blanks.{EndsWord}
 use Rattle.scan_core.specs.Digits.{AreDigits}
 use Rattle.scan_core.specs.Number.{IsSign, IsFraction, IsNumber}
@@ -9,7 +9,7 @@ use Rattle.scan_core.specs.Fronts.{front_digits, after_digits}
 use Rattle.scan_core.proofs.FrontFacts.{front_are_digits, front_and_after}
 use Rattle.pg_interval_2.specs.inside.Reading.{Numeral, read_sign, read_fraction}
 use Rattle.pg_interval_2.specs.inside.ItemReading.{after_blanks, front_letters, after_letters, ends_word, ClockFields, NextItem, ClockItem, NamedItem, NoItem, read_byte, read_seconds, read_clock, named_item, read_named, read_behind_digits, read_item}
-use Rattle.pg_interval_2.proofs.Numbers.{is_fraction, is_sign, above_zero}
+use Rattle.pg_interval_2.proofs.Numbers.{is_fraction, is_sign}
 use Rattle.pg_interval_2.proofs.ItemFacts.{AreLetters, AreBlanks, front_are_letters, letters_and_after, are_skipped, ends_from}
 
 -- a number stands in front, and letters behind blanks or none
@@ -58,7 +58,7 @@ letters_stand bytes number rest n digits split =
       blanks = skip.0;
       digits = digits;
       blank = skip.1;
-      some = above_zero _ tests.0;
+      some = ltb-true 0 _ tests.0;
       ascii = front_are_letters name;
       ends = ends_from (after_letters name) tests.1;
       split = split ∙ ap (λ (l : List ℕ). number ++ l) (skip.2 ∙ ap (λ (l : List ℕ). skip.0 ++ l) (sym (letters_and_after name)));
@@ -74,7 +74,7 @@ named_stands negative sign whole rest bytes signed digits split =
     let number = sign ++ (whole ++ point.0) in
     let joined : bytes ≡ number ++ fraction.1 =
     split ∙ ap (λ (l : List ℕ). sign ++ l) (ap (λ (l : List ℕ). whole ++ l) point.2 ∙ sym (append_assoc whole point.0 fraction.1)) ∙ sym (append_assoc sign (whole ++ point.0) fraction.1) in
-    letters_stand bytes number fraction.1 n (record { sign = sign; tail = point.0; signed = signed; digits = digits; point = point.1; some = above_zero _ test; joined = refl }) joined)
+    letters_stand bytes number fraction.1 n (record { sign = sign; tail = point.0; signed = signed; digits = digits; point = point.1; some = ltb-true 0 _ test; joined = refl }) joined)
 
 -- ---- a clock
 
@@ -126,9 +126,9 @@ seconds_stand negative sign hours minutes after bytes (Some last) colon signed h
         fraction = fraction.0;
         tail = point.0;
         signed = signed;
-        hour_field = (above_zero _ first.0, h);
-        minute_field = (above_zero _ second.0, m);
-        second_field = (above_zero _ third.0, front_are_digits last);
+        hour_field = (ltb-true 0 _ first.0, h);
+        minute_field = (ltb-true 0 _ second.0, m);
+        second_field = (ltb-true 0 _ third.0, front_are_digits last);
         point = point.1;
         joined = refl;
         counted = refl;

@@ -3,7 +3,7 @@ use Rattle.std.proofs.Common.{◌≡◌, ℕ, ◌==◌, Bool, true, false, cond,
 use Rattle.std.specs.Char.{is_ascii_alphabetic}
 use Rattle.std.specs.List.{list_all}
 use Rattle.std.proofs.lemmas.Bool.Decides.{nat_tests}
-use Rattle.std.proofs.lemmas.Bool.{and_parts}
+use Rattle.std.proofs.lemmas.Bool.{and_parts, ltb-true}
 use Rattle.scan_core.specs.Blanks.{is_blank, words, EndsWord}
 use Rattle.scan_core.specs.Count.{Count}
 use Rattle.scan_core.specs.Number.{IsNumber}
@@ -11,7 +11,7 @@ use Rattle.pg_interval_2.specs.Clock.{clock_counts}
 use Rattle.pg_interval_2.specs.Postgres.{has_distinct_units}
 use Rattle.pg_interval_2.specs.inside.Reading.{Numeral, read_number}
 use Rattle.pg_interval_2.specs.inside.ItemReading.{ClockFields, NextItem, ClockItem, NamedItem, NoItem, read_item, NumberWord, OtherWord, kind_from, word_kind, Verdict, Unspelled, judge_word, is_name, clock_of, verdict, after_blanks}
-use Rattle.pg_interval_2.proofs.Numbers.{is_number, above_zero}
+use Rattle.pg_interval_2.proofs.Numbers.{is_number}
 use Rattle.pg_interval_2.proofs.ItemFacts.{AreBlanks, are_skipped}
 use Rattle.pg_interval_2.proofs.ItemsInFront.{named_read, clock_read}
 use Rattle.pg_interval_2.proofs.ItemsRead.{StandsClock, Stands, item_stands}
@@ -70,7 +70,7 @@ no_name : (negative : Bool) (whole fraction number bytes name : List ℕ) → Is
     → is_name name ≡ true → ⊥
 no_name negative whole fraction number bytes name digits read h test =
     let tests = and_parts (nat_lt 0 (length name)) (list_all is_ascii_alphabetic name) test in
-    let found = named_read negative whole fraction number h.blanks name h.rest digits h.blank (above_zero _ tests.0) tests.1 h.ends in
+    let found = named_read negative whole fraction number h.blanks name h.rest digits h.blank (ltb-true 0 _ tests.0) tests.1 h.ends in
     let clash : NoItem ≡ NamedItem (record { negative = negative; whole = whole; fraction = fraction }) name h.rest = sym read ∙ ap (λ (l : List ℕ). read_item (number ++ l)) h.split ∙ found in cc
 
 pair_unspelled : (names : Names) (counts : List Count) (total : ℕ) (number bytes : List ℕ) (n : Numeral) (more : List (List ℕ)) → IsNumber true n.negative n.whole n.fraction number

@@ -1,5 +1,6 @@
 -- A number that stands in front is read, and what is read is a number.
 use Rattle.std.proofs.Common.{◌≡◌, ℕ, ◌+◌, ◌<◌, ◌&&◌, ◌==◌, Bool, true, false, cond, nat_lt, List, [], ◌∷◌, ◌++◌, length, Some, refl, sym, ◌∙◌, ap, subst, append_assoc, arith, inl, inr, codes}
+use Rattle.std.proofs.lemmas.Bool.{ltb-true, eqb-true}
 use Rattle.std.specs.Char.{digit_value}
 use Rattle.std.proofs.lemmas.Str.Parse.{digit_from_value}
 use Rattle.std.proofs.lemmas.Bool.Decides.{nat_tests}
@@ -31,13 +32,10 @@ fraction_if true b bs point =
     (46 ∷ front_digits bs, inr (front_are_digits bs, refl), let here : b ≡ 46 = point refl in rw (here, split) refl)
 fraction_if false b bs point = ([], inl (refl, refl), refl)
 
-is_point : (b : ℕ) → (b == 46) ≡ true → b ≡ 46
-is_point b h = grind (arith, nat_tests)
-
 -- what is read as a fraction is one
 pub is_fraction : (bytes : List ℕ) → (tail : List ℕ) × IsFraction (read_fraction bytes).0 tail × (bytes ≡ tail ++ (read_fraction bytes).1)
 is_fraction [] = ([], inl (refl, refl), refl)
-is_fraction (b ∷ bs) = fraction_if (b == 46) b bs (is_point b)
+is_fraction (b ∷ bs) = fraction_if (b == 46) b bs (eqb-true b 46)
 
 -- the text doesn't begin with a sign
 abbrev pub NoSignFirst : List ℕ → Type 0
@@ -94,12 +92,6 @@ finds_number plus negative whole fraction word rest h d p =
     let sign : read_sign plus (word ++ rest) ≡ (negative, body) = ap (read_sign plus) split ∙ signed in
     rw sign (finds_unsigned negative whole fraction h.tail rest h.digits h.point h.some d p)
 
-is_minus : (b : ℕ) → (b == 45) ≡ true → b ≡ 45
-is_minus b h = grind (arith, nat_tests)
-
-is_plus : (b : ℕ) → (b == 43) ≡ true → b ≡ 43
-is_plus b h = grind (arith, nat_tests)
-
 -- a sign, as tests for a minus and a plus choose it
 sign_if : (t u plus : Bool) (b : ℕ) (bs : List ℕ) → (t ≡ true → b ≡ 45) → (u ≡ true → b ≡ 43)
     → (sign : List ℕ) × IsSign plus (cond {A = Bool × List ℕ} t (true, bs) (cond (plus && u) (false, bs) (false, b ∷ bs))).0 sign
@@ -112,7 +104,7 @@ sign_if false false false b bs minus also = ([], inl refl, refl)
 
 pub is_sign : (plus : Bool) (bytes : List ℕ) → (sign : List ℕ) × IsSign plus (read_sign plus bytes).0 sign × (bytes ≡ sign ++ (read_sign plus bytes).1)
 is_sign plus [] = ([], inl refl, refl)
-is_sign plus (b ∷ bs) = sign_if (b == 45) (b == 43) plus b bs (is_minus b) (is_plus b)
+is_sign plus (b ∷ bs) = sign_if (b == 45) (b == 43) plus b bs (eqb-true b 45) (eqb-true b 43)
 
 -- what is read behind a sign
 pub record IsUnsigned (negative : Bool) (bytes : List ℕ) (n : Numeral) (rest : List ℕ) : Type 0 where
@@ -123,9 +115,6 @@ pub record IsUnsigned (negative : Bool) (bytes : List ℕ) (n : Numeral) (rest :
   pub some : 0 < length n.whole + length n.fraction
   pub joined : bytes ≡ (n.whole ++ tail) ++ rest
 
-pub above_zero : (n : ℕ) → nat_lt 0 n ≡ true → 0 < n
-above_zero n h = grind (arith, nat_tests)
-
 is_unsigned : (negative : Bool) (bytes : List ℕ) (n : Numeral) (rest : List ℕ) → read_unsigned negative bytes ≡ Some (n, rest) → IsUnsigned negative bytes n rest
 unfolding read_unsigned
 is_unsigned negative bytes n rest h =
@@ -135,7 +124,7 @@ is_unsigned negative bytes n rest h =
     let split : bytes ≡ (whole ++ behind.0) ++ (read_fraction (after_digits bytes)).1 =
     sym (front_and_after bytes) ∙ ap (λ (l : List ℕ). whole ++ l) behind.2 ∙ sym (append_assoc whole behind.0 (read_fraction (after_digits bytes)).1) in
     let P : Numeral × List ℕ → Type 0 = λ p. IsUnsigned negative bytes p.0 p.1 in
-    subst P found.1 (record { tail = behind.0; sign = refl; digits = front_are_digits bytes; point = behind.1; some = above_zero _ found.0; joined = split })
+    subst P found.1 (record { tail = behind.0; sign = refl; digits = front_are_digits bytes; point = behind.1; some = ltb-true 0 _ found.0; joined = split })
 
 -- what is read is a number
 pub is_number : (plus : Bool) (bytes : List ℕ) (n : Numeral) (rest : List ℕ) → read_number plus bytes ≡ Some (n, rest)

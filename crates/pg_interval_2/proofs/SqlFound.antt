@@ -1,6 +1,6 @@
 -- What is read as a text in `sql_standard` style is one.
-use Rattle.std.proofs.Common.{◌≡◌, ℕ, ◌≤◌, ◌==◌, cond, Bool, true, false, nat_le, List, [], ◌∷◌, ◌++◌, Option, Some, None, option_map, refl, sym, ◌∙◌, ap, subst, append_assoc, append-nil, arith, inl, inr, codes, eqb-true}
-use Rattle.std.proofs.lemmas.Bool.Decides.{nat_tests}
+use Rattle.std.proofs.Common.{◌≡◌, ℕ, ◌==◌, cond, Bool, true, false, List, [], ◌∷◌, ◌++◌, Option, Some, None, option_map, refl, sym, ◌∙◌, ap, subst, append_assoc, append-nil, inl, inr, codes, eqb-true}
+use Rattle.std.proofs.lemmas.Bool.{ltb-true, leb-true}
 use Rattle.std.proofs.lemmas.Option.{same_Some, cond_some, option_and_then_some}
 use Rattle.scan_core.specs.Blanks.{EndsWord}
 use Rattle.pg_interval_2.specs.Clock.{IsField}
@@ -10,7 +10,7 @@ use Rattle.pg_interval_2.specs.Sql.{IsSignOr, HasSeconds}
 use Rattle.pg_interval_2.specs.inside.SqlReading.{SqlWord, YearMonth, Days, Time, seconds_counts, read_sign_or, read_field, short_seconds, read_seconds, read_perhaps_seconds, read_time, read_months, read_behind, closed_word, read_word}
 use Rattle.pg_interval_2.proofs.ItemFacts.{ends_from}
 use Rattle.scan_core.proofs.FrontFacts.{front_are_digits, front_and_after}
-use Rattle.pg_interval_2.proofs.Numbers.{above_zero, is_fraction}
+use Rattle.pg_interval_2.proofs.Numbers.{is_fraction}
 use Rattle.pg_interval_2.proofs.SqlSpelled.{governed}
 
 -- ---- a sign and digits
@@ -30,7 +30,7 @@ field_stands : (bytes : List ℕ) (r : List ℕ × List ℕ) → read_field byte
 unfolding read_field
 field_stands bytes r h =
     let found = cond_some _ _ _ h in
-    subst (λ (p : List ℕ × List ℕ). IsField p.0 × (bytes ≡ p.0 ++ p.1)) found.1 ((above_zero _ found.0, front_are_digits bytes), sym (front_and_after bytes))
+    subst (λ (p : List ℕ × List ℕ). IsField p.0 × (bytes ≡ p.0 ++ p.1)) found.1 ((ltb-true 0 _ found.0, front_are_digits bytes), sym (front_and_after bytes))
 
 -- ---- seconds
 
@@ -41,9 +41,6 @@ mapped_some f (Some x) y h k = k x refl (same_Some _ _ h)
 -- seconds stand in front, or nothing
 abbrev SecondsStand : Bool → List ℕ → Option (List ℕ × List ℕ) × List ℕ → Type 0
 SecondsStand negative bytes r = (piece : List ℕ) × HasSeconds negative piece (seconds_counts negative r.0) × (bytes ≡ piece ++ r.1)
-
-at_most_six : (n : ℕ) → nat_le n 6 ≡ true → n ≤ 6
-at_most_six n h = grind (arith, nat_tests)
 
 short_stand : (negative : Bool) (bs : List ℕ) (field : List ℕ × List ℕ) (r : (List ℕ × List ℕ) × List ℕ) → IsField field.0 → bs ≡ field.0 ++ field.1 → short_seconds field.0 (read_fraction field.1) ≡ Some r → SecondsStand negative (58 ∷ bs) (Some r.0, r.1)
 short_stand negative bs field r digits split h =
@@ -58,7 +55,7 @@ short_stand negative bs field r digits split h =
         tail = point.0;
         second_field = digits;
         point = point.1;
-        short = at_most_six _ found.0;
+        short = leb-true _ 6 found.0;
         joined = refl;
         counted = refl;
       }),

@@ -1,6 +1,6 @@
 -- A text written in `sql_standard` style is read back as its interval, and as no other.
 use Rattle.std.proofs.Common.{◌≡◌, ◌+◌, ◌*◌, ◌≤◌, ◌^◌, Bool, true, false, not, ◌&&◌, ◌||◌, IsTrue, List, [], ◌∷◌, ◌++◌, decimal, ℤ, pos, negsuc, unsigned_abs, int_eq, refl, sym, arith}
-use Rattle.std.proofs.lemmas.Bool.{cond_both, and_parts, not-true}
+use Rattle.std.proofs.lemmas.Bool.{cond_both, and_parts, not-true, not-false}
 use Rattle.std.proofs.lemmas.Bool.Decides.{Decides-int_eq, nat_tests}
 use Rattle.std.proofs.lemmas.Int.{ints}
 use Rattle.std.specs.Int.{is_negative}
@@ -73,10 +73,6 @@ one_sign months (pos n) (negsuc m) some one = grind (arith, ints, nat_tests)
 one_sign months (negsuc n) (pos m) some one = grind (arith, ints, nat_tests)
 one_sign months (negsuc n) (negsuc m) some one = refl
 
-not_false : (x : Bool) → not x ≡ false → x ≡ true
-not_false true h = refl
-not_false false h = cc
-
 first_false : (x y : Bool) → x || y ≡ false → x ≡ false
 first_false true y h = cc
 first_false false y h = refl
@@ -115,13 +111,13 @@ plain-sum t range one =
     let none = none_beside t.months t.days t.microseconds one (not-true _ some) in
     SumsTo-same _ _ _ (year_month-sum t range) refl (sym (zero_is t.days none.0)) (sym (zero_is t.microseconds none.1)))
     (λ no_months.
-    let months = zero_is t.months (not_false _ no_months) in
+    let months = zero_is t.months (not-false _ no_months) in
     cond_both (not (int_eq t.days (pos 0))) _ _ (λ counts. SumsTo counts t)
     (λ some.
     let serves = one_sign t.months t.days t.microseconds (not-true _ some) (no_opposites t.months t.days t.microseconds one) in
     SumsTo-append _ _ _ _ _ (days-sum t range) (three_counts-sum (is_negative t.days) 1 t range serves) (omega (arith, ints, months)) (omega (arith, ints)) (omega (arith, ints)))
     (λ no_days.
-    let days = zero_is t.days (not_false _ no_days) in
+    let days = zero_is t.days (not-false _ no_days) in
     SumsTo-same _ _ _ (three_counts-sum (is_negative t.microseconds) 1 t range (signed-abs t.microseconds)) (sym months) (sym days) refl))
 
 sql-sum : (t : Interval) → IsInRange t → SumsTo (sql_counts t.months t.days t.microseconds) t

@@ -1,8 +1,7 @@
 -- What is read as a whole text in `sql_standard` style is one, and a text that isn't read has no shape.
-use Rattle.std.proofs.Common.{◌≡◌, ℕ, ◌<◌, ◌==◌, Bool, true, false, List, [], ◌∷◌, ◌++◌, length, length-append, Option, Some, None, option_and_then, refl, sym, ◌∙◌, ap, subst, append-nil, arith, inl, inr, codes}
-use Rattle.std.proofs.lemmas.Bool.Decides.{nat_tests}
+use Rattle.std.proofs.Common.{◌≡◌, ℕ, ◌<◌, ◌==◌, Bool, false, List, [], ◌∷◌, ◌++◌, length, length-append, Option, Some, None, option_and_then, refl, sym, ◌∙◌, ap, subst, append-nil, arith, inl, inr, codes}
 use Rattle.std.proofs.lemmas.Option.{same_Some, cond_some, option_and_then_some}
-use Rattle.std.proofs.lemmas.Bool.{and_parts}
+use Rattle.std.proofs.lemmas.Bool.{and_parts, eqb-true}
 use Rattle.scan_core.specs.Blanks.{words}
 use Rattle.scan_core.specs.Count.{Count}
 use Rattle.scan_core.specs.Digits.{AreDigits, number_of}
@@ -140,12 +139,6 @@ one_byte (c ∷ blanks) sign days after some h =
 zero_digit : (d : ℕ) → AreDigits (d ∷ []) → number_of (d ∷ []) ≡ 0 → d ≡ 48
 zero_digit d digits none = omega (arith, digit_is_alone d digits.0)
 
-one_test : (n : ℕ) → (n == 1) ≡ true → n ≡ 1
-one_test n h = grind (arith, nat_tests)
-
-zero_test : (n : ℕ) → (n == 0) ≡ true → n ≡ 0
-zero_test n h = grind (arith, nat_tests)
-
 zero_shape : (text : List ℕ) (negative : Bool) (days : List ℕ) (counts : List Count) → StandsWord false (after_blanks text) (Days negative days, []) → behind_days text negative days [] ≡ Some counts → IsSql text counts
 unfolding behind_days
 zero_shape text negative days counts h e =
@@ -155,9 +148,9 @@ zero_shape text negative days counts h e =
     let body = h.is.1 in
     let split : text ≡ skip.0 ++ ((h.sign ++ (days ++ [])) ++ h.after) =
     skip.2 ∙ ap (λ (l : List ℕ). skip.0 ++ l) (h.split ∙ ap (λ (l : List ℕ). (h.sign ++ l) ++ h.after) body) in
-    let one = one_byte skip.0 h.sign days h.after h.is.0.0 (ap (λ (l : List ℕ). length l) (sym split) ∙ one_test (length text) tests.0) in
+    let one = one_byte skip.0 h.sign days h.after h.is.0.0 (ap (λ (l : List ℕ). length l) (sym split) ∙ eqb-true (length text) 1 tests.0) in
     let digits : AreDigits (one.0 ∷ []) = subst AreDigits one.1 h.is.0.1 in
-    let none : number_of (one.0 ∷ []) ≡ 0 = ap number_of (sym one.1) ∙ zero_test (number_of days) tests.1 in
+    let none : number_of (one.0 ∷ []) ≡ 0 = ap number_of (sym one.1) ∙ eqb-true (number_of days) 0 tests.1 in
     let zero_is : one.0 ≡ 48 = zero_digit one.0 digits none in
     inl (split ∙ one.2 ∙ ap (λ (c : ℕ). c ∷ []) zero_is, sym found.1)
 

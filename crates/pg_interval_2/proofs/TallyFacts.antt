@@ -1,9 +1,11 @@
 -- A tally with one more count.
-use Rattle.std.proofs.Common.{◌≡◌, ℕ, ◌&&◌, Bool, true, false, List, [], ◌∷◌, ◌++◌, ℤ, pos, ◌+ℤ◌, refl, sym, ◌∙◌, ap, arith}
+use Rattle.std.proofs.Common.{◌≡◌, ℕ, Bool, true, false, List, [], ◌∷◌, ◌++◌, ℤ, pos, ◌+ℤ◌, refl, sym, ◌∙◌, ap, arith}
+use Rattle.std.proofs.Math.Bool.{and-false, and-true}
+use Rattle.std.proofs.lemmas.Bool.{both_ways}
 use Rattle.std.proofs.lemmas.Int.{ints}
 use Rattle.scan_core.specs.Count.{Count, count_of}
 use Rattle.scan_core.specs.Digits.{AreDigits}
-use Rattle.scan_core.specs.Shares.{share, signed, fits_type, main_part}
+use Rattle.scan_core.specs.Shares.{share, fits_type, main_part}
 use Rattle.scan_core.specs.Sums.{total}
 use Rattle.scan_core.specs.declared.share.Part.{Part}
 use Rattle.scan_core.specs.declared.share.Part.TheVariants.{Months, Days, Micros}
@@ -14,10 +16,6 @@ use Rattle.scan_core.proofs.SumFacts.{each_fits_push, total_push}
 use Rattle.pg_interval_2.proofs.Signs.{signed-zero, fits_type-signed_zero}
 use Rattle.pg_interval_2.specs.declared.tally.Tally.{Tally}
 use Rattle.pg_interval_2.specs.inside.Tallies.{Tallies, each_fits, marked}
-
-and_true : (x : Bool) → (x && true) ≡ x
-and_true true = refl
-and_true false = refl
 
 -- the new tally is the old one with a share that fits
 pub record AddsShare (old new : Tally) (c : Count) : Type 0 where
@@ -30,7 +28,7 @@ pub record AddsShare (old new : Tally) (c : Count) : Type 0 where
 
 -- one more share that fits, at the end, changes nothing of whether each does
 still_fits : (part : Part) (counts : List Count) (c : Count) → fits_type part (share part c) ≡ true → each_fits part (counts ++ c ∷ []) ≡ each_fits part counts
-still_fits part counts c fits = each_fits_push part counts c ∙ (rw fits (and_true (each_fits part counts)))
+still_fits part counts c fits = each_fits_push part counts c ∙ (rw fits (and-true (each_fits part counts)))
 
 pub tally_share : (old new : Tally) (counts : List Count) (c : Count) → AreDigits c.fraction → fits_type (main_part c.unit) (share (main_part c.unit) c) ≡ true
     → AddsShare old new c → Tallies old counts → Tallies new (counts ++ c ∷ [])
@@ -47,19 +45,12 @@ tally_share old new counts c digits fits adds h =
       micro_sum = λ m d u. adds.micros ∙ ap (λ (z : ℤ). z +ℤ share Micros c) (h.micro_sum (sym months ∙ m) (sym days ∙ d) (sym micros ∙ u)) ∙ sym (total_push Micros counts c);
     }
 
-and_false : (x : Bool) → (x && false) ≡ false
-and_false true = refl
-and_false false = refl
-
-not_both : (x : Bool) → x ≡ false → x ≡ true → ⊥
-not_both x off on = cc
-
 pub off_unless : (x : Bool) → (x ≡ true → false ≡ true) → x ≡ false
 off_unless true h = sym (h refl)
 off_unless false h = refl
 
 no_more_fits : (part : Part) (counts : List Count) (c : Count) → fits_type part (share part c) ≡ false → each_fits part (counts ++ c ∷ []) ≡ false
-no_more_fits part counts c out = each_fits_push part counts c ∙ (rw out (and_false (each_fits part counts)))
+no_more_fits part counts c out = each_fits_push part counts c ∙ (rw out (and-false (each_fits part counts)))
 
 -- a sum with a share of 0
 same_total : (part : Part) (counts : List Count) (c : Count) → share part c ≡ pos 0 → total part counts ≡ total part (counts ++ c ∷ [])
@@ -70,11 +61,11 @@ mark_months tally counts c out h =
     let off = no_more_fits Months counts c out in
     record {
       months = sym off;
-      days = λ m. absurd (not_both _ off m);
-      micros = λ m. absurd (not_both _ off m);
-      month_sum = λ m. absurd (not_both _ off m);
-      day_sum = λ m. absurd (not_both _ off m);
-      micro_sum = λ m. absurd (not_both _ off m);
+      days = λ m. absurd (both_ways _ off m);
+      micros = λ m. absurd (both_ways _ off m);
+      month_sum = λ m. absurd (both_ways _ off m);
+      day_sum = λ m. absurd (both_ways _ off m);
+      micro_sum = λ m. absurd (both_ways _ off m);
     }
 
 mark_days : (tally : Tally) (counts : List Count) (c : Count) → fits_type Months (share Months c) ≡ true → share Months c ≡ pos 0 → fits_type Days (share Days c) ≡ false
@@ -85,10 +76,10 @@ mark_days tally counts c fits zero out h =
     record {
       months = h.months ∙ sym months;
       days = λ m. sym off;
-      micros = λ m d. absurd (not_both _ off d);
+      micros = λ m d. absurd (both_ways _ off d);
       month_sum = λ m. h.month_sum (sym months ∙ m) ∙ same_total Months counts c zero;
-      day_sum = λ m d. absurd (not_both _ off d);
-      micro_sum = λ m d. absurd (not_both _ off d);
+      day_sum = λ m d. absurd (both_ways _ off d);
+      micro_sum = λ m d. absurd (both_ways _ off d);
     }
 
 mark_micros : (tally : Tally) (counts : List Count) (c : Count) → fits_type Months (share Months c) ≡ true → share Months c ≡ pos 0
@@ -104,11 +95,8 @@ mark_micros tally counts c month_fits month_zero day_fits day_zero out h =
       micros = λ m d. sym off;
       month_sum = λ m. h.month_sum (sym months ∙ m) ∙ same_total Months counts c month_zero;
       day_sum = λ m d. h.day_sum (sym months ∙ m) (sym days ∙ d) ∙ same_total Days counts c day_zero;
-      micro_sum = λ m d u. absurd (not_both _ off u);
+      micro_sum = λ m d u. absurd (both_ways _ off u);
     }
-
-zero_fits : (negative : Bool) → fits_type Months (signed negative 0) ≡ true
-zero_fits negative = fits_type-signed_zero Months negative
 
 -- one more count whose share doesn't fit, at the end
 pub tally_mark : (unit : TimeUnit) (negative : Bool) (whole fraction : List ℕ) (tally : Tally) (counts : List Count)
@@ -116,8 +104,8 @@ pub tally_mark : (unit : TimeUnit) (negative : Bool) (whole fraction : List ℕ)
     → Tallies (marked (main_part unit) tally) (counts ++ count_of negative whole fraction unit ∷ [])
 tally_mark Year n w f tally counts out h = mark_months tally counts (count_of n w f Year) out h
 tally_mark Month n w f tally counts out h = mark_months tally counts (count_of n w f Month) out h
-tally_mark Week n w f tally counts out h = mark_days tally counts (count_of n w f Week) (zero_fits n) (signed-zero n) out h
-tally_mark Day n w f tally counts out h = mark_days tally counts (count_of n w f Day) (zero_fits n) (signed-zero n) out h
-tally_mark Hour n w f tally counts out h = mark_micros tally counts (count_of n w f Hour) (zero_fits n) (signed-zero n) (zero_fits n) (signed-zero n) out h
-tally_mark Minute n w f tally counts out h = mark_micros tally counts (count_of n w f Minute) (zero_fits n) (signed-zero n) (zero_fits n) (signed-zero n) out h
-tally_mark Second n w f tally counts out h = mark_micros tally counts (count_of n w f Second) (zero_fits n) (signed-zero n) (zero_fits n) (signed-zero n) out h
+tally_mark Week n w f tally counts out h = mark_days tally counts (count_of n w f Week) (fits_type-signed_zero Months n) (signed-zero n) out h
+tally_mark Day n w f tally counts out h = mark_days tally counts (count_of n w f Day) (fits_type-signed_zero Months n) (signed-zero n) out h
+tally_mark Hour n w f tally counts out h = mark_micros tally counts (count_of n w f Hour) (fits_type-signed_zero Months n) (signed-zero n) (fits_type-signed_zero Months n) (signed-zero n) out h
+tally_mark Minute n w f tally counts out h = mark_micros tally counts (count_of n w f Minute) (fits_type-signed_zero Months n) (signed-zero n) (fits_type-signed_zero Months n) (signed-zero n) out h
+tally_mark Second n w f tally counts out h = mark_micros tally counts (count_of n w f Second) (fits_type-signed_zero Months n) (signed-zero n) (fits_type-signed_zero Months n) (signed-zero n) out h

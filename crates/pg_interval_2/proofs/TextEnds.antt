@@ -63,11 +63,6 @@ no_a bytes before first o g lacks front e =
     let least = append_cancel_right first (front ++ (97 ∷ [])) (103 ∷ []) (sym g ∙ less ∙ sym (append_assoc front (97 ∷ []) (103 ∷ []))) in
     lacks front least
 
-pub three_bytes : (bytes before first last : List ℕ) → bytes ≡ before ++ 111 ∷ [] → before ≡ first ++ 103 ∷ [] → first ≡ last ++ 97 ∷ [] → bytes ≡ last ++ codes "ago"
-three_bytes bytes before first last o g a =
-    o ∙ ap (λ (l : List ℕ). l ++ 111 ∷ []) g ∙ ap (λ (l : List ℕ). (l ++ 103 ∷ []) ++ 111 ∷ []) a
-    ∙ append_assoc (last ++ 97 ∷ []) (103 ∷ []) (111 ∷ []) ∙ append_assoc last (97 ∷ []) (103 ∷ 111 ∷ [])
-
 -- ---- the end of the body
 
 ends_ago : (front : List ℕ) → ends_solid (front ++ codes "ago") ≡ true

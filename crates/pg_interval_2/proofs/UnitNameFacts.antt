@@ -4,7 +4,7 @@ use Rattle.std.specs.Char.{is_ascii_alphabetic}
 use Rattle.std.specs.List.{list_all}
 use Rattle.std.specs.Prelude.{bytes_eq}
 use Rattle.std.proofs.lemmas.Slice.Eq.{bytes_eq-Decides}
-use Rattle.std.proofs.lemmas.Bool.{and_parts}
+use Rattle.std.proofs.lemmas.Bool.{and_parts, ltb-true}
 use Rattle.scan_core.specs.declared.share.Unit.{Unit as TimeUnit}
 use Rattle.scan_core.specs.declared.share.Unit.TheVariants.{Year, Month, Week, Day, Hour, Minute, Second}
 use Rattle.pg_interval_2.specs.inside.ItemReading.{is_name}
@@ -12,7 +12,6 @@ use Rattle.pg_interval_2.specs.inside.NameSets.{names_in}
 use Rattle.pg_interval_2.specs.UnitNames.{is_one_of, unit_named}
 use Rattle.pg_interval_2.specs.declared.unit_names.NameSet.{NameSet}
 use Rattle.pg_interval_2.specs.declared.unit_names.NameSet.TheVariants.{Postgres, Verbose}
-use Rattle.pg_interval_2.proofs.Numbers.{above_zero}
 use Rattle.pg_interval_2.proofs.Verdicts.{AreNames, Names}
 
 either_case : (x y : Bool) {P : Type 0} → (x || y) ≡ true → (x ≡ true → P) → (y ≡ true → P) → P
@@ -62,4 +61,4 @@ set_letters Verbose Second = refl
 -- the names of a set are letters
 pub set_names : (set : NameSet) → AreNames (names_in set)
 set_names set word unit h =
-    let split = and_parts (nat_lt 0 (length word)) (list_all is_ascii_alphabetic word) (named_passes (names_in set) is_name (set_letters set) word unit h) in (above_zero _ split.0, split.1)
+    let split = and_parts (nat_lt 0 (length word)) (list_all is_ascii_alphabetic word) (named_passes (names_in set) is_name (set_letters set) word unit h) in (ltb-true 0 _ split.0, split.1)

@@ -1,7 +1,7 @@
 -- Letters packed into one number: names of few letters are told by it.
 use Rattle.std.proofs.Common.{◌≡◌, ℕ, ◌+◌, ◌*◌, ◌^◌, ◌<◌, ◌≤◌, inl, inr, Bool, true, false, ◌&&◌, ◌||◌, ◌==◌, List, [], ◌∷◌, length, refl, sym, ◌∙◌, ap, ap₂, arith, eqb-true}
 use Rattle.std.proofs.Math.Nat.{mul-le-mul_right, pow-le-pow_right, pow-suc}
-use Rattle.std.proofs.lemmas.Bool.{cases_lt, and_parts}
+use Rattle.std.proofs.lemmas.Bool.{cases_lt, and_parts, ltb-true, eq-eqb}
 use Rattle.std.proofs.lemmas.Bool.Decides.{nat_tests}
 use Rattle.std.proofs.lemmas.Slice.Eq.{bytes_eq-Decides}
 use Rattle.std.specs.Char.{is_ascii_alphabetic}
@@ -80,22 +80,16 @@ same_tests true u f g = sym (f refl)
 same_tests false true f g = g refl
 same_tests false false f g = refl
 
-below_bound : (n : ℕ) → nat_lt n (2 ^ 56) ≡ true → n < 2 ^ 56
-below_bound n h = grind (arith, nat_tests)
-
-is_number : (a b : ℕ) → a ≡ b → (a == b) ≡ true
-is_number a b h = grind (arith, nat_tests)
-
 -- a short name is told by the packed number
 named_so : (letters name : List ℕ) (value : ℕ) → AreLetters letters → is_short name ≡ true → Knows (2 ^ 56) value (packed letters) → (value == packed name) ≡ bytes_eq letters name
 named_so letters name value all short (inl known) =
     let split = and_parts (list_all is_ascii_alphabetic name) (nat_lt (packed name) (2 ^ 56)) short in
     same_tests (value == packed name) (bytes_eq letters name)
     (λ h. (bytes_eq-Decides letters name).1 (one_word letters name all split.0 (sym known ∙ eqb-true value (packed name) h)))
-    (λ h. is_number value (packed name) (known ∙ ap packed ((bytes_eq-Decides letters name).0 h)))
+    (λ h. eq-eqb value (packed name) (known ∙ ap packed ((bytes_eq-Decides letters name).0 h)))
 named_so letters name value all short (inr great) =
     let split = and_parts (list_all is_ascii_alphabetic name) (nat_lt (packed name) (2 ^ 56)) short in
-    let small = below_bound (packed name) split.1 in
+    let small = ltb-true (packed name) (2 ^ 56) split.1 in
     same_tests (value == packed name) (bytes_eq letters name)
     (λ h. absurd (let same = eqb-true value (packed name) h in omega (arith, great.0, small, same)))
     (λ h. absurd (let same = ap packed ((bytes_eq-Decides letters name).0 h) in omega (arith, great.1, small, same)))

@@ -2,7 +2,7 @@
 use Rattle.std.proofs.Common.{◌≡◌, if◌then◌else◌, ℕ, ◌+◌, ◌<◌, ◌||◌, ◌==◌, Bool, true, false, not, List, [], ◌∷◌, ◌++◌, length, Some, refl, sym, ◌∙◌, ap, append_assoc, append-nil, arith, inl, inr, lt-ltb}
 use Rattle.std.proofs.lemmas.Bool.Decides.{nat_tests}
 use Rattle.std.proofs.lemmas.List.Folds.{list_any-append}
-use Rattle.std.proofs.lemmas.Bool.{not-true, and_parts}
+use Rattle.std.proofs.lemmas.Bool.{not-true, and_parts, or_parts}
 use Rattle.scan_core.specs.Count.{Count}
 use Rattle.scan_core.specs.Join.{IsJoin}
 use Rattle.scan_core.specs.Number.{IsNumber}
@@ -50,10 +50,6 @@ number_kind negative whole fraction number h =
 pub counts_unit-append : (unit : TimeUnit) (xs ys : List Count) → counts_unit unit (xs ++ ys) ≡ (counts_unit unit xs || counts_unit unit ys)
 counts_unit-append unit xs ys = list_any-append (λ c. place_of c.unit == place_of unit) xs ys
 
-pub neither : (x y : Bool) → (x || y) ≡ false → (x ≡ false) × (y ≡ false)
-neither true y h = cc
-neither false y h = (refl, h)
-
 pub same_both : (a b : ℕ) → (a == b) ≡ false → (b == a) ≡ false
 same_both a b h = grind (arith, nat_tests)
 
@@ -66,7 +62,7 @@ pub distinct_front : (xs ys : List Count) → has_distinct_units (xs ++ ys) ≡ 
 distinct_front [] ys h = refl
 distinct_front (x ∷ xs) ys h =
     let split = first_alone x (xs ++ ys) h in
-    let alone = (neither (counts_unit x.unit xs) (counts_unit x.unit ys) (sym (counts_unit-append x.unit xs ys) ∙ split.0)).0 in
+    let alone = (or_parts (counts_unit x.unit xs) (counts_unit x.unit ys) (sym (counts_unit-append x.unit xs ys) ∙ split.0)).0 in
     let below = distinct_front xs ys split.1 in
     rw (alone, below) refl
 
@@ -75,8 +71,8 @@ pub fresh_behind : (xs : List Count) (c : Count) (ys : List Count) → has_disti
 fresh_behind [] c ys h = refl
 fresh_behind (x ∷ xs) c ys h =
     let split = first_alone x (xs ++ (c ∷ ys)) h in
-    let behind = (neither (counts_unit x.unit xs) (counts_unit x.unit (c ∷ ys)) (sym (counts_unit-append x.unit xs (c ∷ ys)) ∙ split.0)).1 in
-    let other = same_both (place_of c.unit) (place_of x.unit) (neither (place_of c.unit == place_of x.unit) (counts_unit x.unit ys) behind).0 in
+    let behind = (or_parts (counts_unit x.unit xs) (counts_unit x.unit (c ∷ ys)) (sym (counts_unit-append x.unit xs (c ∷ ys)) ∙ split.0)).1 in
+    let other = same_both (place_of c.unit) (place_of x.unit) (or_parts (place_of c.unit == place_of x.unit) (counts_unit x.unit ys) behind).0 in
     let below = fresh_behind xs c ys split.1 in
     rw (other, below) refl
 
@@ -89,7 +85,7 @@ pub distinct_push : (xs : List Count) (c : Count) → has_distinct_units xs ≡ 
 distinct_push [] c h fresh = refl
 distinct_push (x ∷ xs) c h fresh =
     let split = first_alone x xs h in
-    let apart = neither (place_of x.unit == place_of c.unit) (counts_unit c.unit xs) fresh in
+    let apart = or_parts (place_of x.unit == place_of c.unit) (counts_unit c.unit xs) fresh in
     let alone = one_more_apart x c xs split.0 apart.0 in
     let below = distinct_push xs c split.1 apart.1 in
     rw (alone, below) refl
