@@ -3,17 +3,17 @@ use Rattle.std.proofs.Common.{◌≡◌, ℕ, true, IsTrue, List, [], ◌∷◌,
 use Rattle.std.proofs.lemmas.Int.{ints}
 use Rattle.std.proofs.lemmas.Bool.{and_from}
 use Rattle.std.proofs.lemmas.List.Folds.{list_all-append}
-use Rattle.std.specs.List.{list_all}
 use Rattle.scan_core.specs.Count.{Count}
 use Rattle.scan_core.specs.Digits.{number_of}
-use Rattle.scan_core.specs.Shares.{share, signed, magnitude, scale_of, rounded, fits_type}
+use Rattle.scan_core.specs.Shares.{signed, magnitude, scale_of, rounded, fits_type}
 use Rattle.scan_core.specs.Sums.{total, part_fits}
 use Rattle.scan_core.specs.declared.share.Part.{Part}
 use Rattle.scan_core.proofs.SumFacts.{total-append}
+use Rattle.pg_interval_2.specs.inside.Tallies.{each_fits}
 
 -- this part of each count fits, and their sum is this number
 pub record AddsUp (part : Part) (counts : List Count) (sum : ℤ) : Type 0 where
-  pub each : IsTrue (list_all (λ c. fits_type part (share part c)) counts)
+  pub each : IsTrue (each_fits part counts)
   pub total_is : total part counts ≡ sum
 
 pub AddsUp-append : (part : Part) (xs ys : List Count) (y z : ℤ) → AddsUp part xs y → AddsUp part ys z → AddsUp part (xs ++ ys) (y +ℤ z)

@@ -22,9 +22,10 @@ use Rattle.pg_interval_2.specs.Ranges.{IsInRange}
 use Rattle.pg_interval_2.specs.Parts.{hours_of, minutes_of, seconds_of, subsecond_of}
 use Rattle.pg_interval_2.proofs.Widths.{length_decimal_micros}
 use Rattle.pg_interval_2.proofs.WrittenDigits.{rounded-padded}
-use Rattle.pg_interval_2.proofs.Signs.{Serves, signed-zero, signed-abs, fits_type-serves, fits_type-signed_zero, abs_fits, signed_three}
+use Rattle.scan_core.proofs.Signs.{Serves, signed-zero, signed-abs, fits_type-serves, fits_type-signed_zero, abs_fits, signed_three}
 use Rattle.pg_interval_2.proofs.AddsUp.{AddsUp, AddsUp-one, AddsUp-append, AddsUp-same}
-use Rattle.pg_interval_2.proofs.SumsTo.{SumsTo, time_of, fits_micros}
+use Rattle.scan_core.proofs.FitFacts.{fits_64}
+use Rattle.pg_interval_2.proofs.SumsTo.{SumsTo, time_of}
 use Rattle.pg_interval_2.proofs.WrittenCounts.{magnitude-zero, time_parts}
 
 -- ---- counts that are 0 add nothing
@@ -119,7 +120,7 @@ three_nothing part negative width micros small no_hours no_minutes no_seconds =
 
 pub three_counts-sum : (negative : Bool) (width : ℕ) (t : Interval) → IsInRange t → Serves negative t.microseconds → SumsTo (three_counts negative width t.microseconds) (time_of t)
 three_counts-sum negative width t range serves =
-    let fits : IsTrue (fits_type Micros t.microseconds) = fits_micros t.microseconds range.microseconds in
+    let fits : IsTrue (fits_type Micros t.microseconds) = fits_64 t.microseconds range.microseconds in
     let small : unsigned_abs t.microseconds ≤ 2 ^ 63 = abs_fits Micros t.microseconds fits in
     record {
       months = three_nothing Months negative width t.microseconds small refl refl refl;

@@ -1,23 +1,13 @@
 -- What a text denotes is in the types' range, whatever the style.
-use Rattle.std.proofs.Common.{ℕ, IsTrue, List, ℤ, pos, negsuc, subst, sym}
-use Rattle.std.proofs.lemmas.Bool.{and_parts, ltb-true}
-use Rattle.std.specs.Int.{w32, w64}
-use Rattle.std.specs.Prelude.{FitsSigned}
+use Rattle.std.proofs.Common.{ℕ, IsTrue, List, subst, sym}
+use Rattle.std.proofs.lemmas.Bool.{and_parts}
 use Rattle.scan_core.specs.Count.{Count}
-use Rattle.scan_core.specs.Shares.{is_within}
 use Rattle.scan_core.specs.Sums.{fits, part_fits, total}
 use Rattle.scan_core.specs.declared.share.Part.TheVariants.{Months, Days, Micros}
+use Rattle.scan_core.proofs.FitFacts.{within_32, within_64}
 use Rattle.pg_interval_2.specs.declared.interval.Interval.{Interval}
 use Rattle.pg_interval_2.specs.Denotes.{Denotes, sum_of}
 use Rattle.pg_interval_2.specs.Ranges.{IsInRange}
-
-within_32 : (z : ℤ) → IsTrue (is_within 32 z) → FitsSigned w32 z
-within_32 (pos n) small = record { sfits = ltb-true _ _ small }
-within_32 (negsuc n) small = record { sfits = ltb-true _ _ small }
-
-within_64 : (z : ℤ) → IsTrue (is_within 64 z) → FitsSigned w64 z
-within_64 (pos n) small = record { sfits = ltb-true _ _ small }
-within_64 (negsuc n) small = record { sfits = ltb-true _ _ small }
 
 sum_in_range : (counts : List Count) → IsTrue (fits counts) → IsInRange (sum_of counts)
 sum_in_range counts fit =

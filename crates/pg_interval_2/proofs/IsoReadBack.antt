@@ -1,7 +1,6 @@
 -- A text written in ISO style is read back as its interval, and as no other.
 use Rattle.std.proofs.Common.{◌≡◌, true, ◌&&◌, [], ◌∷◌, ℤ, pos, refl, sym, int_eq}
 use Rattle.std.proofs.lemmas.Bool.{cond_both, and_parts}
-use Rattle.std.proofs.lemmas.Bool.Decides.{Decides-int_eq}
 use Rattle.scan_core.specs.declared.share.Part.{Part}
 use Rattle.scan_core.specs.declared.share.Part.TheVariants.{Months, Days, Micros}
 use Rattle.pg_interval_2.specs.declared.interval.Interval.{Interval}
@@ -12,16 +11,17 @@ use Rattle.pg_interval_2.specs.IsoText.{iso_text}
 use Rattle.pg_interval_2.specs.Ranges.{IsInRange}
 use Rattle.scan_core.proofs.RoundingFacts.{rounded-nil}
 use Rattle.pg_interval_2.proofs.IsoCounts.{one_list}
-use Rattle.pg_interval_2.proofs.Signs.{fits_type-zero, abs_fits}
+use Rattle.scan_core.proofs.Signs.{int_eq-zero, fits_type-zero, abs_fits}
 use Rattle.pg_interval_2.proofs.AddsUp.{AddsUp, AddsUp-one, AddsUp-same}
 use Rattle.pg_interval_2.proofs.WrittenCounts.{magnitude-zero, zero_count, date_counts-sum, time_counts-sum}
 use Rattle.pg_interval_2.proofs.IsoSpelled.{iso_counts, iso_spelled}
 use Rattle.pg_interval_2.proofs.IsoStrictFacts.{is_iso, iso_denoted}
-use Rattle.pg_interval_2.proofs.SumsTo.{SumsTo, SumsTo-date_time, fits_months, fits_micros, Denotes-SumsTo, alone-SumsTo}
+use Rattle.scan_core.proofs.FitFacts.{fits_32, fits_64}
+use Rattle.pg_interval_2.proofs.SumsTo.{SumsTo, SumsTo-date_time, Denotes-SumsTo, alone-SumsTo}
 
 -- the count of zero, for a number that is 0
 zero_sum : (part : Part) (z : ℤ) → int_eq z (pos 0) ≡ true → AddsUp part (zero_count ∷ []) z
-zero_sum part z zero_is = AddsUp-same part _ _ _ (AddsUp-one part zero_count 0 0 refl (rounded-nil 1_000_000) (rw magnitude-zero (fits_type-zero part))) (rw magnitude-zero (sym ((Decides-int_eq z (pos 0)).0 zero_is)))
+zero_sum part z zero_is = AddsUp-same part _ _ _ (AddsUp-one part zero_count 0 0 refl (rounded-nil 1_000_000) (rw magnitude-zero (fits_type-zero part))) (rw magnitude-zero (sym (int_eq-zero z zero_is)))
 
 zero_sums : (t : Interval) → int_eq t.months (pos 0) && (int_eq t.days (pos 0) && int_eq t.microseconds (pos 0)) ≡ true → SumsTo (zero_count ∷ []) t
 zero_sums t zero_is =
@@ -33,7 +33,7 @@ iso_counts_sums : (t : Interval) → IsInRange t → SumsTo (iso_counts t.months
 iso_counts_sums t range = cond_both _ _ _ (λ counts. SumsTo counts t) (zero_sums t) (λ _. SumsTo-date_time _ _ t (date_counts-sum t range) (time_counts-sum t range))
 
 spelled : (t : Interval) → IsInRange t → IsIsoStrict (iso_text t.months t.days t.microseconds) (iso_counts t.months t.days t.microseconds)
-spelled t range = iso_spelled t.months t.days t.microseconds (abs_fits Months t.months (fits_months t.months range.months)) (abs_fits Days t.days (fits_months t.days range.days)) (abs_fits Micros t.microseconds (fits_micros t.microseconds range.microseconds))
+spelled t range = iso_spelled t.months t.days t.microseconds (abs_fits Months t.months (fits_32 t.months range.months)) (abs_fits Days t.days (fits_32 t.days range.days)) (abs_fits Micros t.microseconds (fits_64 t.microseconds range.microseconds))
 
 pub iso_denotes : (t : Interval) → IsInRange t → Denotes IsIso (iso_text t.months t.days t.microseconds) t
 iso_denotes t range = Denotes-SumsTo IsIso _ _ t range (is_iso _ _ (spelled t range)) (iso_counts_sums t range)

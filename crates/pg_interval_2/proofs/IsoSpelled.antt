@@ -1,7 +1,6 @@
 -- A text written in ISO style spells the counts of its interval, in the order of the strict style.
 use Rattle.std.proofs.Common.{◌≡◌, ◌≢◌, ℕ, ◌+◌, ◌<◌, ◌≤◌, ◌^◌, Bool, true, false, ◌&&◌, List, [], ◌∷◌, ◌++◌, length, length-append, codes, decimal, if◌then◌else◌, ◌==◌, ℤ, pos, unsigned_abs, Option, Some, refl, ap, sym, arith, inl, inr, append_assoc, append-nil, eqb-true, int_eq, true≢false, ⊎_elim, ◌∙◌}
 use Rattle.std.proofs.lemmas.Bool.{cond_both, cond-true, cond-false, cases_Bool}
-use Rattle.std.proofs.lemmas.Bool.Decides.{Decides-int_eq}
 use Rattle.std.proofs.lemmas.Fmt.{decimal_nonempty}
 use Rattle.std.specs.Int.{is_negative}
 use Rattle.scan_core.specs.Count.{Count}
@@ -17,7 +16,7 @@ use Rattle.pg_interval_2.specs.Parts.{minus, years_of, months_of, hours_of, minu
 use Rattle.scan_core.proofs.Joins.{IsJoin-append, IsJoin-one}
 use Rattle.scan_core.proofs.PaddedFacts.{digits-padded, length-padded}
 use Rattle.pg_interval_2.proofs.WrittenNumbers.{cond_two, IsNumber-whole, IsNumber-point}
-use Rattle.pg_interval_2.proofs.Signs.{abs_zero}
+use Rattle.scan_core.proofs.Signs.{int_eq-zero, abs_zero}
 use Rattle.pg_interval_2.proofs.WrittenCounts.{part_counts, seconds_counts, zero_count, date_counts, time_counts, time_parts}
 
 -- a part that isn't 0
@@ -171,7 +170,7 @@ no_body micros none =
 no_time : (micros : ℤ) → int_eq micros (pos 0) ≡ true → (iso_time micros ≡ []) × (time_counts micros ≡ [])
 unfolding iso_time
 no_time micros zero_is =
-    let zero : micros ≡ pos 0 = (Decides-int_eq micros (pos 0)).0 zero_is in
+    let zero : micros ≡ pos 0 = int_eq-zero micros zero_is in
     (cond-true _ _ _ zero_is, rw zero refl)
 
 some_time : (micros : ℤ) → int_eq micros (pos 0) ≡ false → iso_time micros ≡ codes "T" ++ time_body micros

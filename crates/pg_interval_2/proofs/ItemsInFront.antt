@@ -1,15 +1,15 @@
 -- An item that stands in front is read.
 use Rattle.std.proofs.Common.{◌≡◌, ℕ, ◌+◌, ◌<◌, Bool, true, List, [], ◌∷◌, ◌++◌, length, Some, None, refl, sym, ◌∙◌, ap, append_assoc, append-nil, arith, inl, inr, codes, lt-ltb}
-use Rattle.scan_core.specs.Blanks.{EndsWord}
+use Rattle.scan_core.specs.Blanks.{is_blank, EndsWord}
 use Rattle.scan_core.specs.Count.{Count}
 use Rattle.scan_core.specs.Number.{IsFraction, IsNumber}
 use Rattle.pg_interval_2.specs.Clock.{IsField, IsClock}
 use Rattle.pg_interval_2.specs.inside.Reading.{read_sign}
 use Rattle.scan_core.specs.Fronts.{NoDigitFirst}
-use Rattle.scan_core.proofs.FrontFacts.{front_of, after_of}
+use Rattle.scan_core.proofs.FrontFacts.{behind_skips, front_of, after_of}
 use Rattle.pg_interval_2.specs.inside.ItemReading.{after_blanks, ClockItem, NamedItem, NoItem, read_byte, read_seconds, read_clock, named_item, read_named, read_item}
 use Rattle.pg_interval_2.proofs.Numbers.{NoPointFirst, NoSignFirst, fraction_of, sign_of, digits_no_sign, tail_no_digit}
-use Rattle.pg_interval_2.proofs.ItemFacts.{AreLetters, AreBlanks, first_letter, first_blank, blank_is_no, letter_is_no, front_letters_of, after_letters_of, skipped, no_skip, ends_test}
+use Rattle.pg_interval_2.proofs.ItemFacts.{AreLetters, AreBlanks, first_letter, first_blank, blank_is_no, letter_is_no, front_letters_of, after_letters_of, no_skip, ends_test}
 
 -- ---- what may follow a number or a clock
 
@@ -64,7 +64,7 @@ pub named_read : (negative : Bool) (whole fraction number blanks letters rest : 
     → read_item (number ++ (blanks ++ (letters ++ rest))) ≡ NamedItem (record { negative = negative; whole = whole; fraction = fraction }) letters rest
 named_read negative whole fraction number blanks letters rest h blank some l ends =
     let read = number_read negative whole fraction number (blanks ++ (letters ++ rest)) h (blanks_close blanks letters rest blank some l) in
-    let skip = skipped blanks (letters ++ rest) blank ∙ no_skip letters rest some l in
+    let skip = behind_skips is_blank blanks (letters ++ rest) blank ∙ no_skip letters rest some l in
     let front = front_letters_of letters rest l ends in
     let after = after_letters_of letters rest l ends in
     let counted = lt-ltb 0 (length letters) some in

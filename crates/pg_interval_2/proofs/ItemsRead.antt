@@ -1,16 +1,17 @@
 -- What is read as an item stands in front.
 use Rattle.std.proofs.Common.{◌≡◌, ℕ, ◌+◌, ◌<◌, ◌&&◌, ◌==◌, Bool, true, false, cond, nat_lt, List, [], ◌∷◌, ◌++◌, length, Option, Some, None, refl, sym, ◌∙◌, ap, append_assoc, inl, inr, codes, eqb-true}
 use Rattle.std.proofs.lemmas.Bool.{and_parts, ltb-true}
+use Rattle.std.specs.Char.{is_ascii_alphabetic}
 use Rattle.scan_core.specs.Blanks.{EndsWord}
 use Rattle.scan_core.specs.Digits.{AreDigits}
 use Rattle.scan_core.specs.Number.{IsSign, IsFraction, IsNumber}
 use Rattle.pg_interval_2.specs.Clock.{IsClock, clock_counts}
 use Rattle.scan_core.specs.Fronts.{front_digits, after_digits}
-use Rattle.scan_core.proofs.FrontFacts.{front_are_digits, front_and_after}
+use Rattle.scan_core.proofs.FrontFacts.{leading_passes, leading_and_behind, front_are_digits, front_and_after}
 use Rattle.pg_interval_2.specs.inside.Reading.{Numeral, read_sign, read_fraction}
 use Rattle.pg_interval_2.specs.inside.ItemReading.{after_blanks, front_letters, after_letters, ends_word, ClockFields, NextItem, ClockItem, NamedItem, NoItem, read_byte, read_seconds, read_clock, named_item, read_named, read_behind_digits, read_item}
 use Rattle.pg_interval_2.proofs.Numbers.{is_fraction, is_sign}
-use Rattle.pg_interval_2.proofs.ItemFacts.{AreLetters, AreBlanks, front_are_letters, letters_and_after, are_skipped, ends_from}
+use Rattle.pg_interval_2.proofs.ItemFacts.{AreLetters, AreBlanks, are_skipped, ends_from}
 
 -- a number stands in front, and letters behind blanks or none
 pub record StandsNamed (bytes : List ℕ) (n : Numeral) (letters rest : List ℕ) : Type 0 where
@@ -59,9 +60,9 @@ letters_stand bytes number rest n digits split =
       digits = digits;
       blank = skip.1;
       some = ltb-true 0 _ tests.0;
-      ascii = front_are_letters name;
+      ascii = leading_passes is_ascii_alphabetic name;
       ends = ends_from (after_letters name) tests.1;
-      split = split ∙ ap (λ (l : List ℕ). number ++ l) (skip.2 ∙ ap (λ (l : List ℕ). skip.0 ++ l) (sym (letters_and_after name)));
+      split = split ∙ ap (λ (l : List ℕ). number ++ l) (skip.2 ∙ ap (λ (l : List ℕ). skip.0 ++ l) (sym (leading_and_behind is_ascii_alphabetic name)));
     })
 
 named_stands : (negative : Bool) (sign whole rest bytes : List ℕ) → IsSign true negative sign → AreDigits whole → bytes ≡ sign ++ (whole ++ rest) → Stands bytes (read_named negative whole rest)

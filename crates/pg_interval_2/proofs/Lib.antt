@@ -1,6 +1,5 @@
 pub mod Widths
 pub mod WrittenDigits
-pub mod Signs
 pub mod AddsUp
 pub mod WrittenCounts
 pub mod WrittenNumbers

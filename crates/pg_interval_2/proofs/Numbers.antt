@@ -1,6 +1,6 @@
 -- A number that stands in front is read, and what is read is a number.
 use Rattle.std.proofs.Common.{◌≡◌, ℕ, ◌+◌, ◌<◌, ◌&&◌, ◌==◌, Bool, true, false, cond, nat_lt, List, [], ◌∷◌, ◌++◌, length, Some, refl, sym, ◌∙◌, ap, subst, append_assoc, arith, inl, inr, codes}
-use Rattle.std.proofs.lemmas.Bool.{ltb-true, eqb-true}
+use Rattle.std.proofs.lemmas.Bool.{ltb-true, eqb-true, and_parts}
 use Rattle.std.specs.Char.{digit_value}
 use Rattle.std.proofs.lemmas.Str.Parse.{digit_from_value}
 use Rattle.std.proofs.lemmas.Bool.Decides.{nat_tests}
@@ -92,19 +92,19 @@ finds_number plus negative whole fraction word rest h d p =
     let sign : read_sign plus (word ++ rest) ≡ (negative, body) = ap (read_sign plus) split ∙ signed in
     rw sign (finds_unsigned negative whole fraction h.tail rest h.digits h.point h.some d p)
 
--- a sign, as tests for a minus and a plus choose it
-sign_if : (t u plus : Bool) (b : ℕ) (bs : List ℕ) → (t ≡ true → b ≡ 45) → (u ≡ true → b ≡ 43)
-    → (sign : List ℕ) × IsSign plus (cond {A = Bool × List ℕ} t (true, bs) (cond (plus && u) (false, bs) (false, b ∷ bs))).0 sign
-    × (b ∷ bs ≡ sign ++ (cond {A = Bool × List ℕ} t (true, bs) (cond (plus && u) (false, bs) (false, b ∷ bs))).1)
-sign_if true u plus b bs minus also = (codes "-", refl, let here = minus refl in rw here refl)
-sign_if false true true b bs minus also = (codes "+", inr (refl, refl), let here = also refl in rw here refl)
-sign_if false false true b bs minus also = ([], inl refl, refl)
-sign_if false true false b bs minus also = ([], inl refl, refl)
-sign_if false false false b bs minus also = ([], inl refl, refl)
+-- a sign, as tests for a minus and a plus choose it, or the default where neither passes
+pub sign_if : (Is : Bool → List ℕ → Type 0) (t u default : Bool) (b : ℕ) (bs : List ℕ) → Is true (codes "-") → (u ≡ true → Is false (codes "+")) → Is default []
+    → (t ≡ true → b ≡ 45) → (u ≡ true → b ≡ 43)
+    → (sign : List ℕ) × Is (cond {A = Bool × List ℕ} t (true, bs) (cond u (false, bs) (default, b ∷ bs))).0 sign
+    × (b ∷ bs ≡ sign ++ (cond {A = Bool × List ℕ} t (true, bs) (cond u (false, bs) (default, b ∷ bs))).1)
+sign_if Is true u default b bs minus plus none is_minus is_plus = (codes "-", minus, let here = is_minus refl in rw here refl)
+sign_if Is false true default b bs minus plus none is_minus is_plus = (codes "+", plus refl, let here = is_plus refl in rw here refl)
+sign_if Is false false default b bs minus plus none is_minus is_plus = ([], none, refl)
 
 pub is_sign : (plus : Bool) (bytes : List ℕ) → (sign : List ℕ) × IsSign plus (read_sign plus bytes).0 sign × (bytes ≡ sign ++ (read_sign plus bytes).1)
 is_sign plus [] = ([], inl refl, refl)
-is_sign plus (b ∷ bs) = sign_if (b == 45) (b == 43) plus b bs (eqb-true b 45) (eqb-true b 43)
+is_sign plus (b ∷ bs) =
+    sign_if (IsSign plus) (b == 45) (plus && b == 43) false b bs refl (λ h. inr ((and_parts plus (b == 43) h).0, refl)) (inl refl) (eqb-true b 45) (λ h. eqb-true b 43 (and_parts plus (b == 43) h).1)
 
 -- what is read behind a sign
 pub record IsUnsigned (negative : Bool) (bytes : List ℕ) (n : Numeral) (rest : List ℕ) : Type 0 where

@@ -25,8 +25,9 @@ use Rattle.pg_interval_2.specs.declared.interval.Interval.{Interval}
 use Rattle.pg_interval_2.specs.declared.style.Style.{Style}
 use Rattle.pg_interval_2.specs.declared.style.Style.TheVariants.{Iso, Postgres, Verbose, Sql, IsoStrict}
 use Rattle.pg_interval_2.proofs.EachByte.{Each, EachWord, each-append, each_word-append, each-digits, each-if, each_word-if}
-use Rattle.pg_interval_2.proofs.Signs.{abs_fits}
-use Rattle.pg_interval_2.proofs.SumsTo.{fits_months, fits_micros}
+use Rattle.scan_core.proofs.Signs.{abs_fits}
+use Rattle.scan_core.proofs.FitFacts.{fits_32, fits_64}
+use Rattle.pg_interval_2.proofs.SumsTo.{}
 
 abbrev OneLine : List ℕ → Type 0
 OneLine bytes = Each is_no_feed bytes
@@ -337,7 +338,7 @@ style_line IsoStrict t m d u = iso_line t.months t.days t.microseconds m d u
 
 pub one_line : (style : Style) (t : Interval) → IsInRange t → IsTrue (list_all is_no_feed (written style t))
 one_line style t range =
-    let months = abs_fits Months t.months (fits_months t.months range.months) in
-    let days = abs_fits Days t.days (fits_months t.days range.days) in
-    let micros = abs_fits Micros t.microseconds (fits_micros t.microseconds range.microseconds) in
+    let months = abs_fits Months t.months (fits_32 t.months range.months) in
+    let days = abs_fits Days t.days (fits_32 t.days range.days) in
+    let micros = abs_fits Micros t.microseconds (fits_64 t.microseconds range.microseconds) in
     (style_line style t months days micros).passes

@@ -1,7 +1,6 @@
 -- A text written in `postgres` style spells the counts of its interval.
 use Rattle.std.proofs.Common.{◌≡◌, ℕ, ◌<◌, ◌≤◌, ◌^◌, Bool, true, false, not, ◌&&◌, ◌==◌, IsTrue, List, [], ◌∷◌, ◌++◌, codes, decimal, filter, if◌then◌else◌, ℤ, pos, unsigned_abs, int_eq, Some, refl, sym, arith, inl, inr, append_assoc, append-nil}
 use Rattle.std.proofs.lemmas.Bool.{cond_both, and_parts}
-use Rattle.std.proofs.lemmas.Bool.Decides.{Decides-int_eq}
 use Rattle.std.proofs.lemmas.Fmt.{decimal_nonempty}
 use Rattle.std.specs.Int.{is_negative}
 use Rattle.scan_core.specs.Count.{Count, count_of}
@@ -20,6 +19,7 @@ use Rattle.pg_interval_2.specs.UnitNames.{postgres_names, unit_named}
 use Rattle.pg_interval_2.proofs.ClockCounts.{micros_digits, three_counts}
 use Rattle.scan_core.proofs.Joins.{IsJoin-append, IsJoin-one}
 use Rattle.scan_core.proofs.PaddedFacts.{digits-padded, length-padded}
+use Rattle.scan_core.proofs.Signs.{int_eq-zero}
 use Rattle.pg_interval_2.proofs.PostgresWords.{AreWords-postgres_words}
 use Rattle.pg_interval_2.proofs.Spaces.{words-join}
 use Rattle.pg_interval_2.proofs.UnitOrder.{RisesFrom, rises_lower, rises_front, rises_filter, distinct_units}
@@ -185,9 +185,9 @@ zero_spelled : (months days micros : ℤ) → int_eq months (pos 0) && (int_eq d
 zero_spelled months days micros zero_is =
     let outer = and_parts _ _ zero_is in
     let inner = and_parts _ _ outer.1 in
-    let no_months : months ≡ pos 0 = (Decides-int_eq months (pos 0)).0 outer.0 in
-    let no_days : days ≡ pos 0 = (Decides-int_eq days (pos 0)).0 inner.0 in
-    let no_micros : micros ≡ pos 0 = (Decides-int_eq micros (pos 0)).0 inner.1 in
+    let no_months : months ≡ pos 0 = int_eq-zero months outer.0 in
+    let no_days : days ≡ pos 0 = int_eq-zero days inner.0 in
+    let no_micros : micros ≡ pos 0 = int_eq-zero micros inner.1 in
     rw (no_months, no_days, no_micros) zero_items
 
 -- the written text spells these counts

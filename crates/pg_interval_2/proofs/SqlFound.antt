@@ -10,21 +10,14 @@ use Rattle.pg_interval_2.specs.Sql.{IsSignOr, HasSeconds}
 use Rattle.pg_interval_2.specs.inside.SqlReading.{SqlWord, YearMonth, Days, Time, seconds_counts, read_sign_or, read_field, short_seconds, read_seconds, read_perhaps_seconds, read_time, read_months, read_behind, closed_word, read_word}
 use Rattle.pg_interval_2.proofs.ItemFacts.{ends_from}
 use Rattle.scan_core.proofs.FrontFacts.{front_are_digits, front_and_after}
-use Rattle.pg_interval_2.proofs.Numbers.{is_fraction}
+use Rattle.pg_interval_2.proofs.Numbers.{is_fraction, sign_if}
 use Rattle.pg_interval_2.proofs.SqlSpelled.{governed}
 
 -- ---- a sign and digits
 
-sign_if : (t u default : Bool) (b : ℕ) (bs : List ℕ) → (t ≡ true → b ≡ 45) → (u ≡ true → b ≡ 43)
-    → (sign : List ℕ) × IsSignOr default (cond {A = Bool × List ℕ} t (true, bs) (cond u (false, bs) (default, b ∷ bs))).0 sign
-    × (b ∷ bs ≡ sign ++ (cond {A = Bool × List ℕ} t (true, bs) (cond u (false, bs) (default, b ∷ bs))).1)
-sign_if true u default b bs minus plus = (codes "-", inl refl, let here = minus refl in rw here refl)
-sign_if false true default b bs minus plus = (codes "+", inl refl, let here = plus refl in rw here refl)
-sign_if false false default b bs minus plus = ([], governed default, refl)
-
 sign_stands : (default : Bool) (bytes : List ℕ) → (sign : List ℕ) × IsSignOr default (read_sign_or default bytes).0 sign × (bytes ≡ sign ++ (read_sign_or default bytes).1)
 sign_stands default [] = ([], governed default, refl)
-sign_stands default (b ∷ bs) = sign_if (b == 45) (b == 43) default b bs (eqb-true b 45) (eqb-true b 43)
+sign_stands default (b ∷ bs) = sign_if (IsSignOr default) (b == 45) (b == 43) default b bs (inl refl) (λ h. inl refl) (governed default) (eqb-true b 45) (eqb-true b 43)
 
 field_stands : (bytes : List ℕ) (r : List ℕ × List ℕ) → read_field bytes ≡ Some r → IsField r.0 × (bytes ≡ r.0 ++ r.1)
 unfolding read_field

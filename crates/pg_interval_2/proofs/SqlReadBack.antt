@@ -1,7 +1,7 @@
 -- A text written in `sql_standard` style is read back as its interval, and as no other.
 use Rattle.std.proofs.Common.{◌≡◌, ◌+◌, ◌*◌, ◌≤◌, ◌^◌, Bool, true, false, not, ◌&&◌, ◌||◌, IsTrue, List, [], ◌∷◌, ◌++◌, decimal, ℤ, pos, negsuc, unsigned_abs, int_eq, refl, sym, arith}
 use Rattle.std.proofs.lemmas.Bool.{cond_both, and_parts, not-true, not-false}
-use Rattle.std.proofs.lemmas.Bool.Decides.{Decides-int_eq, nat_tests}
+use Rattle.std.proofs.lemmas.Bool.Decides.{nat_tests}
 use Rattle.std.proofs.lemmas.Int.{ints}
 use Rattle.std.specs.Int.{is_negative}
 use Rattle.scan_core.specs.Count.{Count, count_of}
@@ -18,17 +18,18 @@ use Rattle.pg_interval_2.specs.Sql.{IsSql}
 use Rattle.pg_interval_2.specs.SqlText.{has_positive, has_all_signs, sql_text}
 use Rattle.pg_interval_2.proofs.AddsUp.{AddsUp-append, AddsUp-same}
 use Rattle.pg_interval_2.proofs.ClockCounts.{field_sum, field_nothing, three_counts, three_counts-sum}
-use Rattle.pg_interval_2.proofs.Signs.{Serves, is_negative-pos, abs_fits, signed-abs, signed_two}
+use Rattle.scan_core.proofs.Signs.{int_eq-zero, Serves, is_negative-pos, abs_fits, signed-abs, signed_two}
 use Rattle.pg_interval_2.proofs.SqlCounts.{one_list}
 use Rattle.pg_interval_2.proofs.SqlSpelled.{year_month_counts, day_counts, plain_counts, sql_counts, sql_spelled}
-use Rattle.pg_interval_2.proofs.SumsTo.{SumsTo, SumsTo-nil, SumsTo-append, months_alone, days_alone, fits_months, fits_micros, Denotes-SumsTo, alone-SumsTo}
+use Rattle.scan_core.proofs.FitFacts.{fits_32, fits_64}
+use Rattle.pg_interval_2.proofs.SumsTo.{SumsTo, SumsTo-nil, SumsTo-append, months_alone, days_alone, Denotes-SumsTo, alone-SumsTo}
 
 -- ---- the sums of the words
 
 year_month-sum : (t : Interval) → IsInRange t → SumsTo (year_month_counts (is_negative t.months) t.months) (months_alone t)
 year_month-sum t range =
     let months = t.months in
-    let fits : IsTrue (fits_type Months months) = fits_months months range.months in
+    let fits : IsTrue (fits_type Months months) = fits_32 months range.months in
     let small : unsigned_abs months ≤ 2 ^ 63 = abs_fits Months months fits in
     let years : Count = count_of (is_negative months) (decimal (years_of months)) [] Year in
     let rest : Count = count_of (is_negative months) (decimal (months_of months)) [] Month in
@@ -46,7 +47,7 @@ year_month-sum t range =
 days-sum : (t : Interval) → IsInRange t → SumsTo (day_counts (is_negative t.days) t.days) (days_alone t)
 days-sum t range =
     let days = t.days in
-    let fits : IsTrue (fits_type Days days) = fits_months days range.days in
+    let fits : IsTrue (fits_type Days days) = fits_32 days range.days in
     let small : unsigned_abs days ≤ 2 ^ 63 = abs_fits Days days fits in
     let count : Count = count_of (is_negative days) (decimal (unsigned_abs days)) [] Day in
     let digits = number_of-decimal (unsigned_abs days) (omega arith) in
@@ -93,9 +94,6 @@ no_opposites : (months days micros : ℤ) → has_all_signs months days micros �
 unfolding has_all_signs
 no_opposites months days micros one = first_false (has_negative months days micros && has_positive months days micros) _ one
 
-zero_is : (z : ℤ) → int_eq z (pos 0) ≡ true → z ≡ pos 0
-zero_is z h = (Decides-int_eq z (pos 0)).0 h
-
 -- a sum with other names of its numbers
 SumsTo-same : (counts : List Count) (t u : Interval) → SumsTo counts t → t.months ≡ u.months → t.days ≡ u.days → t.microseconds ≡ u.microseconds → SumsTo counts u
 SumsTo-same counts t u sums months days micros = record {
@@ -109,15 +107,15 @@ plain-sum t range one =
     cond_both (not (int_eq t.months (pos 0))) _ _ (λ counts. SumsTo counts t)
     (λ some.
     let none = none_beside t.months t.days t.microseconds one (not-true _ some) in
-    SumsTo-same _ _ _ (year_month-sum t range) refl (sym (zero_is t.days none.0)) (sym (zero_is t.microseconds none.1)))
+    SumsTo-same _ _ _ (year_month-sum t range) refl (sym (int_eq-zero t.days none.0)) (sym (int_eq-zero t.microseconds none.1)))
     (λ no_months.
-    let months = zero_is t.months (not-false _ no_months) in
+    let months = int_eq-zero t.months (not-false _ no_months) in
     cond_both (not (int_eq t.days (pos 0))) _ _ (λ counts. SumsTo counts t)
     (λ some.
     let serves = one_sign t.months t.days t.microseconds (not-true _ some) (no_opposites t.months t.days t.microseconds one) in
     SumsTo-append _ _ _ _ _ (days-sum t range) (three_counts-sum (is_negative t.days) 1 t range serves) (omega (arith, ints, months)) (omega (arith, ints)) (omega (arith, ints)))
     (λ no_days.
-    let days = zero_is t.days (not-false _ no_days) in
+    let days = int_eq-zero t.days (not-false _ no_days) in
     SumsTo-same _ _ _ (three_counts-sum (is_negative t.microseconds) 1 t range (signed-abs t.microseconds)) (sym months) (sym days) refl))
 
 sql-sum : (t : Interval) → IsInRange t → SumsTo (sql_counts t.months t.days t.microseconds) t
@@ -126,11 +124,11 @@ sql-sum t range =
     (λ zero.
     let outer = and_parts _ _ zero in
     let inner = and_parts _ _ outer.1 in
-    SumsTo-nil t (zero_is t.months outer.0) (zero_is t.days inner.0) (zero_is t.microseconds inner.1))
+    SumsTo-nil t (int_eq-zero t.months outer.0) (int_eq-zero t.days inner.0) (int_eq-zero t.microseconds inner.1))
     (λ _. cond_both (has_all_signs t.months t.days t.microseconds) _ _ (λ counts. SumsTo counts t) (λ _. signed-sum t range) (λ one. plain-sum t range one))
 
 spelled : (t : Interval) → IsInRange t → IsSql (sql_text t.months t.days t.microseconds) (sql_counts t.months t.days t.microseconds)
-spelled t range = sql_spelled t.months t.days t.microseconds (abs_fits Months t.months (fits_months t.months range.months)) (abs_fits Days t.days (fits_months t.days range.days)) (abs_fits Micros t.microseconds (fits_micros t.microseconds range.microseconds))
+spelled t range = sql_spelled t.months t.days t.microseconds (abs_fits Months t.months (fits_32 t.months range.months)) (abs_fits Days t.days (fits_32 t.days range.days)) (abs_fits Micros t.microseconds (fits_64 t.microseconds range.microseconds))
 
 pub sql_denotes : (t : Interval) → IsInRange t → Denotes IsSql (sql_text t.months t.days t.microseconds) t
 sql_denotes t range = Denotes-SumsTo IsSql _ _ t range (spelled t range) (sql-sum t range)

@@ -1,16 +1,14 @@
 -- Counts whose sum is an interval: a text that spells them denotes it.
-use Rattle.std.proofs.Common.{◌≡◌, ℕ, List, [], ◌++◌, IsTrue, ℤ, pos, negsuc, ◌+ℤ◌, refl, ◌∙◌, sym, arith, lt-ltb}
+use Rattle.std.proofs.Common.{◌≡◌, ℕ, List, [], ◌++◌, IsTrue, pos, ◌+ℤ◌, refl, ◌∙◌, sym, arith}
 use Rattle.std.proofs.lemmas.Int.{ints}
 use Rattle.std.proofs.lemmas.Bool.{and_from}
-use Rattle.std.specs.Int.{w32, w64}
-use Rattle.std.specs.Prelude.{FitsSigned}
 use Rattle.scan_core.specs.Count.{Count}
-use Rattle.scan_core.specs.Shares.{fits_type}
 use Rattle.scan_core.specs.Sums.{fits}
 use Rattle.scan_core.specs.declared.share.Part.TheVariants.{Months, Days, Micros}
 use Rattle.pg_interval_2.specs.declared.interval.Interval.{Interval}
 use Rattle.pg_interval_2.specs.Denotes.{Denotes, sum_of}
 use Rattle.pg_interval_2.specs.Ranges.{IsInRange}
+use Rattle.scan_core.proofs.FitFacts.{fits_32, fits_64}
 use Rattle.pg_interval_2.proofs.AddsUp.{AddsUp, AddsUp-nil, AddsUp-append, AddsUp-same, part_fits-AddsUp}
 
 -- each part of the counts adds up to that of the interval
@@ -49,23 +47,14 @@ SumsTo-append xs ys t u v first second months days micros = record {
 pub SumsTo-date_time : (dates times : List Count) (t : Interval) → SumsTo dates (date_of t) → SumsTo times (time_of t) → SumsTo (dates ++ times) t
 SumsTo-date_time dates times t date time = SumsTo-append dates times (date_of t) (time_of t) t date time (omega (arith, ints)) (omega (arith, ints)) (omega (arith, ints))
 
--- the numbers of a part's type pass its test
-pub fits_months : (z : ℤ) → FitsSigned w32 z → IsTrue (fits_type Months z)
-fits_months (pos n) fit = lt-ltb _ _ fit.sfits
-fits_months (negsuc n) fit = lt-ltb _ _ fit.sfits
-
-pub fits_micros : (z : ℤ) → FitsSigned w64 z → IsTrue (fits_type Micros z)
-fits_micros (pos n) fit = lt-ltb _ _ fit.sfits
-fits_micros (negsuc n) fit = lt-ltb _ _ fit.sfits
-
 pub sum_of-SumsTo : (counts : List Count) (t : Interval) → SumsTo counts t → t ≡ sum_of counts
 sum_of-SumsTo counts t sums = rw (sums.months.total_is, sums.days.total_is, sums.micros.total_is) refl
 
 fits-SumsTo : (counts : List Count) (t : Interval) → IsInRange t → SumsTo counts t → IsTrue (fits counts)
 fits-SumsTo counts t range sums =
-    and_from _ _ (part_fits-AddsUp Months counts t.months sums.months (fits_months t.months range.months))
-    (and_from _ _ (part_fits-AddsUp Days counts t.days sums.days (fits_months t.days range.days))
-    (part_fits-AddsUp Micros counts t.microseconds sums.micros (fits_micros t.microseconds range.microseconds)))
+    and_from _ _ (part_fits-AddsUp Months counts t.months sums.months (fits_32 t.months range.months))
+    (and_from _ _ (part_fits-AddsUp Days counts t.days sums.days (fits_32 t.days range.days))
+    (part_fits-AddsUp Micros counts t.microseconds sums.micros (fits_64 t.microseconds range.microseconds)))
 
 pub Denotes-SumsTo : (Shape : List ℕ → List Count → Type 0) (text : List ℕ) (counts : List Count) (t : Interval) → IsInRange t → Shape text counts → SumsTo counts t → Denotes Shape text t
 Denotes-SumsTo Shape text counts t range spelled sums = (counts, spelled, fits-SumsTo counts t range sums, sum_of-SumsTo counts t sums)

@@ -1,8 +1,9 @@
 -- A tally with one more count.
-use Rattle.std.proofs.Common.{◌≡◌, ℕ, Bool, true, false, List, [], ◌∷◌, ◌++◌, ℤ, pos, ◌+ℤ◌, refl, sym, ◌∙◌, ap, arith}
+use Rattle.std.proofs.Common.{◌≡◌, ℕ, ◌&&◌, Bool, true, false, List, [], ◌∷◌, ◌++◌, ℤ, pos, ◌+ℤ◌, refl, sym, ◌∙◌, ap, arith}
 use Rattle.std.proofs.Math.Bool.{and-false, and-true}
 use Rattle.std.proofs.lemmas.Bool.{both_ways}
 use Rattle.std.proofs.lemmas.Int.{ints}
+use Rattle.std.proofs.lemmas.List.Folds.{list_all-append}
 use Rattle.scan_core.specs.Count.{Count, count_of}
 use Rattle.scan_core.specs.Digits.{AreDigits}
 use Rattle.scan_core.specs.Shares.{share, fits_type, main_part}
@@ -12,10 +13,13 @@ use Rattle.scan_core.specs.declared.share.Part.TheVariants.{Months, Days, Micros
 use Rattle.scan_core.specs.declared.share.Unit.{Unit as TimeUnit}
 use Rattle.scan_core.specs.declared.share.Unit.TheVariants.{Year, Month, Week, Day, Hour, Minute, Second}
 use Rattle.scan_core.proofs.ShareFacts.{each_part_fits}
-use Rattle.scan_core.proofs.SumFacts.{each_fits_push, total_push}
-use Rattle.pg_interval_2.proofs.Signs.{signed-zero, fits_type-signed_zero}
+use Rattle.scan_core.proofs.SumFacts.{total_push}
+use Rattle.scan_core.proofs.Signs.{signed-zero, fits_type-signed_zero}
 use Rattle.pg_interval_2.specs.declared.tally.Tally.{Tally}
 use Rattle.pg_interval_2.specs.inside.Tallies.{Tallies, each_fits, marked}
+
+each_fits_push : (part : Part) (counts : List Count) (c : Count) → each_fits part (counts ++ c ∷ []) ≡ (each_fits part counts && fits_type part (share part c))
+each_fits_push part counts c = list_all-append _ counts (c ∷ []) ∙ ap (λ (b : Bool). each_fits part counts && b) (and-true (fits_type part (share part c)))
 
 -- the new tally is the old one with a share that fits
 pub record AddsShare (old new : Tally) (c : Count) : Type 0 where

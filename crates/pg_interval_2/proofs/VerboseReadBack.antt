@@ -1,7 +1,6 @@
 -- A text written in `postgres_verbose` style is read back as its interval, and as no other.
-use Rattle.std.proofs.Common.{◌≡◌, ℕ, ◌<◌, ◌≤◌, ◌^◌, Bool, true, false, cond, ◌==◌, IsTrue, List, [], ◌∷◌, ◌++◌, decimal, ℤ, pos, unsigned_abs, int_eq, refl, ◌∙◌, ap, ap₂, arith, append_assoc, eqb-true}
+use Rattle.std.proofs.Common.{◌≡◌, ℕ, ◌<◌, ◌≤◌, ◌^◌, Bool, true, false, cond, ◌==◌, IsTrue, List, [], ◌∷◌, ◌++◌, decimal, ℤ, unsigned_abs, refl, ◌∙◌, ap, ap₂, arith, append_assoc, eqb-true}
 use Rattle.std.proofs.lemmas.Bool.{cond_both, and_parts}
-use Rattle.std.proofs.lemmas.Bool.Decides.{Decides-int_eq}
 use Rattle.std.specs.Int.{is_negative}
 use Rattle.scan_core.specs.Count.{Count, count_of}
 use Rattle.scan_core.specs.Padded.{padded}
@@ -20,8 +19,9 @@ use Rattle.pg_interval_2.specs.Turned.{turned_sign, turned_count, turned_counts}
 use Rattle.pg_interval_2.specs.Verbose.{IsVerbose}
 use Rattle.pg_interval_2.specs.VerboseText.{has_ago, verbose_text}
 use Rattle.pg_interval_2.proofs.AddsUp.{AddsUp, AddsUp-one}
-use Rattle.pg_interval_2.proofs.Signs.{abs_fits}
-use Rattle.pg_interval_2.proofs.SumsTo.{SumsTo, SumsTo-nil, SumsTo-date_time, fits_months, fits_micros, Denotes-SumsTo, alone-SumsTo}
+use Rattle.scan_core.proofs.Signs.{int_eq-zero, abs_fits}
+use Rattle.scan_core.proofs.FitFacts.{fits_32, fits_64}
+use Rattle.pg_interval_2.proofs.SumsTo.{SumsTo, SumsTo-nil, SumsTo-date_time, Denotes-SumsTo, alone-SumsTo}
 use Rattle.pg_interval_2.proofs.Turning.{turned-append}
 use Rattle.pg_interval_2.proofs.VerboseCounts.{one_list}
 use Rattle.pg_interval_2.proofs.VerboseSpelled.{micros_behind, second_counts, verbose_counts, written_counts, verbose_spelled}
@@ -80,11 +80,8 @@ has_seconds micros small part = second_counts-sum part (is_negative micros) (sec
 
 counts-sum : (t : Interval) → IsInRange t → SumsTo (verbose_counts false t.months t.days t.microseconds) t
 counts-sum t range =
-    let small = abs_fits Micros t.microseconds (fits_micros t.microseconds range.microseconds) in
+    let small = abs_fits Micros t.microseconds (fits_64 t.microseconds range.microseconds) in
     rw (append_assoc, append_assoc) at (SumsTo-date_time _ _ t (date_counts-sum t range) (time_with-sum t _ range (has_seconds t.microseconds small)))
-
-zero_is : (z : ℤ) → int_eq z (pos 0) ≡ true → z ≡ pos 0
-zero_is z h = (Decides-int_eq z (pos 0)).0 h
 
 sums : (t : Interval) → IsInRange t → SumsTo (written_counts t.months t.days t.microseconds) t
 sums t range =
@@ -92,11 +89,11 @@ sums t range =
     (λ zero.
     let outer = and_parts _ _ zero in
     let inner = and_parts _ _ outer.1 in
-    SumsTo-nil t (zero_is t.months outer.0) (zero_is t.days inner.0) (zero_is t.microseconds inner.1))
+    SumsTo-nil t (int_eq-zero t.months outer.0) (int_eq-zero t.days inner.0) (int_eq-zero t.microseconds inner.1))
     (λ _. rw (turned_all (has_ago t.months t.days t.microseconds) t.months t.days t.microseconds) (counts-sum t range))
 
 spelled : (t : Interval) → IsInRange t → IsVerbose (verbose_text t.months t.days t.microseconds) (written_counts t.months t.days t.microseconds)
-spelled t range = verbose_spelled t.months t.days t.microseconds (abs_fits Months t.months (fits_months t.months range.months)) (abs_fits Days t.days (fits_months t.days range.days)) (abs_fits Micros t.microseconds (fits_micros t.microseconds range.microseconds))
+spelled t range = verbose_spelled t.months t.days t.microseconds (abs_fits Months t.months (fits_32 t.months range.months)) (abs_fits Days t.days (fits_32 t.days range.days)) (abs_fits Micros t.microseconds (fits_64 t.microseconds range.microseconds))
 
 pub verbose_denotes : (t : Interval) → IsInRange t → Denotes IsVerbose (verbose_text t.months t.days t.microseconds) t
 verbose_denotes t range = Denotes-SumsTo IsVerbose _ _ t range (spelled t range) (sums t range)

@@ -7,7 +7,7 @@ use Rattle.scan_core.specs.Blanks.{is_blank, words}
 use Rattle.scan_core.specs.Count.{Count}
 use Rattle.scan_core.specs.Fronts.{leading}
 use Rattle.scan_core.specs.Scanning.{Place, Passes, ahead, front_byte}
-use Rattle.scan_core.proofs.FrontFacts.{leading_passes}
+use Rattle.scan_core.proofs.FrontFacts.{behind_skips, leading_passes}
 use Rattle.scan_core.proofs.WordFacts.{ink, ink-words, weight, total_length}
 use Rattle.pg_interval_2.specs.declared.body.Misread.{Misread}
 use Rattle.pg_interval_2.specs.declared.body.Misread.TheVariants.{BadName, NoItems}
@@ -23,7 +23,7 @@ use Rattle.pg_interval_2.specs.inside.Tallies.{Tallies}
 use Rattle.pg_interval_2.specs.inside.VerboseReading.{solid_behind, ends_solid, IsEnding, IsBehindAt, IsFrontTally, IsFrontMisread}
 use Rattle.pg_interval_2.proofs.BadNames.{bad_verdict, items_verdict}
 use Rattle.pg_interval_2.proofs.Frames.{same_before, same_behind, one_frame, whole_words, words_before}
-use Rattle.pg_interval_2.proofs.ItemFacts.{AreBlanks, skipped}
+use Rattle.pg_interval_2.proofs.ItemFacts.{AreBlanks}
 use Rattle.pg_interval_2.proofs.ItemWords.{words-blanks}
 use Rattle.pg_interval_2.proofs.NoItems.{after_solid}
 use Rattle.pg_interval_2.proofs.TextEnds.{solid-append, blanks_no_solid}
@@ -105,7 +105,7 @@ passed_length front bytes at p =
 -- no `@` stands behind the blanks in front
 pub no_at : (front rest : List ℕ) → rest ≡ after_blanks front → front_byte rest ≢ Some 64 → IsFrontMisread front NoItems
 no_at front rest is other before bytes at =
-    let found : rest ≡ 64 ∷ bytes = is ∙ ap after_blanks at.split ∙ skipped before (64 ∷ bytes) at.blank in
+    let found : rest ≡ 64 ∷ bytes = is ∙ ap after_blanks at.split ∙ behind_skips is_blank before (64 ∷ bytes) at.blank in
     absurd (other (ap front_byte found))
 
 pub zero_tally : (front bytes : List ℕ) (at : ℕ) (ago : Bool) (tally : Tally) → Passed front bytes at → bytes ≡ codes "0" → Tallies tally [] → IsFrontTally front ago tally

@@ -18,9 +18,10 @@ use Rattle.pg_interval_2.specs.Parts.{years_of, months_of, hours_of, minutes_of,
 use Rattle.scan_core.proofs.DigitFacts.{number_of-decimal}
 use Rattle.scan_core.proofs.RoundingFacts.{rounded-nil}
 use Rattle.pg_interval_2.proofs.WrittenDigits.{rounded-padded}
-use Rattle.pg_interval_2.proofs.Signs.{signed-zero, fits_type-smaller, fits_type-signed_zero, abs_fits, signed-abs, signed_two, signed_three}
+use Rattle.scan_core.proofs.Signs.{signed-zero, fits_type-smaller, fits_type-signed_zero, abs_fits, signed-abs, signed_two, signed_three}
 use Rattle.pg_interval_2.proofs.AddsUp.{AddsUp, AddsUp-nil, AddsUp-one, AddsUp-append, AddsUp-same}
-use Rattle.pg_interval_2.proofs.SumsTo.{SumsTo, date_of, time_of, fits_months, fits_micros}
+use Rattle.scan_core.proofs.FitFacts.{fits_32, fits_64}
+use Rattle.pg_interval_2.proofs.SumsTo.{SumsTo, date_of, time_of}
 
 -- the count of a number of a unit, or none where it is 0
 abbrev pub part_counts : Bool → ℕ → TimeUnit → List Count
@@ -149,13 +150,13 @@ time_with-days micros seconds sum fits =
 
 pub date_counts-sum : (t : Interval) → IsInRange t → SumsTo (date_counts t.months t.days) (date_of t)
 date_counts-sum t range =
-    let months : IsTrue (fits_type Months t.months) = fits_months t.months range.months in
-    let days : IsTrue (fits_type Days t.days) = fits_months t.days range.days in
+    let months : IsTrue (fits_type Months t.months) = fits_32 t.months range.months in
+    let days : IsTrue (fits_type Days t.days) = fits_32 t.days range.days in
     record { months = date_counts-months t.months t.days months days; days = date_counts-days t.months t.days months days; micros = date_counts-micros t.months t.days months days }
 
 pub time_with-sum : (t : Interval) (seconds : List Count) → IsInRange t → HasSeconds t.microseconds seconds → SumsTo (time_with t.microseconds seconds) (time_of t)
 time_with-sum t seconds range sum =
-    let fits : IsTrue (fits_type Micros t.microseconds) = fits_micros t.microseconds range.microseconds in
+    let fits : IsTrue (fits_type Micros t.microseconds) = fits_64 t.microseconds range.microseconds in
     record {
       months = time_with-months t.microseconds seconds sum fits;
       days = time_with-days t.microseconds seconds sum fits;
@@ -164,5 +165,5 @@ time_with-sum t seconds range sum =
 
 pub time_counts-sum : (t : Interval) → IsInRange t → SumsTo (time_counts t.microseconds) (time_of t)
 time_counts-sum t range =
-    let small : unsigned_abs t.microseconds ≤ 2 ^ 63 = abs_fits Micros t.microseconds (fits_micros t.microseconds range.microseconds) in
+    let small : unsigned_abs t.microseconds ≤ 2 ^ 63 = abs_fits Micros t.microseconds (fits_64 t.microseconds range.microseconds) in
     time_with-sum t _ range (λ part. seconds_counts-sum part (is_negative t.microseconds) (seconds_of t.microseconds) (subsecond_of t.microseconds) (omega arith) (omega arith))

@@ -1,14 +1,11 @@
 -- The front of a text is found: bytes that pass a test stand there, and none behind them does.
-use Rattle.std.proofs.Common.{◌≡◌, ℕ, ◌≤◌, ◌&&◌, Bool, true, false, cond, List, [], ◌∷◌, ◌++◌, length, refl, ap, arith, take, zero, suc, sym, ◌∙◌}
+use Rattle.std.proofs.Common.{◌≡◌, ℕ, ◌≤◌, Bool, true, false, cond, List, [], ◌∷◌, ◌++◌, length, refl, ap, arith, take, zero, suc, sym, ◌∙◌}
+use Rattle.std.proofs.lemmas.Bool.{and_parts}
 use Rattle.std.specs.Char.{is_ascii_digit}
 use Rattle.std.specs.List.{list_all}
-use Rattle.std.proofs.lemmas.Bool.Decides.{nat_tests}
 use Rattle.scan_core.specs.Digits.{AreDigits}
 use Rattle.scan_core.specs.Fronts.{leading, behind, BeginsWithout, front_digits, after_digits, NoDigitFirst}
 use Rattle.scan_core.proofs.DigitFacts.{digits_from_all, all_from_digits}
-
-both : (t all : Bool) → (t && all) ≡ true → (t ≡ true) × (all ≡ true)
-both t all h = grind (arith, nat_tests)
 
 -- ---- any test
 
@@ -16,12 +13,18 @@ both t all h = grind (arith, nat_tests)
 pub leading_of : (test : ℕ → Bool) (front rest : List ℕ) → list_all test front ≡ true → BeginsWithout test rest → leading test (front ++ rest) ≡ front
 leading_of test [] [] all n = refl
 leading_of test [] (b ∷ bs) all n = rw n refl
-leading_of test (c ∷ cs) rest all n = let p = both (test c) (list_all test cs) all in rw p.0 (ap (λ (l : List ℕ). c ∷ l) (leading_of test cs rest p.1 n))
+leading_of test (c ∷ cs) rest all n = let p = and_parts (test c) (list_all test cs) all in rw p.0 (ap (λ (l : List ℕ). c ∷ l) (leading_of test cs rest p.1 n))
+
+pub behind_skips : (test : ℕ → Bool) (front rest : List ℕ) → list_all test front ≡ true → behind test (front ++ rest) ≡ behind test rest
+behind_skips test [] rest all = refl
+behind_skips test (c ∷ cs) rest all = let p = and_parts (test c) (list_all test cs) all in rw p.0 (behind_skips test cs rest p.1)
+
+behind_none : (test : ℕ → Bool) (rest : List ℕ) → BeginsWithout test rest → behind test rest ≡ rest
+behind_none test [] n = refl
+behind_none test (b ∷ bs) n = rw n refl
 
 pub behind_of : (test : ℕ → Bool) (front rest : List ℕ) → list_all test front ≡ true → BeginsWithout test rest → behind test (front ++ rest) ≡ rest
-behind_of test [] [] all n = refl
-behind_of test [] (b ∷ bs) all n = rw n refl
-behind_of test (c ∷ cs) rest all n = let p = both (test c) (list_all test cs) all in rw p.0 (behind_of test cs rest p.1 n)
+behind_of test front rest all n = behind_skips test front rest all ∙ behind_none test rest n
 
 all_if : (test : ℕ → Bool) (t : Bool) (b : ℕ) (bs : List ℕ) → test b ≡ t → list_all test bs ≡ true → list_all test (cond t (b ∷ bs) []) ≡ true
 all_if test true b bs e h = rw (e, h) refl

@@ -7,6 +7,7 @@ pub mod Scans
 pub mod RunFacts
 pub mod Spending
 pub mod ShareFacts
+pub mod Signs
 pub mod FitFacts
 pub mod SumFacts
 pub mod WordFacts

@@ -1,6 +1,7 @@
 -- Digits with leading zeros: how many they are, the number that they write, and their last digit.
-use Rattle.std.proofs.Common.{◌≡◌, ℕ, zero, suc, ◌+◌, ◌-◌, ◌/◌, ◌%◌, ◌^◌, ◌<◌, ◌≤◌, List, [], ◌∷◌, ◌++◌, length, decimal, replicate, max, append_assoc, length-append, arith, refl, sym, ap, ◌∙◌}
+use Rattle.std.proofs.Common.{◌≡◌, ℕ, zero, suc, ◌+◌, ◌-◌, ◌/◌, ◌%◌, ◌^◌, ◌<◌, ◌≤◌, [], ◌∷◌, ◌++◌, length, decimal, replicate, max, append_assoc, length-append, arith, refl, sym, ap, ◌∙◌}
 use Rattle.std.proofs.lemmas.Fmt.{decimal_digit, decimal_step, decimal_nonempty}
+use Rattle.std.proofs.lemmas.List.{length_push}
 use Rattle.scan_core.specs.Digits.{AreDigits, number_of}
 use Rattle.scan_core.specs.Padded.{padded}
 use Rattle.scan_core.proofs.DigitFacts.{digits-append, digits-zeros, number_of-zeros, digits_decimal, number_of-decimal}
@@ -24,14 +25,11 @@ padded_some width n fits = let some = decimal_nonempty n fits in omega (arith, l
 
 -- ---- the last digit
 
-pub length_one_more : (xs : List ℕ) (c : ℕ) → length (xs ++ (c ∷ [])) ≡ length xs + 1
-length_one_more xs c = rw length-append refl
-
 -- a number from 10 on: its last digit, behind all others in a width less by one
 pub padded_more : (width n : ℕ) → 10 ≤ n → n < 2 ^ 64 → padded width n ≡ padded (width - 1) (n / 10) ++ ((48 + n % 10) ∷ [])
 padded_more width n ten fits =
     let step = decimal_step n ten fits in
-    let long = ap length step ∙ length_one_more (decimal (n / 10)) (48 + n % 10) in
+    let long = ap length step ∙ length_push (decimal (n / 10)) (48 + n % 10) in
     let zeros : width - length (decimal n) ≡ (width - 1) - length (decimal (n / 10)) = omega (arith, long) in
     rw (zeros, step) (sym (append_assoc (replicate ((width - 1) - length (decimal (n / 10))) 48) (decimal (n / 10)) ((48 + n % 10) ∷ [])))
 

@@ -1,5 +1,5 @@
 -- Bytes that a scan has passed: one after the other, and all of a class that stand in front.
-use Rattle.std.proofs.Common.{◌≡◌, ◌⊎◌, inl, inr, ℕ, ◌+◌, ◌-◌, ◌≤◌, ◌&&◌, Bool, true, List, [], ◌∷◌, ◌++◌, length, take, Option, Some, IfSome, refl, sym, subst, ◌∙◌, ap, append_assoc, append-nil, length-append, arith}
+use Rattle.std.proofs.Common.{◌≡◌, ◌⊎◌, inl, inr, ℕ, ◌-◌, ◌≤◌, ◌&&◌, Bool, true, List, [], ◌∷◌, ◌++◌, length, take, Option, Some, IfSome, refl, sym, subst, ◌∙◌, ap, append_assoc, append-nil, length-append, arith}
 use Rattle.std.proofs.lemmas.List.{take_all}
 use Rattle.std.proofs.lemmas.List.Folds.{list_all-append}
 use Rattle.std.specs.List.{list_all}
@@ -21,10 +21,6 @@ passes_more xs ys old mid new p q = record {
 pub front_passed : (b : ℕ) (passed : Option ℕ) (old new : Place) → passed ≡ front_byte (ahead old) → front_byte (ahead old) ≡ Some b → IfSome passed (λ byte. Passes (byte ∷ []) old new)
     → Passes (b ∷ []) old new
 front_passed b passed old new is front passes = subst (λ (o : Option ℕ). IfSome o (λ byte. Passes (byte ∷ []) old new)) (is ∙ front) passes
-
--- how many bytes are left
-pub passed_length : (bytes : List ℕ) (old new : Place) → Passes bytes old new → length (ahead old) ≡ length bytes + length (ahead new)
-passed_length bytes old new p = ap (λ (l : List ℕ). length l) p.split ∙ length-append bytes (ahead new)
 
 take_front : (xs ys : List ℕ) → take (length xs) (xs ++ ys) ≡ xs
 take_front [] ys = refl

@@ -1,5 +1,5 @@
 -- Which parts of a share fit their types: the parts beside a unit's main one always do.
-use Rattle.std.proofs.Common.{◌≡◌, ◌≢◌, ℕ, zero, suc, ◌*◌, ◌^◌, ◌<◌, ◌≤◌, ◌⊎◌, Bool, true, false, arith, inl, inr, pos, refl, subst, sym}
+use Rattle.std.proofs.Common.{◌≡◌, ◌≢◌, ℕ, zero, suc, ◌*◌, ◌^◌, ◌<◌, ◌≤◌, ◌⊎◌, Bool, true, false, arith, inl, inr, refl, subst, sym}
 use Rattle.std.proofs.lemmas.Bool.Decides.{nat_tests}
 use Rattle.scan_core.specs.Count.{Count}
 use Rattle.scan_core.specs.Digits.{AreDigits, number_of}
@@ -66,27 +66,3 @@ each_part_fits part c digits main =
       | inl same ↦ subst (λ (p : Part). fits_type p (share p c) ≡ true) (sym same) main
       | inr fits ↦ fits
     ]
-
--- ---- the parts above the main one are 0
-
-zero_signed : (negative : Bool) → signed negative 0 ≡ pos 0
-zero_signed false = refl
-zero_signed true = refl
-
-no_months : (unit : TimeUnit) (negative : Bool) (w r : ℕ) → main_part unit ≢ Months → signed negative (magnitude Months unit w r) ≡ pos 0
-no_months Year negative w r other = absurd (other refl)
-no_months Month negative w r other = absurd (other refl)
-no_months Week negative w r other = zero_signed negative
-no_months Day negative w r other = zero_signed negative
-no_months Hour negative w r other = zero_signed negative
-no_months Minute negative w r other = zero_signed negative
-no_months Second negative w r other = zero_signed negative
-
-no_days : (unit : TimeUnit) (negative : Bool) (w r : ℕ) → main_part unit ≡ Micros → signed negative (magnitude Days unit w r) ≡ pos 0
-no_days Year negative w r micros = zero_signed negative
-no_days Month negative w r micros = cc
-no_days Week negative w r micros = cc
-no_days Day negative w r micros = cc
-no_days Hour negative w r micros = zero_signed negative
-no_days Minute negative w r micros = zero_signed negative
-no_days Second negative w r micros = zero_signed negative

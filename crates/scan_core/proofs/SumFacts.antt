@@ -1,19 +1,12 @@
 -- Sums over counts: joined lists, one count more, what fits, and what doesn't first.
-use Rattle.std.proofs.Common.{◌≡◌, Bool, true, false, ◌&&◌, List, [], ◌∷◌, ◌++◌, None, ap, arith, refl, ◌∙◌}
-use Rattle.std.proofs.Math.Bool.{and-true}
+use Rattle.std.proofs.Common.{◌≡◌, Bool, true, false, ◌&&◌, List, [], ◌∷◌, ◌++◌, None, arith, refl}
 use Rattle.std.proofs.lemmas.Int.{ints}
-use Rattle.std.proofs.lemmas.List.Folds.{list_all-append}
-use Rattle.std.specs.List.{list_all}
 use Rattle.std.specs.Prelude.{◌+ℤ◌, ◌↔◌}
 use Rattle.scan_core.specs.Count.{Count}
-use Rattle.scan_core.specs.Shares.{fits_type, share}
+use Rattle.scan_core.specs.Shares.{share}
 use Rattle.scan_core.specs.Sums.{first_false, fits, misfit, part_fits, total}
 use Rattle.scan_core.specs.declared.share.Part.{Part}
 use Rattle.scan_core.specs.declared.share.Part.TheVariants.{Days, Micros, Months}
-
--- each count's part is in its type
-abbrev pub each_fits : Part → List Count → Bool
-each_fits part counts = list_all (λ c. fits_type part (share part c)) counts
 
 -- ---- the sum
 
@@ -23,14 +16,6 @@ total-append part (x ∷ xs) ys = omega (arith, ints, total-append part xs ys)
 
 pub total_push : (part : Part) (counts : List Count) (c : Count) → total part (counts ++ c ∷ []) ≡ total part counts +ℤ share part c
 total_push part counts c = omega (arith, ints, total-append part counts (c ∷ []))
-
--- ---- each share
-
-pub each_fits-append : (part : Part) (xs ys : List Count) → each_fits part (xs ++ ys) ≡ (each_fits part xs && each_fits part ys)
-each_fits-append part xs ys = list_all-append (λ c. fits_type part (share part c)) xs ys
-
-pub each_fits_push : (part : Part) (counts : List Count) (c : Count) → each_fits part (counts ++ c ∷ []) ≡ (each_fits part counts && fits_type part (share part c))
-each_fits_push part counts c = each_fits-append part counts (c ∷ []) ∙ ap (λ (b : Bool). each_fits part counts && b) (and-true (fits_type part (share part c)))
 
 -- ---- the first part that doesn't fit
 

@@ -1,13 +1,14 @@
 -- Digits without the zeros at their end: zeros fill them up to all the digits, and as a fraction they are the same number.
 use Rattle.std.proofs.Common.{◌≡◌, ◌≢◌, ℕ, zero, suc, ◌+◌, ◌-◌, ◌*◌, ◌/◌, ◌%◌, ◌^◌, ◌<◌, ◌==◌, inl, inr, Bool, true, false, cond, List, [], ◌∷◌, ◌++◌, length, replicate, append-nil, refl, sym, ◌∙◌, ap, subst, arith}
 use Rattle.std.proofs.Math.Nat.{div-div-eq-div-mul, mul-div_cancel_left, pow-suc}
-use Rattle.std.proofs.lemmas.Bool.{cases_lt}
+use Rattle.std.proofs.lemmas.Bool.{cases_lt, eqb-true}
 use Rattle.std.proofs.lemmas.Bool.Decides.{nat_tests}
+use Rattle.std.proofs.lemmas.List.{length_push}
 use Rattle.scan_core.specs.Digits.{AreDigits, number_of}
 use Rattle.scan_core.specs.Padded.{padded, onto_trimmed, trimmed}
 use Rattle.scan_core.specs.Shares.{rounded}
 use Rattle.scan_core.proofs.DigitFacts.{digits_left, number_of-append, number_of-zeros}
-use Rattle.scan_core.proofs.PaddedFacts.{number_of-padded, length_one_more, padded_more, padded_digit}
+use Rattle.scan_core.proofs.PaddedFacts.{number_of-padded, padded_more, padded_digit}
 
 -- ---- a digit at the end
 
@@ -38,7 +39,7 @@ pub zero_dropped : (width n : ℕ) → 0 < n → n < 2 ^ 64 → n % 10 ≡ 0
 zero_dropped width n some fits none =
     let split = padded_more width n (omega (arith, some, none)) fits in
     let last = rw none at split in
-    (ap trimmed last ∙ trimmed_zero (padded (width - 1) (n / 10)), ap length last ∙ length_one_more (padded (width - 1) (n / 10)) 48)
+    (ap trimmed last ∙ trimmed_zero (padded (width - 1) (n / 10)), ap length last ∙ length_push (padded (width - 1) (n / 10)) 48)
 
 -- the digits are kept where the last is no zero
 pub kept : (width n : ℕ) → n < 2 ^ 64 → n % 10 ≢ 0 → trimmed (padded width n) ≡ padded width n
@@ -67,15 +68,12 @@ trimmed_nothing width = ap trimmed (padded_digit width 0 (omega arith)) ∙ trim
 abbrev pub Fills : List ℕ → List ℕ → Type 0
 Fills text digits = (k : ℕ) × (digits ≡ text ++ replicate k 48)
 
-is_zero : (b : ℕ) → (b == 48) ≡ true → b ≡ 48
-is_zero b h = grind (arith, nat_tests)
-
 alone_if : (t : Bool) (b k : ℕ) (bs : List ℕ) → (t ≡ true → b ≡ 48) → bs ≡ replicate k 48 → Fills (cond {A = List ℕ} t [] (b ∷ [])) (b ∷ bs)
 alone_if true b k bs is e = (suc k, rw (is refl, e) refl)
 alone_if false b k bs is e = (k, rw e refl)
 
 onto_fills : (b k : ℕ) (front bs : List ℕ) → bs ≡ front ++ replicate k 48 → Fills (onto_trimmed b front) (b ∷ bs)
-onto_fills b k [] bs e = alone_if (b == 48) b k bs (is_zero b) e
+onto_fills b k [] bs e = alone_if (b == 48) b k bs (eqb-true b 48) e
 onto_fills b k (c ∷ cs) bs e = (k, ap (λ (l : List ℕ). b ∷ l) e)
 
 pub trimmed_fills : (ds : List ℕ) → Fills (trimmed ds) ds
@@ -109,7 +107,7 @@ rounded-zero_behind : (scale : ℕ) (ds : List ℕ) → rounded scale (ds ++ (48
 unfolding rounded
 rounded-zero_behind scale ds =
     let number : number_of (ds ++ (48 ∷ [])) ≡ number_of ds * 10 = number_of-append ds (48 ∷ []) ∙ omega arith in
-    let longer : length (ds ++ (48 ∷ [])) ≡ suc (length ds) = omega (arith, length_one_more ds 48) in
+    let longer : length (ds ++ (48 ∷ [])) ≡ suc (length ds) = omega (arith, length_push ds 48) in
     let power : 10 ^ length (ds ++ (48 ∷ [])) ≡ 10 ^ length ds * 10 = ap (λ (k : ℕ). 10 ^ k) longer ∙ pow-suc 10 (length ds) in
     rw (number, power) (tens (number_of ds) scale (10 ^ length ds))
 

@@ -1,7 +1,7 @@
 -- A number by its sign and magnitude.
-use Rattle.std.proofs.Common.{◌≡◌, ℕ, zero, suc, ◌+◌, ◌≤◌, ◌^◌, ◌-◌, Bool, true, false, IsTrue, ℤ, pos, negsuc, ◌+ℤ◌, unsigned_abs, refl, ap, arith, lt-ltb, ltb-true}
+use Rattle.std.proofs.Common.{◌≡◌, ℕ, zero, suc, ◌+◌, ◌≤◌, ◌^◌, ◌-◌, Bool, true, false, IsTrue, ℤ, pos, negsuc, ◌+ℤ◌, unsigned_abs, int_eq, refl, ap, arith, lt-ltb, ltb-true}
 use Rattle.std.proofs.lemmas.Int.{ints}
-use Rattle.std.proofs.lemmas.Bool.Decides.{nat_tests}
+use Rattle.std.proofs.lemmas.Bool.Decides.{Decides-int_eq, nat_tests}
 use Rattle.std.specs.Int.{is_negative}
 use Rattle.scan_core.specs.Shares.{signed, is_within, fits_type}
 use Rattle.scan_core.specs.declared.share.Part.{Part}
@@ -69,6 +69,9 @@ signed_two z m n whole = rw (signed-add (is_negative z) m n, whole) (signed-abs 
 
 pub signed_three : (negative : Bool) (z : ℤ) (k m n : ℕ) → Serves negative z → k + (m + n) ≡ unsigned_abs z → signed negative k +ℤ (signed negative m +ℤ signed negative n) ≡ z
 signed_three negative z k m n serves whole = rw (signed-add negative m n, signed-add negative k (m + n), whole) serves
+
+pub int_eq-zero : (z : ℤ) → int_eq z (pos 0) ≡ true → z ≡ pos 0
+int_eq-zero z h = (Decides-int_eq z (pos 0)).0 h
 
 pub abs_zero : (z : ℤ) → unsigned_abs z ≡ 0 → z ≡ pos 0
 abs_zero (pos n) none = ap pos none
