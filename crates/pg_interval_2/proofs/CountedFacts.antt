@@ -1,12 +1,12 @@
 -- Items counted one after the other.
-use Rattle.std.proofs.Common.{◌≡◌, ◌≢◌, ℕ, ◌||◌, ◌==◌, Bool, true, false, cond, List, [], ◌∷◌, ◌++◌, refl, sym, ◌∙◌, ap, subst, append_assoc, append-nil, length-append, arith, inl, inr, ◌+◌, ◌≤◌, length, codes, take, Some}
+use Rattle.std.proofs.Common.{◌≡◌, ◌≢◌, ℕ, Bool, true, false, cond, List, [], ◌∷◌, ◌++◌, refl, sym, ◌∙◌, ap, subst, append_assoc, append-nil, length-append, arith, inl, inr, ◌+◌, ◌≤◌, length, codes, take, Some}
 use Rattle.std.specs.Prelude.{filter}
 use Rattle.std.proofs.Math.Bool.{or-false, or-true}
-use Rattle.std.proofs.lemmas.Bool.{false_from_ne_true}
+use Rattle.std.proofs.lemmas.Bool.{false_from_ne_true, eq-eqb}
 use Rattle.std.proofs.lemmas.Bool.Decides.{eqb_tells}
 use Rattle.scan_core.specs.Count.{Count, count_of}
 use Rattle.scan_core.specs.declared.share.Unit.{Unit as TimeUnit}
-use Rattle.scan_core.specs.declared.share.Unit.TheVariants.{Year, Month, Week, Day, Hour, Minute, Second}
+use Rattle.scan_core.specs.declared.share.Unit.TheVariants.{Second}
 use Rattle.pg_interval_2.specs.declared.counted.Counted.{Counted}
 use Rattle.pg_interval_2.specs.Clock.{is_nonzero}
 use Rattle.pg_interval_2.specs.inside.CountedItems.{IsCounted, CountsPerhaps, CountsAll}
@@ -25,33 +25,8 @@ use Rattle.pg_interval_2.specs.UnitNames.{unit_named}
 use Rattle.pg_interval_2.proofs.Turning.{turned_fields}
 use Rattle.pg_interval_2.specs.inside.Tallies.{Tallies}
 use Rattle.pg_interval_2.specs.inside.UnitSets.{holds_unit}
+use Rattle.pg_interval_2.proofs.UnitFacts.{same_unit}
 use Rattle.pg_interval_2.proofs.Verdicts.{counts_unit-append, same_both, distinct_push, fresh_behind}
-
-unit_at : ℕ → TimeUnit
-unit_at n = cond (n == 0) Year (cond (n == 1) Month (cond (n == 2) Week (cond (n == 3) Day (cond (n == 4) Hour (cond (n == 5) Minute Second)))))
-
-at_place : (unit : TimeUnit) → unit_at (place_of unit) ≡ unit
-unfolding unit_at
-at_place Year = refl
-at_place Month = refl
-at_place Week = refl
-at_place Day = refl
-at_place Hour = refl
-at_place Minute = refl
-at_place Second = refl
-
-same_place_test : (unit : TimeUnit) → ((place_of unit == place_of unit) || false) ≡ true
-same_place_test Year = refl
-same_place_test Month = refl
-same_place_test Week = refl
-same_place_test Day = refl
-same_place_test Hour = refl
-same_place_test Minute = refl
-same_place_test Second = refl
-
--- units at one place are one
-pub same_unit : (a b : TimeUnit) → place_of a ≡ place_of b → a ≡ b
-same_unit a b h = sym (at_place a) ∙ ap unit_at h ∙ at_place b
 
 -- the units of one more count
 units_push : (counts : List Count) (c : Count) (old new : Counted) → ((unit : TimeUnit) → holds_unit old.units unit ≡ counts_unit unit counts) → holds_unit new.units c.unit ≡ true
@@ -60,7 +35,7 @@ units_push counts c old new units same others unit =
     elim (eqb_tells (place_of unit) (place_of c.unit)) [
       | inl equal ↦
           let here = (same_unit unit c.unit equal.1) in
-          rw here (same ∙ sym (counts_unit-append c.unit counts (c ∷ []) ∙ rw (same_place_test c.unit) (or-true (counts_unit c.unit counts))))
+          rw here (same ∙ sym (counts_unit-append c.unit counts (c ∷ []) ∙ rw (eq-eqb (place_of c.unit) (place_of c.unit) refl) (or-true (counts_unit c.unit counts))))
       | inr apart ↦
           let other = same_both (place_of unit) (place_of c.unit) apart.0 in
           others unit apart.1 ∙ units unit ∙ sym (counts_unit-append unit counts (c ∷ []) ∙ rw other (or-false (counts_unit unit counts)))

@@ -8,8 +8,7 @@ use Rattle.pg_interval_2.specs.IsoStrict.{AreInOrder, units_in_order}
 use Rattle.pg_interval_2.specs.Postgres.{place_of}
 use Rattle.pg_interval_2.specs.declared.order.Order.{Order}
 use Rattle.pg_interval_2.specs.inside.Orders.{Orders, behind_last, end_place, first_place, is_kept, place_behind}
-use Rattle.pg_interval_2.proofs.CountedFacts.{same_unit}
-use Rattle.pg_interval_2.proofs.UnitFacts.{place_small}
+use Rattle.pg_interval_2.proofs.UnitFacts.{place_small, same_unit}
 
 -- ---- what may follow
 
@@ -20,6 +19,10 @@ behind_push least (x ∷ xs) c = behind_push (place_behind least (place_of x.uni
 behind_next : (least place : ℕ) → least ≤ place → place_behind least place ≡ place + 1
 behind_next least place h = let next : nat_le least place ≡ true = le-leb least place h in rw next refl
 
+-- a first count that may follow
+goes_on : (least : ℕ) (c : Count) (cs : List Count) → least ≤ place_of c.unit → behind_last least (c ∷ cs) ≡ behind_last (place_of c.unit + 1) cs
+goes_on least c cs h = ap (λ (place : ℕ). behind_last place cs) (behind_next least (place_of c.unit) h)
+
 behind_none : (least place : ℕ) → place < least → place_behind least place ≡ 8
 behind_none least place h = let none : nat_le least place ≡ false = grind (arith, nat_tests) in rw none refl
 
@@ -27,6 +30,9 @@ behind_none least place h = let none : nat_le least place ≡ false = grind (ari
 stays : (counts : List Count) → behind_last 8 counts ≡ 8
 stays [] = refl
 stays (c ∷ cs) = ap (λ (least : ℕ). behind_last least cs) (behind_none 8 (place_of c.unit) (place_small c.unit)) ∙ stays cs
+
+broken : (least : ℕ) (c : Count) (cs : List Count) → place_of c.unit < least → behind_last least (c ∷ cs) ≡ 8
+broken least c cs h = ap (λ (place : ℕ). behind_last place cs) (behind_none least (place_of c.unit) h) ∙ stays cs
 
 -- ---- places and lists of units
 
@@ -41,19 +47,16 @@ stand-le from to (unit ∷ units) stand = omega (arith, stand-le (suc from) to u
 
 -- a first unit that isn't behind the least place
 out_of_order : (least to : ℕ) (c : Count) (cs : List Count) {P : Type 0} → to < 8 → place_of c.unit < least → behind_last least (c ∷ cs) ≤ to → P
-out_of_order least to c cs below less high =
-    let broken : behind_last least (c ∷ cs) ≡ 8 = ap (λ (place : ℕ). behind_last place cs) (behind_none least (place_of c.unit) less) ∙ stays cs in
-    absurd (omega (arith, broken, high, below))
+out_of_order least to c cs below less high = absurd (omega (arith, broken least c cs less, high, below))
 
 least_grows : (least : ℕ) (counts : List Count) → least ≤ 8 → least ≤ behind_last least counts
 least_grows least [] h = omega arith
 least_grows least (c ∷ cs) h =
     elim (cases_lt (place_of c.unit) least) [
-      | inl less ↦ (let broken : behind_last least (c ∷ cs) ≡ 8 = ap (λ (place : ℕ). behind_last place cs) (behind_none least (place_of c.unit) less) ∙ stays cs in omega (arith, broken, h))
+      | inl less ↦ omega (arith, broken least c cs less, h)
       | inr next ↦
           let below = least_grows (place_of c.unit + 1) cs (omega (arith, place_small c.unit)) in
-          let step : behind_last least (c ∷ cs) ≡ behind_last (place_of c.unit + 1) cs = ap (λ (place : ℕ). behind_last place cs) (behind_next least (place_of c.unit) (omega (arith, next))) in
-          omega (arith, below, step, next)
+          omega (arith, below, goes_on least c cs (omega (arith, next)), next)
     ]
 
 in_order_ends : (units : List TimeUnit) (from to : ℕ) (counts : List Count) → to < 8 → StandFrom from to units → AreInOrder units counts → behind_last from counts ≤ to
@@ -77,9 +80,7 @@ ends_in_order units from to [] below stand h = tt
 ends_in_order [] from to (c ∷ cs) below stand h =
     elim (cases_lt (place_of c.unit) from) [
       | inl less ↦ out_of_order from to c cs below less h
-      | inr next ↦
-          let step : behind_last from (c ∷ cs) ≡ behind_last (place_of c.unit + 1) cs = ap (λ (place : ℕ). behind_last place cs) (behind_next from (place_of c.unit) (omega (arith, next))) in
-          absurd (omega (arith, stand, next, step, h, least_grows (place_of c.unit + 1) cs (omega (arith, place_small c.unit))))
+      | inr next ↦ absurd (omega (arith, stand, next, goes_on from c cs (omega (arith, next)), h, least_grows (place_of c.unit + 1) cs (omega (arith, place_small c.unit))))
     ]
 ends_in_order (unit ∷ units) from to (c ∷ cs) below stand h =
     elim (cases_lt (place_of c.unit) from) [
