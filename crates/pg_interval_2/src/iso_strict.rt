@@ -3,7 +3,7 @@ ghost use Rattle.std.specs.Prelude.{◌≡◌, ◌+◌, ◌*◌, ◌≤◌, leng
 ghost use Rattle.pg_interval_2.specs.Denotes.{Denotes, HasNoShape, NoPlace, Refuses};
 ghost use Rattle.pg_interval_2.specs.IsoStrict.{IsIsoStrict};
 ghost use Rattle.pg_interval_2.specs.Messages.{not_iso_strict};
-ghost use Rattle.pg_interval_2.specs.inside.IsoTally.{IsTallied};
+ghost use Rattle.pg_interval_2.specs.inside.Tallies.{IsTallyOf};
 
 use crate::error::ParseError;
 use crate::interval::Interval;
@@ -18,7 +18,7 @@ use std::sync::ledger::{Blank, Ledger};
 /// The tally of the counts that the text spells, or None exactly where it isn't in the style.
 #[inline(always)]
 fn tally_of<L: Ledger>(text: &Looked<'_>, steps: &mut Steps<L>) -> Option<Tally>
-    ensures some { IfSome result (IsTallied IsIsoStrict text.now) }
+    ensures some { IfSome result (IsTallyOf IsIsoStrict text.now) }
     ensures none { IfNone result (HasNoShape IsIsoStrict text.now) }
     ensures most { steps.new ≤ steps.old + 2 * length text.now }
     ensures least { IfSome result (λ _. steps.old + length text.now ≤ steps.new) }

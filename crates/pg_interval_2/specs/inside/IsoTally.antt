@@ -9,7 +9,7 @@ use Rattle.pg_interval_2.specs.Iso.{unit_in, ArePairs, IsIso}
 use Rattle.pg_interval_2.specs.IsoStrict.{IsIsoStrict}
 use Rattle.pg_interval_2.specs.inside.Orders.{Orders}
 use Rattle.pg_interval_2.specs.inside.Reading.{read_pair}
-use Rattle.pg_interval_2.specs.inside.Tallies.{Tallies}
+use Rattle.pg_interval_2.specs.inside.Tallies.{IsTallyOf, Tallies}
 
 -- pairs were taken from the front of the bytes, and their counts by the tally and by the order
 pub record TakesPairs (in_time : Bool) (bytes rest : List ℕ) (old new : Tally) (was is : Order) : Type 0 where
@@ -34,12 +34,8 @@ pub record StopsBehindPairs (in_time : Bool) (bytes : List ℕ) (old : Tally) (w
   pub stuck : read_pair (unit_in in_time) rest ≡ None
   pub goes_on : ends_pairs rest ≡ false
 
--- the tally is of the counts that the text spells
-abbrev pub IsTallied : (List ℕ → List Count → Type 0) → List ℕ → Tally → Type 0
-IsTallied Shape text tally = (counts : List Count) × Shape text counts × Tallies tally counts
-
 -- what a text in ISO style spells, and whether it does so in the strict style
 pub record IsSpelled (text : List ℕ) (spelled : OrderedTally) : Type 0 where
-  pub tallied : IsTallied IsIso text spelled.tally
-  pub strict : spelled.in_order ≡ true → IsTallied IsIsoStrict text spelled.tally
+  pub tallied : IsTallyOf IsIso text spelled.tally
+  pub strict : spelled.in_order ≡ true → IsTallyOf IsIsoStrict text spelled.tally
   pub loose : spelled.in_order ≡ false → HasNoShape IsIsoStrict text
