@@ -28,6 +28,7 @@ mod reading;
 mod sql;
 mod sql_text;
 mod sql_word;
+mod sql_words;
 mod strings;
 mod style;
 mod sums;

@@ -8,7 +8,7 @@ use Rattle.pg_interval_2.specs.declared.sql_word.Seconds.{Seconds as SecondRuns}
 use Rattle.pg_interval_2.specs.declared.sql_word.Time.{Time as TimeRuns}
 use Rattle.pg_interval_2.specs.declared.sql_word.Word.{Word}
 use Rattle.pg_interval_2.specs.declared.sql_word.Word.TheVariants as word
-use Rattle.pg_interval_2.specs.declared.sql.Words.{Words}
+use Rattle.pg_interval_2.specs.declared.sql_words.Words.{Words}
 use Rattle.pg_interval_2.specs.inside.SqlReading.{SqlWord, YearMonth, Days, Time, word_counts}
 
 -- what may be there is so
