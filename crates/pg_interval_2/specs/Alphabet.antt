@@ -7,7 +7,9 @@ use Rattle.scan_core.specs.Blanks.{is_blank}
 
 -- the byte stands in texts of some style
 abbrev pub is_in_alphabet : ℕ → Bool
-is_in_alphabet byte = is_blank byte || (is_ascii_digit byte || list_any (λ b. b == byte) (codes "+-.:@PTYMWDHSacdeghimnorstuy"))
+is_in_alphabet byte =
+    is_blank byte
+    || (is_ascii_digit byte || list_any (λ b. b == byte) (codes "+-.:@PTYMWDHSacdeghimnorstuy"))
 
 -- the byte is no line feed
 abbrev pub is_no_feed : ℕ → Bool

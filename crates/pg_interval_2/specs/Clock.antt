@@ -16,7 +16,11 @@ is_nonzero c = not (number_of c.whole == 0 && number_of c.fraction == 0)
 -- the counts of a clock's fields: those that aren't 0, the fraction of the seconds cut after six digits
 abbrev pub clock_counts : Bool → List ℕ → List ℕ → List ℕ → List ℕ → List Count
 clock_counts negative hours minutes seconds fraction =
-    filter is_nonzero (count_of negative hours [] Hour ∷ count_of negative minutes [] Minute ∷ count_of negative seconds (take 6 fraction) Second ∷ [])
+    filter is_nonzero
+    (count_of negative hours [] Hour
+    ∷ count_of negative minutes [] Minute
+    ∷ count_of negative seconds (take 6 fraction) Second
+    ∷ [])
 
 -- the word is a clock with these counts
 pub record IsClock (word : List ℕ) (counts : List Count) : Type 0 where
@@ -32,5 +36,6 @@ pub record IsClock (word : List ℕ) (counts : List Count) : Type 0 where
   pub minute_field : IsField minutes
   pub second_field : IsField seconds
   pub point : IsFraction fraction tail
-  pub joined : word ≡ sign ++ (hours ++ (codes ":" ++ (minutes ++ (codes ":" ++ (seconds ++ tail)))))
+  pub joined :
+      word ≡ sign ++ (hours ++ (codes ":" ++ (minutes ++ (codes ":" ++ (seconds ++ tail)))))
   pub counted : counts ≡ clock_counts negative hours minutes seconds fraction

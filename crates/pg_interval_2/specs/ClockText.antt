@@ -18,4 +18,6 @@ fraction_text micros = if micros == 0 then [] else (codes "." ++ padded 6 micros
 -- the hours with at least this many digits, the minutes, the seconds and the fraction of a number of microseconds
 unfoldable pub clock_text : ℕ → ℤ → List ℕ
 clock_text width micros =
-    hours_text width (hours_of micros) ++ (field_text (minutes_of micros) ++ (field_text (seconds_of micros) ++ fraction_text (subsecond_of micros)))
+    hours_text width (hours_of micros)
+    ++ (field_text (minutes_of micros)
+    ++ (field_text (seconds_of micros) ++ fraction_text (subsecond_of micros)))

@@ -11,11 +11,16 @@ use Rattle.pg_interval_2.specs.Messages.{year_month_overflow, day_overflow, time
 
 -- the sums of the shares of all counts
 abbrev pub sum_of : List Count → Interval
-sum_of counts = record { months = total Months counts; days = total Days counts; microseconds = total Micros counts }
+sum_of counts = record {
+  months = total Months counts;
+  days = total Days counts;
+  microseconds = total Micros counts;
+}
 
 -- the text spells counts that fit, and the interval is their sum
 abbrev pub Denotes : (List ℕ → List Count → Type 0) → List ℕ → Interval → Type 0
-Denotes Shape text t = (counts : List Count) × Shape text counts × IsTrue (fits counts) × (t ≡ sum_of counts)
+Denotes Shape text t =
+    (counts : List Count) × Shape text counts × IsTrue (fits counts) × (t ≡ sum_of counts)
 
 -- the text spells no counts
 abbrev pub HasNoShape : (List ℕ → List Count → Type 0) → List ℕ → Type 0
@@ -30,12 +35,18 @@ abbrev pub NoPlace : List ℕ → ℕ → ℕ → Type 0
 NoPlace text start end = ⊥
 
 -- Why a text is refused: it has no shape, and a bad place from start to end or none; or a part doesn't fit. Each refusal has one message.
-abbrev pub Refuses : (List ℕ → List Count → Type 0) → (List ℕ → ℕ → ℕ → Type 0) → List ℕ → List ℕ → ParseError → Type 0
-Refuses Shape IsBadPlace message text (InvalidInterval m) = HasNoShape Shape text × ((start end : ℕ) → IsBadPlace text start end → ⊥) × (m.now ≡ message)
-Refuses Shape IsBadPlace message text (BadUnit start end) = HasNoShape Shape text × IsBadPlace text start end
-Refuses Shape IsBadPlace message text (InvalidYearMonth m) = Misfits Shape text Months × (m.now ≡ year_month_overflow)
-Refuses Shape IsBadPlace message text (InvalidDay m) = Misfits Shape text Days × (m.now ≡ day_overflow)
-Refuses Shape IsBadPlace message text (InvalidTime m) = Misfits Shape text Micros × (m.now ≡ time_overflow)
+abbrev pub Refuses : (List ℕ → List Count → Type 0) → (List ℕ → ℕ → ℕ → Type 0) → List ℕ → List ℕ
+    → ParseError → Type 0
+Refuses Shape IsBadPlace message text (InvalidInterval m) =
+    HasNoShape Shape text × ((start end : ℕ) → IsBadPlace text start end → ⊥) × (m.now ≡ message)
+Refuses Shape IsBadPlace message text (BadUnit start end) =
+    HasNoShape Shape text × IsBadPlace text start end
+Refuses Shape IsBadPlace message text (InvalidYearMonth m) =
+    Misfits Shape text Months × (m.now ≡ year_month_overflow)
+Refuses Shape IsBadPlace message text (InvalidDay m) =
+    Misfits Shape text Days × (m.now ≡ day_overflow)
+Refuses Shape IsBadPlace message text (InvalidTime m) =
+    Misfits Shape text Micros × (m.now ≡ time_overflow)
 
 -- the refusal says that a part doesn't fit
 abbrev pub IsRange : ParseError → Type 0

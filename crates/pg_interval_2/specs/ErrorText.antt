@@ -5,7 +5,8 @@ use Rattle.pg_interval_2.specs.declared.error.ParseError.TheVariants.{InvalidInt
 
 abbrev pub error_text : ParseError → List ℕ
 error_text (InvalidInterval message) = codes "Invalid interval: " ++ message.now
-error_text (BadUnit start end) = codes "Invalid interval: bad unit at " ++ (decimal start ++ (codes ".." ++ decimal end))
+error_text (BadUnit start end) =
+    codes "Invalid interval: bad unit at " ++ (decimal start ++ (codes ".." ++ decimal end))
 error_text (InvalidYearMonth message) = codes "Invalid year/month interval: " ++ message.now
 error_text (InvalidDay message) = codes "Invalid day interval: " ++ message.now
 error_text (InvalidTime message) = codes "Invalid time interval: " ++ message.now

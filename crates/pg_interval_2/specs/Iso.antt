@@ -11,13 +11,22 @@ use Rattle.scan_core.specs.declared.share.Unit.TheVariants.{Year, Month, Week, D
 -- there alone
 abbrev pub date_unit : ℕ → Option TimeUnit
 date_unit letter =
-    if letter == 89 then Some Year else if letter == 77 then Some Month else if letter == 87 then Some Week
-    else if letter == 68 then Some Day else if letter == 72 then Some Hour else None
+    if letter == 89 then Some Year
+    else if letter == 77 then Some Month
+    else if letter == 87 then Some Week
+    else if letter == 68 then Some Day
+    else if letter == 72 then Some Hour
+    else None
 
 abbrev pub time_unit : ℕ → Option TimeUnit
 time_unit letter =
-    if letter == 89 then Some Year else if letter == 77 then Some Minute else if letter == 87 then Some Week
-    else if letter == 68 then Some Day else if letter == 72 then Some Hour else if letter == 83 then Some Second else None
+    if letter == 89 then Some Year
+    else if letter == 77 then Some Minute
+    else if letter == 87 then Some Week
+    else if letter == 68 then Some Day
+    else if letter == 72 then Some Hour
+    else if letter == 83 then Some Second
+    else None
 
 -- the units before the `T`, and behind it
 abbrev pub unit_in : Bool → ℕ → Option TimeUnit
@@ -38,10 +47,12 @@ ArePairs unit_of = IsJoin (IsPair unit_of)
 
 -- `P` and pairs, at least one, by what letters mean before the `T` and behind it
 abbrev pub IsDateAlone : (Bool → ℕ → Option TimeUnit) → List ℕ → List Count → Type 0
-IsDateAlone units text counts = (date : List ℕ) × ArePairs (units false) date counts × (date ≢ []) × (text ≡ codes "P" ++ date)
+IsDateAlone units text counts =
+    (date : List ℕ) × ArePairs (units false) date counts × (date ≢ []) × (text ≡ codes "P" ++ date)
 
 -- `P` and pairs, then `T` and pairs
-pub record IsDateAndTime (units : Bool → ℕ → Option TimeUnit) (text : List ℕ) (counts : List Count) : Type 0 where
+pub record IsDateAndTime (units : Bool → ℕ → Option TimeUnit) (text : List ℕ) (counts : List Count)
+    : Type 0 where
   pub date : List ℕ
   pub time : List ℕ
   pub date_counts : List Count

@@ -14,11 +14,13 @@ units_in_order true = Hour ∷ Minute ∷ Second ∷ []
 abbrev pub AreInOrder : List TimeUnit → List Count → Type 0
 AreInOrder units [] = Unit {0}
 AreInOrder [] (c ∷ cs) = ⊥
-AreInOrder (unit ∷ units) (c ∷ cs) = ((c.unit ≡ unit) × AreInOrder units cs) ⊎ AreInOrder units (c ∷ cs)
+AreInOrder (unit ∷ units) (c ∷ cs) =
+    ((c.unit ≡ unit) × AreInOrder units cs) ⊎ AreInOrder units (c ∷ cs)
 
 -- the text is in ISO style and spells these counts, and they stand in order: those before the `T`, and those behind it, at least one
 abbrev pub IsIsoStrict : List ℕ → List Count → Type 0
 IsIsoStrict text counts =
     (IsDateAlone unit_in text counts × AreInOrder (units_in_order false) counts)
-    ⊎ ((timed : IsDateAndTime unit_in text counts) × AreInOrder (units_in_order false) timed.date_counts
+    ⊎ ((timed : IsDateAndTime unit_in text counts)
+    × AreInOrder (units_in_order false) timed.date_counts
     × AreInOrder (units_in_order true) timed.time_counts × (timed.time ≢ []))

@@ -9,14 +9,23 @@ use Rattle.pg_interval_2.specs.Iso.{IsDateAlone, IsDateAndTime}
 -- the unit that a letter meant: 89 is `Y`, 77 `M`, 68 `D`, 72 `H` and 83 `S`, before the `T` and behind it
 abbrev pub unit_without_weeks : Bool → ℕ → Option TimeUnit
 unit_without_weeks false letter =
-    if letter == 89 then Some Year else if letter == 77 then Some Month else if letter == 68 then Some Day else if letter == 72 then Some Hour else None
+    if letter == 89 then Some Year
+    else if letter == 77 then Some Month
+    else if letter == 68 then Some Day
+    else if letter == 72 then Some Hour
+    else None
 unit_without_weeks true letter =
-    if letter == 89 then Some Year else if letter == 77 then Some Minute else if letter == 68 then Some Day else if letter == 72 then Some Hour
-    else if letter == 83 then Some Second else None
+    if letter == 89 then Some Year
+    else if letter == 77 then Some Minute
+    else if letter == 68 then Some Day
+    else if letter == 72 then Some Hour
+    else if letter == 83 then Some Second
+    else None
 
 -- the text was in ISO style and spelled these counts, in order
 abbrev pub IsIsoWithoutWeeks : List ℕ → List Count → Type 0
-IsIsoWithoutWeeks text counts = IsDateAlone unit_without_weeks text counts ⊎ IsDateAndTime unit_without_weeks text counts
+IsIsoWithoutWeeks text counts =
+    IsDateAlone unit_without_weeks text counts ⊎ IsDateAndTime unit_without_weeks text counts
 
 -- a byte of the text is `W`
 abbrev pub has_week : List ℕ → Bool

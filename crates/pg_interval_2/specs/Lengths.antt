@@ -13,7 +13,11 @@ whole_days micros = nearest_days (int_div micros (pos 86_400_000_000))
 
 -- days, and the microseconds beside them
 abbrev pub days_and_rest : ℤ → Interval
-days_and_rest micros = record { months = pos 0; days = whole_days micros; microseconds = micros -ℤ (whole_days micros *ℤ pos 86_400_000_000) }
+days_and_rest micros = record {
+  months = pos 0;
+  days = whole_days micros;
+  microseconds = micros -ℤ (whole_days micros *ℤ pos 86_400_000_000);
+}
 
 -- the interval of a number of nanoseconds, which are cut toward zero to microseconds
 abbrev pub length_of : ℤ → Interval

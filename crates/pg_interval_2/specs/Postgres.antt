@@ -13,7 +13,8 @@ use Rattle.pg_interval_2.specs.Clock.{IsClock}
 use Rattle.pg_interval_2.specs.UnitNames.{postgres_names, unit_named}
 
 -- a number and the name of its unit, as two words or glued into one
-pub record IsNamed (names : TimeUnit → List (List ℕ)) (item : List (List ℕ)) (c : Count) : Type 0 where
+pub record IsNamed (names : TimeUnit → List (List ℕ)) (item : List (List ℕ)) (c : Count)
+    : Type 0 where
   pub number : List ℕ
   pub name : List ℕ
   pub digits : IsNumber true c.negative c.whole c.fraction number
@@ -23,7 +24,8 @@ pub record IsNamed (names : TimeUnit → List (List ℕ)) (item : List (List ℕ
 -- an item: one count with its unit's name, or a clock
 abbrev pub IsItem : (TimeUnit → List (List ℕ)) → List (List ℕ) → List Count → Type 0
 IsItem names item counts =
-    ((c : Count) × IsNamed names item c × (counts ≡ c ∷ [])) ⊎ ((word : List ℕ) × IsClock word counts × (item ≡ word ∷ []))
+    ((c : Count) × IsNamed names item c × (counts ≡ c ∷ []))
+    ⊎ ((word : List ℕ) × IsClock word counts × (item ≡ word ∷ []))
 
 -- the counts of all items, in order
 abbrev pub all_counts : List (List Count) → List Count
@@ -51,7 +53,9 @@ has_distinct_units (c ∷ cs) = not (counts_unit c.unit cs) && has_distinct_unit
 
 -- the words are items, one after the other, with these counts and no unit twice
 abbrev pub AreItems : (TimeUnit → List (List ℕ)) → List (List ℕ) → List Count → Type 0
-AreItems names all counts = (items : List (List Count)) × IsJoin (IsItem names) all items × (counts ≡ all_counts items) × IsTrue (has_distinct_units counts)
+AreItems names all counts =
+    (items : List (List Count)) × IsJoin (IsItem names) all items × (counts ≡ all_counts items)
+    × IsTrue (has_distinct_units counts)
 
 -- the text is in `postgres` style and spells these counts
 abbrev pub IsPostgres : List ℕ → List Count → Type 0
@@ -59,11 +63,13 @@ IsPostgres text counts = AreItems postgres_names (words text) counts
 
 -- the letters are a unit's name that no count before has the unit of
 abbrev pub IsFreshName : (TimeUnit → List (List ℕ)) → List Count → List ℕ → Type 0
-IsFreshName names counts letters = (unit : TimeUnit) × (unit_named names letters ≡ Some unit) × (counts_unit unit counts ≡ false)
+IsFreshName names counts letters =
+    (unit : TimeUnit) × (unit_named names letters ≡ Some unit) × (counts_unit unit counts ≡ false)
 
 -- Letters of a text, from start to end, that name no unit or one that was counted before: they stand behind a number, with
 -- blanks between or none, and before these stand items, in which no unit is counted twice.
-pub record IsBadName (names : TimeUnit → List (List ℕ)) (text : List ℕ) (start end : ℕ) : Type 0 where
+pub record IsBadName (names : TimeUnit → List (List ℕ)) (text : List ℕ) (start end : ℕ)
+    : Type 0 where
   pub lead : List ℕ
   pub number : List ℕ
   pub blanks : List ℕ

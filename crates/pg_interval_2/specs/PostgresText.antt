@@ -21,13 +21,17 @@ part_words negative n name = number_words negative n (counted_name negative n na
 
 -- the time with its minus, or no word where it is 0
 unfoldable pub clock_words : ℤ → List (List ℕ)
-clock_words micros = if int_eq micros (pos 0) then [] else ((minus (is_negative micros) ++ clock_text 2 micros) ∷ [])
+clock_words micros =
+    if int_eq micros (pos 0) then [] else ((minus (is_negative micros) ++ clock_text 2 micros) ∷ [])
 
 -- the words of years, months, days and the time
 abbrev pub postgres_words : ℤ → ℤ → ℤ → List (List ℕ)
 postgres_words months days micros =
-    part_words (is_negative months) (years_of months) (codes "year") ++ (part_words (is_negative months) (months_of months) (codes "mon") ++ (part_words (is_negative days) (unsigned_abs days) (codes "day") ++ clock_words micros))
+    part_words (is_negative months) (years_of months) (codes "year")
+    ++ (part_words (is_negative months) (months_of months) (codes "mon")
+    ++ (part_words (is_negative days) (unsigned_abs days) (codes "day") ++ clock_words micros))
 
 unfoldable pub postgres_text : ℤ → ℤ → ℤ → List ℕ
 postgres_text months days micros =
-    if int_eq months (pos 0) && (int_eq days (pos 0) && int_eq micros (pos 0)) then codes "00:00:00" else join_with_byte 32 (postgres_words months days micros)
+    if int_eq months (pos 0) && (int_eq days (pos 0) && int_eq micros (pos 0)) then codes "00:00:00"
+    else join_with_byte 32 (postgres_words months days micros)

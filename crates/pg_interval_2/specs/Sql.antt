@@ -61,7 +61,8 @@ pub record IsTime (default : Bool) (word : List ℕ) (counts : List Count) : Typ
   pub minute_field : IsField minutes
   pub seconds : HasSeconds negative piece second_counts
   pub joined : word ≡ sign ++ (hours ++ (codes ":" ++ (minutes ++ piece)))
-  pub counted : counts ≡ count_of negative hours [] Hour ∷ count_of negative minutes [] Minute ∷ second_counts
+  pub counted :
+      counts ≡ count_of negative hours [] Hour ∷ count_of negative minutes [] Minute ∷ second_counts
 
 -- two words: days and a time, which without a sign of its own is negative where the days have a minus
 pub record AreDaysAndTime (first second : List ℕ) (counts : List Count) : Type 0 where

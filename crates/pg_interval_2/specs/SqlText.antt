@@ -12,12 +12,14 @@ minus_or_plus negative = if negative then codes "-" else codes "+"
 
 -- one of the three numbers is positive
 abbrev pub has_positive : ℤ → ℤ → ℤ → Bool
-has_positive months days micros = int_lt (pos 0) months || (int_lt (pos 0) days || int_lt (pos 0) micros)
+has_positive months days micros =
+    int_lt (pos 0) months || (int_lt (pos 0) days || int_lt (pos 0) micros)
 
 -- each number has a sign of its own in the text: two of them have opposite signs, or months stand beside days or time
 unfoldable pub has_all_signs : ℤ → ℤ → ℤ → Bool
 has_all_signs months days micros =
-    (has_negative months days micros && has_positive months days micros) || (not (int_eq months (pos 0)) && not (int_eq days (pos 0) && int_eq micros (pos 0)))
+    (has_negative months days micros && has_positive months days micros)
+    || (not (int_eq months (pos 0)) && not (int_eq days (pos 0) && int_eq micros (pos 0)))
 
 -- years, a minus and months, by magnitude: `1-2`
 unfoldable pub year_month_text : ℤ → List ℕ
@@ -26,7 +28,10 @@ year_month_text months = decimal (years_of months) ++ (codes "-" ++ decimal (mon
 -- all three numbers, each with its sign
 unfoldable pub signed_text : ℤ → ℤ → ℤ → List ℕ
 signed_text months days micros =
-    (minus_or_plus (is_negative months) ++ year_month_text months) ++ (codes " " ++ ((minus_or_plus (is_negative days) ++ decimal (unsigned_abs days)) ++ (codes " " ++ (minus_or_plus (is_negative micros) ++ clock_text 1 micros))))
+    (minus_or_plus (is_negative months) ++ year_month_text months)
+    ++ (codes " "
+    ++ ((minus_or_plus (is_negative days) ++ decimal (unsigned_abs days))
+    ++ (codes " " ++ (minus_or_plus (is_negative micros) ++ clock_text 1 micros))))
 
 -- months alone
 unfoldable pub months_text : ℤ → List ℕ
@@ -34,7 +39,8 @@ months_text months = minus (is_negative months) ++ year_month_text months
 
 -- days and the time, whose sign is that of the days
 unfoldable pub days_text : ℤ → ℤ → List ℕ
-days_text days micros = (minus (is_negative days) ++ decimal (unsigned_abs days)) ++ (codes " " ++ clock_text 1 micros)
+days_text days micros =
+    (minus (is_negative days) ++ decimal (unsigned_abs days)) ++ (codes " " ++ clock_text 1 micros)
 
 -- the time alone
 unfoldable pub time_text : ℤ → List ℕ
@@ -43,8 +49,12 @@ time_text micros = minus (is_negative micros) ++ clock_text 1 micros
 -- where one sign serves the whole text
 unfoldable pub plain_text : ℤ → ℤ → ℤ → List ℕ
 plain_text months days micros =
-    if not (int_eq months (pos 0)) then months_text months else if not (int_eq days (pos 0)) then days_text days micros else time_text micros
+    if not (int_eq months (pos 0)) then months_text months
+    else if not (int_eq days (pos 0)) then days_text days micros
+    else time_text micros
 
 unfoldable pub sql_text : ℤ → ℤ → ℤ → List ℕ
 sql_text months days micros =
-    if int_eq months (pos 0) && (int_eq days (pos 0) && int_eq micros (pos 0)) then codes "0" else if has_all_signs months days micros then signed_text months days micros else plain_text months days micros
+    if int_eq months (pos 0) && (int_eq days (pos 0) && int_eq micros (pos 0)) then codes "0"
+    else if has_all_signs months days micros then signed_text months days micros
+    else plain_text months days micros

@@ -21,7 +21,8 @@ pub record IsFramed (text before body : List ℕ) (ago : Bool) : Type 0 where
 
 -- the body is `0`, which spells no counts, or items; blanks stand around its words or not
 abbrev pub IsBody : List ℕ → List Count → Type 0
-IsBody body counts = ((words body ≡ codes "0" ∷ []) × (counts ≡ [])) ⊎ AreItems verbose_names (words body) counts
+IsBody body counts =
+    ((words body ≡ codes "0" ∷ []) × (counts ≡ [])) ⊎ AreItems verbose_names (words body) counts
 
 -- the text is in `postgres_verbose` style and spells these counts
 pub record IsVerbose (text : List ℕ) (counts : List Count) : Type 0 where
@@ -35,7 +36,9 @@ pub record IsVerbose (text : List ℕ) (counts : List Count) : Type 0 where
 
 -- the text ends in `ago`, with blanks behind it or none
 abbrev pub EndsInAgo : List ℕ → Type 0
-EndsInAgo text = (front : List ℕ) × (after : List ℕ) × IsTrue (list_all is_blank after) × (text ≡ front ++ (codes "ago" ++ after))
+EndsInAgo text =
+    (front : List ℕ) × (after : List ℕ) × IsTrue (list_all is_blank after)
+    × (text ≡ front ++ (codes "ago" ++ after))
 
 -- Letters of a text, from start to end, that are a bad name of its body, which is what stands between the `@` and an `ago` at the
 -- end where there is one: of `@ 1 dago` they are the `d`.

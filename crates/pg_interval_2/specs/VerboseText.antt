@@ -28,26 +28,35 @@ second_digits seconds micros = decimal seconds ++ (codes "." ++ trimmed (padded 
 -- the seconds with their microseconds, where these aren't 0
 unfoldable pub second_words : Bool → ℕ → ℕ → List (List ℕ)
 second_words negative seconds micros =
-    if micros == 0 then unit_words negative seconds (codes "sec") else ((minus negative ++ second_digits seconds micros) ∷ codes "secs" ∷ [])
+    if micros == 0 then unit_words negative seconds (codes "sec")
+    else ((minus negative ++ second_digits seconds micros) ∷ codes "secs" ∷ [])
 
 -- the years, months and days, each with its sign, turned or not
 unfoldable pub verbose_date : Bool → ℤ → ℤ → List ℕ
 verbose_date ago months days =
-    behind_spaces (unit_words (turned_sign ago (is_negative months)) (years_of months) (codes "year"))
-    ++ (behind_spaces (unit_words (turned_sign ago (is_negative months)) (months_of months) (codes "mon"))
-    ++ behind_spaces (unit_words (turned_sign ago (is_negative days)) (unsigned_abs days) (codes "day")))
+    behind_spaces
+    (unit_words (turned_sign ago (is_negative months)) (years_of months) (codes "year"))
+    ++ (behind_spaces
+    (unit_words (turned_sign ago (is_negative months)) (months_of months) (codes "mon"))
+    ++ behind_spaces
+    (unit_words (turned_sign ago (is_negative days)) (unsigned_abs days) (codes "day")))
 
 -- the hours, minutes and seconds, with their sign, turned or not
 unfoldable pub verbose_time : Bool → ℤ → List ℕ
 verbose_time ago micros =
-    behind_spaces (unit_words (turned_sign ago (is_negative micros)) (hours_of micros) (codes "hour"))
-    ++ (behind_spaces (unit_words (turned_sign ago (is_negative micros)) (minutes_of micros) (codes "min"))
-    ++ behind_spaces (second_words (turned_sign ago (is_negative micros)) (seconds_of micros) (subsecond_of micros)))
+    behind_spaces
+    (unit_words (turned_sign ago (is_negative micros)) (hours_of micros) (codes "hour"))
+    ++ (behind_spaces
+    (unit_words (turned_sign ago (is_negative micros)) (minutes_of micros) (codes "min"))
+    ++ behind_spaces
+    (second_words (turned_sign ago (is_negative micros)) (seconds_of micros) (subsecond_of micros)))
 
 -- the text of an interval that isn't zero
 unfoldable pub parts_text : Bool → ℤ → ℤ → ℤ → List ℕ
 parts_text ago months days micros =
-    codes "@" ++ (verbose_date ago months days ++ (verbose_time ago micros ++ (if ago then codes " ago" else [])))
+    codes "@"
+    ++ (verbose_date ago months days
+    ++ (verbose_time ago micros ++ (if ago then codes " ago" else [])))
 
 unfoldable pub verbose_text : ℤ → ℤ → ℤ → List ℕ
 verbose_text months days micros =

@@ -10,7 +10,10 @@ is_blank b = (nat_le 9 b && nat_le b 13) || (b == 32)
 abbrev pub words : List ℕ → List (List ℕ)
 words [] = []
 words (b ∷ []) = if is_blank b then [] else ((b ∷ []) ∷ [])
-words (b ∷ c ∷ bs) = if is_blank b then words (c ∷ bs) else if is_blank c then ((b ∷ []) ∷ words (c ∷ bs)) else onto_first b (words (c ∷ bs))
+words (b ∷ c ∷ bs) =
+    if is_blank b then words (c ∷ bs)
+    else if is_blank c then ((b ∷ []) ∷ words (c ∷ bs))
+    else onto_first b (words (c ∷ bs))
 
 -- a word ends here: with the text, or before a blank
 abbrev pub EndsWord : List ℕ → Type 0
@@ -19,4 +22,5 @@ EndsWord (b ∷ bs) = IsTrue (is_blank b)
 
 -- nothing, or something with a blank at its end: the next word begins behind it
 abbrev pub EndsInBlank : List ℕ → Type 0
-EndsInBlank text = (text ≡ []) ⊎ ((front : List ℕ) × (b : ℕ) × IsTrue (is_blank b) × (text ≡ front ++ b ∷ []))
+EndsInBlank text =
+    (text ≡ []) ⊎ ((front : List ℕ) × (b : ℕ) × IsTrue (is_blank b) × (text ≡ front ++ b ∷ []))

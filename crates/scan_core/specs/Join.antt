@@ -4,7 +4,9 @@ use Rattle.std.specs.Prelude.{◌≡◌, ℕ, List, [], ◌∷◌, ◌++◌}
 -- the whole is a join of pieces, one for each value, in order
 abbrev pub IsJoin : {A C : Type 0} → (List A → C → Type 0) → List A → List C → Type 0
 IsJoin IsPiece whole [] = whole ≡ []
-IsJoin {A} IsPiece whole (c ∷ cs) = (piece : List A) × (rest : List A) × IsPiece piece c × IsJoin IsPiece rest cs × (whole ≡ piece ++ rest)
+IsJoin {A} IsPiece whole (c ∷ cs) =
+    (piece : List A) × (rest : List A) × IsPiece piece c × IsJoin IsPiece rest cs
+    × (whole ≡ piece ++ rest)
 
 -- a byte in front of the first piece, or as a piece of its own where there is none
 abbrev pub onto_first : ℕ → List (List ℕ) → List (List ℕ)

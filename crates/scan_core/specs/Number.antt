@@ -15,7 +15,8 @@ sign_text false = codes "+"
 
 -- what stands behind the whole digits: nothing, or a point and the fraction digits
 abbrev pub IsFraction : List ℕ → List ℕ → Type 0
-IsFraction fraction tail = ((fraction ≡ []) × (tail ≡ [])) ⊎ (AreDigits fraction × (tail ≡ codes "." ++ fraction))
+IsFraction fraction tail =
+    ((fraction ≡ []) × (tail ≡ [])) ⊎ (AreDigits fraction × (tail ≡ codes "." ++ fraction))
 
 -- the word is a number with this sign, these digits before the point, and these behind it
 pub record IsNumber (plus negative : Bool) (whole fraction word : List ℕ) : Type 0 where

@@ -26,7 +26,8 @@ pub record IsRun (text : List ℕ) (run : Run) : Type 0 where
 
 -- the count whose digits are two runs of a text
 abbrev pub count_in : List ℕ → Bool → Run → Run → TimeUnit → Count
-count_in text negative whole fraction unit = count_of negative (digits_of text whole) (digits_of text fraction) unit
+count_in text negative whole fraction unit =
+    count_of negative (digits_of text whole) (digits_of text fraction) unit
 
 -- letters packed into one number, eight bits a letter, the first the highest
 abbrev pub packed_behind : ℕ → List ℕ → ℕ

@@ -32,4 +32,5 @@ pub record Passes (bytes : List ℕ) (old new : Place) : Type 0 where
 -- Looks were spent on a way from some bytes ahead to others: each byte passed was looked at once, and perhaps once more.
 pub record Spends (looks : ℕ) (bytes : List ℕ) (looks_then : ℕ) (bytes_then : List ℕ) : Type 0 where
   pub least : looks + unseen bytes ≤ looks_then + unseen bytes_then
-  pub most : (looks_then + unseen bytes_then) + length bytes_then ≤ (looks + unseen bytes) + length bytes
+  pub most :
+      (looks_then + unseen bytes_then) + length bytes_then ≤ (looks + unseen bytes) + length bytes

@@ -22,7 +22,8 @@ scale_of Second = 1_000_000
 -- The fraction 0.F of a unit in the next smaller one, rounded half away from zero:
 -- the floor of F * scale / 10^n + 1/2, where n is the number of F's digits.
 unfoldable pub rounded : ℕ → List ℕ → ℕ
-rounded scale fraction = (2 * number_of fraction * scale + 10 ^ length fraction) / (2 * 10 ^ length fraction)
+rounded scale fraction =
+    (2 * number_of fraction * scale + 10 ^ length fraction) / (2 * 10 ^ length fraction)
 
 -- one part of w units and r of the next smaller one, before the sign
 abbrev pub magnitude : Part → TimeUnit → ℕ → ℕ → ℕ
@@ -45,7 +46,9 @@ signed negative n = if negative then neg_ℤ (pos n) else pos n
 
 -- one part of a count's share
 abbrev pub share : Part → Count → ℤ
-share part c = signed c.negative (magnitude part c.unit (number_of c.whole) (rounded (scale_of c.unit) c.fraction))
+share part c =
+    signed c.negative
+    (magnitude part c.unit (number_of c.whole) (rounded (scale_of c.unit) c.fraction))
 
 -- the part in which a unit's whole digits are counted, and the only one that can leave its type
 abbrev pub main_part : TimeUnit → Part

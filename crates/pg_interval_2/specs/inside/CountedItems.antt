@@ -37,14 +37,18 @@ CountsAll counts more new true = IsCounted new (counts ++ more)
 CountsAll counts more new false = has_distinct_units (counts ++ more) ≡ false
 
 -- an item in front of the bytes was counted, its counts turned or not as those before
-abbrev pub TakesItem : (TimeUnit → List (List ℕ)) → Bool → List ℕ → List ℕ → List Count → Counted → Type 0
+abbrev pub TakesItem : (TimeUnit → List (List ℕ)) → Bool → List ℕ → List ℕ → List Count → Counted
+    → Type 0
 TakesItem names turned bytes rest counts new =
-    ((fields : ClockFields) × (read_item bytes ≡ ClockItem fields rest) × IsCounted new (turned_counts turned (counts ++ clock_of fields)))
-    ⊎ ((n : Numeral) × (letters : List ℕ) × (unit : TimeUnit) × (read_item bytes ≡ NamedItem n letters rest)
-    × (unit_named names letters ≡ Some unit) × IsCounted new (turned_counts turned (counts ++ count_with n unit ∷ [])))
+    ((fields : ClockFields) × (read_item bytes ≡ ClockItem fields rest)
+    × IsCounted new (turned_counts turned (counts ++ clock_of fields)))
+    ⊎ ((n : Numeral) × (letters : List ℕ) × (unit : TimeUnit)
+    × (read_item bytes ≡ NamedItem n letters rest) × (unit_named names letters ≡ Some unit)
+    × IsCounted new (turned_counts turned (counts ++ count_with n unit ∷ [])))
 
 -- a number stands in front of the bytes, and a word of the text behind it that is no fresh name
-pub record IsBadStep (names : TimeUnit → List (List ℕ)) (text bytes rest : List ℕ) (counts : List Count) (word : Word) : Type 0 where
+pub record IsBadStep (names : TimeUnit → List (List ℕ)) (text bytes rest : List ℕ)
+    (counts : List Count) (word : Word) : Type 0 where
   pub number : Numeral
   pub letters : List ℕ
   pub read : read_item bytes ≡ NamedItem number letters rest
@@ -56,12 +60,16 @@ pub record IsBadStep (names : TimeUnit → List (List ℕ)) (text bytes rest : L
 abbrev pub IsNoItem : List ℕ → List Count → Type 0
 IsNoItem bytes counts =
     (read_item bytes ≡ NoItem)
-    ⊎ ((fields : ClockFields) × (rest : List ℕ) × (read_item bytes ≡ ClockItem fields rest) × (has_distinct_units (counts ++ clock_of fields) ≡ false))
+    ⊎ ((fields : ClockFields) × (rest : List ℕ) × (read_item bytes ≡ ClockItem fields rest)
+    × (has_distinct_units (counts ++ clock_of fields) ≡ false))
 
 -- what a step says of the bytes, behind these counts
-abbrev pub IsStep : (TimeUnit → List (List ℕ)) → Bool → List ℕ → List ℕ → List ℕ → List Count → Counted → Step → Type 0
-IsStep names turned text bytes rest counts new step.Taken = TakesItem names turned bytes rest counts new
-IsStep names turned text bytes rest counts new (step.BadName word) = IsBadStep names text bytes rest counts word
+abbrev pub IsStep : (TimeUnit → List (List ℕ)) → Bool → List ℕ → List ℕ → List ℕ → List Count
+    → Counted → Step → Type 0
+IsStep names turned text bytes rest counts new step.Taken =
+    TakesItem names turned bytes rest counts new
+IsStep names turned text bytes rest counts new (step.BadName word) =
+    IsBadStep names text bytes rest counts word
 IsStep names turned text bytes rest counts new step.NoItem = IsNoItem bytes counts
 
 -- an item has no more counts than bytes

@@ -12,13 +12,15 @@ use Rattle.pg_interval_2.specs.inside.Reading.{read_pair}
 use Rattle.pg_interval_2.specs.inside.Tallies.{IsTallyOf, Tallies}
 
 -- pairs were taken from the front of the bytes, and their counts by the tally and by the order
-pub record TakesPairs (in_time : Bool) (bytes rest : List ℕ) (old new : Tally) (was is : Order) : Type 0 where
+pub record TakesPairs (in_time : Bool) (bytes rest : List ℕ) (old new : Tally) (was is : Order)
+    : Type 0 where
   pub front : List ℕ
   pub counts : List Count
   pub pairs : ArePairs (unit_in in_time) front counts
   pub split : bytes ≡ front ++ rest
   pub tallied : (before : List Count) → Tallies old before → Tallies new (before ++ counts)
-  pub ordered : (before : List Count) → Orders in_time was before → Orders in_time is (before ++ counts)
+  pub ordered : (before : List Count) → Orders in_time was before
+      → Orders in_time is (before ++ counts)
 
 -- no pair can stand here: at the end, and before the `T`
 abbrev pub ends_pairs : List ℕ → Bool
@@ -26,7 +28,8 @@ ends_pairs [] = true
 ends_pairs (b ∷ bs) = b == 84
 
 -- pairs were taken from the front of the bytes, and behind them stands neither a pair nor what may follow pairs
-pub record StopsBehindPairs (in_time : Bool) (bytes : List ℕ) (old : Tally) (was : Order) : Type 0 where
+pub record StopsBehindPairs (in_time : Bool) (bytes : List ℕ) (old : Tally) (was : Order)
+    : Type 0 where
   pub rest : List ℕ
   pub mid : Tally
   pub order : Order

@@ -49,25 +49,43 @@ read_byte byte (b ∷ bs) = if b == byte then Some bs else None
 -- a clock behind its hours' colon
 abbrev pub closed_clock : ClockFields → List ℕ → NextItem
 closed_clock fields rest =
-    if nat_lt 0 (length fields.hours) && (nat_lt 0 (length fields.minutes) && (nat_lt 0 (length fields.seconds) && ends_word rest)) then ClockItem fields rest else NoItem
+    if nat_lt 0 (length fields.hours)
+    && (nat_lt 0 (length fields.minutes) && (nat_lt 0 (length fields.seconds) && ends_word rest))
+    then ClockItem fields rest
+    else NoItem
 
 abbrev pub read_seconds : Bool → List ℕ → List ℕ → Option (List ℕ) → NextItem
 read_seconds negative hours minutes None = NoItem
 read_seconds negative hours minutes (Some rest) =
     let fraction = read_fraction (after_digits rest) in
-    closed_clock (record { negative = negative; hours = hours; minutes = minutes; seconds = front_digits rest; fraction = fraction.0 }) fraction.1
+    closed_clock
+    (record {
+      negative = negative;
+      hours = hours;
+      minutes = minutes;
+      seconds = front_digits rest;
+      fraction = fraction.0;
+    })
+    fraction.1
 
 unfoldable pub read_clock : Bool → List ℕ → List ℕ → NextItem
-read_clock negative hours rest = read_seconds negative hours (front_digits rest) (read_byte 58 (after_digits rest))
+read_clock negative hours rest =
+    read_seconds negative hours (front_digits rest) (read_byte 58 (after_digits rest))
 
 -- a number's letters, behind blanks or none
 abbrev pub named_item : Numeral → List ℕ → NextItem
-named_item n name = if nat_lt 0 (length (front_letters name)) && ends_word (after_letters name) then NamedItem n (front_letters name) (after_letters name) else NoItem
+named_item n name =
+    if nat_lt 0 (length (front_letters name)) && ends_word (after_letters name)
+    then NamedItem n (front_letters name) (after_letters name)
+    else NoItem
 
 unfoldable pub read_named : Bool → List ℕ → List ℕ → NextItem
 read_named negative whole rest =
     let fraction = read_fraction rest in
-    if nat_lt 0 (length whole + length fraction.0) then named_item (record { negative = negative; whole = whole; fraction = fraction.0 }) (after_blanks fraction.1) else NoItem
+    if nat_lt 0 (length whole + length fraction.0)
+    then named_item (record { negative = negative; whole = whole; fraction = fraction.0 })
+    (after_blanks fraction.1)
+    else NoItem
 
 abbrev pub read_behind_digits : Bool → List ℕ → List ℕ → Option (List ℕ) → NextItem
 read_behind_digits negative whole rest None = read_named negative whole rest
@@ -77,7 +95,8 @@ read_behind_digits negative whole rest (Some minutes) = read_clock negative whol
 unfoldable pub read_item : List ℕ → NextItem
 read_item bytes =
     let sign = read_sign true bytes in
-    read_behind_digits sign.0 (front_digits sign.1) (after_digits sign.1) (read_byte 58 (after_digits sign.1))
+    read_behind_digits sign.0 (front_digits sign.1) (after_digits sign.1)
+    (read_byte 58 (after_digits sign.1))
 
 -- ---- words
 
@@ -104,9 +123,11 @@ pub data Verdict : Type 0 where
   Unspelled : Verdict
 
 -- letters behind a number
-abbrev pub judge_unit : List Count → ℕ → List ℕ → Numeral → Option TimeUnit → (List Count → Verdict) → Verdict
+abbrev pub judge_unit : List Count → ℕ → List ℕ → Numeral → Option TimeUnit → (List Count → Verdict)
+    → Verdict
 judge_unit counts ink letters n None next = BadLetters ink letters
-judge_unit counts ink letters n (Some unit) next = if counts_unit unit counts then BadLetters ink letters else next (count_with n unit ∷ [])
+judge_unit counts ink letters n (Some unit) next =
+    if counts_unit unit counts then BadLetters ink letters else next (count_with n unit ∷ [])
 
 abbrev pub is_name : List ℕ → Bool
 is_name word = nat_lt 0 (length word) && list_all is_ascii_alphabetic word
@@ -115,15 +136,25 @@ abbrev pub clock_of : ClockFields → List Count
 clock_of f = clock_counts f.negative f.hours f.minutes f.seconds f.fraction
 
 -- a word of a kind, with what follows it, and what follows a number
-abbrev pub judge_word : (TimeUnit → List (List ℕ)) → List Count → ℕ → ℕ → WordKind → (List Count → Verdict) → (Numeral → Verdict) → Verdict
-judge_word names counts ink length_of (ClockWord fields) next pair = if has_distinct_units (counts ++ clock_of fields) then next (clock_of fields) else Unspelled
-judge_word names counts ink length_of (GluedWord n letters) next pair = judge_unit counts (ink + (length_of - length letters)) letters n (unit_named names letters) next
+abbrev pub judge_word : (TimeUnit → List (List ℕ)) → List Count → ℕ → ℕ → WordKind
+    → (List Count → Verdict) → (Numeral → Verdict) → Verdict
+judge_word names counts ink length_of (ClockWord fields) next pair =
+    if has_distinct_units (counts ++ clock_of fields) then next (clock_of fields) else Unspelled
+judge_word names counts ink length_of (GluedWord n letters) next pair =
+    judge_unit counts (ink + (length_of - length letters)) letters n (unit_named names letters) next
 judge_word names counts ink length_of (NumberWord n) next pair = pair n
 judge_word names counts ink length_of OtherWord next pair = Unspelled
 
 abbrev pub verdict : (TimeUnit → List (List ℕ)) → List Count → ℕ → List (List ℕ) → Verdict
 verdict names counts ink [] = Spelled counts
-verdict names counts ink (word ∷ []) = judge_word names counts ink (length word) (word_kind word) (λ more. Spelled (counts ++ more)) (λ n. Unspelled)
+verdict names counts ink (word ∷ []) =
+    judge_word names counts ink (length word) (word_kind word) (λ more. Spelled (counts ++ more))
+    (λ n. Unspelled)
 verdict names counts ink (word ∷ name ∷ more) =
-    judge_word names counts ink (length word) (word_kind word) (λ cs. verdict names (counts ++ cs) (ink + length word) (name ∷ more))
-    (λ n. if is_name name then judge_unit counts (ink + length word) name n (unit_named names name) (λ cs. verdict names (counts ++ cs) (ink + length word + length name) more) else Unspelled)
+    judge_word names counts ink (length word) (word_kind word)
+    (λ cs. verdict names (counts ++ cs) (ink + length word) (name ∷ more))
+    (λ n.
+    if is_name name
+    then judge_unit counts (ink + length word) name n (unit_named names name)
+    (λ cs. verdict names (counts ++ cs) (ink + length word + length name) more)
+    else Unspelled)

@@ -17,12 +17,14 @@ pub record HasFields (text : List ℕ) (clock : Clock) (fields : ClockFields) : 
 
 -- a clock was read, and this rest follows it
 abbrev pub IsClockAs : List ℕ → List ℕ → NextItem → Clock → Type 0
-IsClockAs text rest next clock = (fields : ClockFields) × (next ≡ ClockItem fields rest) × HasFields text clock fields
+IsClockAs text rest next clock =
+    (fields : ClockFields) × (next ≡ ClockItem fields rest) × HasFields text clock fields
 
 -- an item was read, and this rest follows it
 abbrev pub IsReadAs : List ℕ → List ℕ → Item → NextItem → Type 0
 IsReadAs text rest (code.Clock clock) next = IsClockAs text rest next clock
-IsReadAs text rest (code.Named n letters) next = next ≡ NamedItem (numeral_in text n) (letters_of text letters) rest
+IsReadAs text rest (code.Named n letters) next =
+    next ≡ NamedItem (numeral_in text n) (letters_of text letters) rest
 IsReadAs text rest code.Neither next = next ≡ NoItem
 
 -- a clock's digits stand in the text
@@ -35,7 +37,8 @@ pub record AreClockRuns (text : List ℕ) (clock : Clock) : Type 0 where
 -- an item's digits and letters stand in the text, and this rest follows the letters
 abbrev pub AreItemRuns : List ℕ → List ℕ → Item → Type 0
 AreItemRuns text rest (code.Clock clock) = AreClockRuns text clock
-AreItemRuns text rest (code.Named n letters) = IsDecimal text n × (IsWord text letters × (letters.end + length rest ≡ length text))
+AreItemRuns text rest (code.Named n letters) =
+    IsDecimal text n × (IsWord text letters × (letters.end + length rest ≡ length text))
 AreItemRuns text rest code.Neither = Unit {0}
 
 -- how many digits are behind an item's point

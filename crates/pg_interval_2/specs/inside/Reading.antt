@@ -9,7 +9,8 @@ use Rattle.scan_core.specs.declared.share.Unit.{Unit as TimeUnit}
 -- whether a minus stands in front, and what follows the sign
 abbrev pub read_sign : Bool → List ℕ → Bool × List ℕ
 read_sign plus [] = (false, [])
-read_sign plus (b ∷ bs) = if b == 45 then (true, bs) else if plus && b == 43 then (false, bs) else (false, b ∷ bs)
+read_sign plus (b ∷ bs) =
+    if b == 45 then (true, bs) else if plus && b == 43 then (false, bs) else (false, b ∷ bs)
 
 -- the digits behind a point in front, and what follows them
 abbrev pub read_fraction : List ℕ → List ℕ × List ℕ
@@ -24,7 +25,11 @@ pub record Numeral : Type 0 where
 
 -- a number that was passed in a text, by its digits
 abbrev pub numeral_in : List ℕ → Decimal → Numeral
-numeral_in text n = record { negative = n.negative; whole = digits_of text n.whole; fraction = digits_of text n.fraction }
+numeral_in text n = record {
+  negative = n.negative;
+  whole = digits_of text n.whole;
+  fraction = digits_of text n.fraction;
+}
 
 -- its digits stand in the text
 pub record IsDecimal (text : List ℕ) (n : Decimal) : Type 0 where
@@ -35,20 +40,30 @@ pub record IsDecimal (text : List ℕ) (n : Decimal) : Type 0 where
 unfoldable pub read_unsigned : Bool → List ℕ → Option (Numeral × List ℕ)
 read_unsigned negative bytes =
     let fraction = read_fraction (after_digits bytes) in
-    if nat_lt 0 (length (front_digits bytes) + length fraction.0) then Some (record { negative = negative; whole = front_digits bytes; fraction = fraction.0 }, fraction.1) else None
+    if nat_lt 0 (length (front_digits bytes) + length fraction.0)
+    then Some
+    (record { negative = negative; whole = front_digits bytes; fraction = fraction.0 }, fraction.1)
+    else None
 
 unfoldable pub read_number : Bool → List ℕ → Option (Numeral × List ℕ)
 read_number plus bytes = let sign = read_sign plus bytes in read_unsigned sign.0 sign.1
 
 -- a number with a unit is a count
 abbrev pub count_with : Numeral → TimeUnit → Count
-count_with n unit = record { negative = n.negative; whole = n.whole; fraction = n.fraction; unit = unit }
+count_with n unit = record {
+  negative = n.negative;
+  whole = n.whole;
+  fraction = n.fraction;
+  unit = unit;
+}
 
 -- the unit of the letter in front, and what follows it
 abbrev pub read_letter : (ℕ → Option TimeUnit) → Numeral → List ℕ → Option (Count × List ℕ)
 read_letter unit_of n [] = None
-read_letter unit_of n (letter ∷ rest) = option_and_then (λ unit. Some (count_with n unit, rest)) (unit_of letter)
+read_letter unit_of n (letter ∷ rest) =
+    option_and_then (λ unit. Some (count_with n unit, rest)) (unit_of letter)
 
 -- a number and a letter
 unfoldable pub read_pair : (ℕ → Option TimeUnit) → List ℕ → Option (Count × List ℕ)
-read_pair unit_of bytes = option_and_then (λ r. read_letter unit_of r.0 r.1) (read_number false bytes)
+read_pair unit_of bytes =
+    option_and_then (λ r. read_letter unit_of r.0 r.1) (read_number false bytes)

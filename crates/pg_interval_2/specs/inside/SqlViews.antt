@@ -31,7 +31,9 @@ abbrev pub seen_days : List ℕ → DayRuns → SqlWord
 seen_days text d = Days d.negative (digits_of text d.days)
 
 abbrev pub seen_time : List ℕ → TimeRuns → SqlWord
-seen_time text t = Time t.negative (digits_of text t.hours) (digits_of text t.minutes) (option_map (seen_seconds text) t.seconds)
+seen_time text t =
+    Time t.negative (digits_of text t.hours) (digits_of text t.minutes)
+    (option_map (seen_seconds text) t.seconds)
 
 abbrev pub seen_word : List ℕ → Word → SqlWord
 seen_word text (word.YearMonth d) = seen_year_month text d
@@ -43,7 +45,8 @@ abbrev pub AreDateRuns : List ℕ → YearMonthRuns → Type 0
 AreDateRuns text d = IsRun text d.years × IsRun text d.months
 
 abbrev pub AreTimeRuns : List ℕ → TimeRuns → Type 0
-AreTimeRuns text t = IsRun text t.hours × IsRun text t.minutes × Perhaps (AreSecondRuns text) t.seconds
+AreTimeRuns text t =
+    IsRun text t.hours × IsRun text t.minutes × Perhaps (AreSecondRuns text) t.seconds
 
 abbrev pub AreRuns : List ℕ → Word → Type 0
 AreRuns text (word.YearMonth d) = AreDateRuns text d
@@ -58,7 +61,10 @@ perhaps_counts seen (Some x) = word_counts (seen x)
 -- the counts of a text's words, and that their digits stand in it
 abbrev pub text_counts : List ℕ → Words → List Count
 text_counts text words =
-    (perhaps_counts (seen_year_month text) words.date ++ perhaps_counts (seen_days text) words.days) ++ perhaps_counts (seen_time text) words.time
+    (perhaps_counts (seen_year_month text) words.date ++ perhaps_counts (seen_days text) words.days)
+    ++ perhaps_counts (seen_time text) words.time
 
 abbrev pub AreTextRuns : List ℕ → Words → Type 0
-AreTextRuns text words = Perhaps (AreDateRuns text) words.date × Perhaps (λ (d : DayRuns). IsRun text d.days) words.days × Perhaps (AreTimeRuns text) words.time
+AreTextRuns text words =
+    Perhaps (AreDateRuns text) words.date × Perhaps (λ (d : DayRuns). IsRun text d.days) words.days
+    × Perhaps (AreTimeRuns text) words.time

@@ -21,10 +21,13 @@ each_fits part counts = list_all (λ c. fits_type part (share part c)) counts
 pub record Tallies (tally : Tally) (counts : List Count) : Type 0 where
   pub months : tally.months_fit ≡ each_fits Months counts
   pub days : each_fits Months counts ≡ true → tally.days_fit ≡ each_fits Days counts
-  pub micros : each_fits Months counts ≡ true → each_fits Days counts ≡ true → tally.micros_fit ≡ each_fits Micros counts
+  pub micros : each_fits Months counts ≡ true → each_fits Days counts ≡ true
+      → tally.micros_fit ≡ each_fits Micros counts
   pub month_sum : each_fits Months counts ≡ true → tally.totals.months ≡ total Months counts
-  pub day_sum : each_fits Months counts ≡ true → each_fits Days counts ≡ true → tally.totals.days ≡ total Days counts
-  pub micro_sum : each_fits Months counts ≡ true → each_fits Days counts ≡ true → each_fits Micros counts ≡ true → tally.totals.micros ≡ total Micros counts
+  pub day_sum : each_fits Months counts ≡ true → each_fits Days counts ≡ true
+      → tally.totals.days ≡ total Days counts
+  pub micro_sum : each_fits Months counts ≡ true → each_fits Days counts ≡ true
+      → each_fits Micros counts ≡ true → tally.totals.micros ≡ total Micros counts
 
 -- the tally with a mark that a share left this part
 abbrev pub marked : Part → Tally → Tally
@@ -37,7 +40,8 @@ abbrev pub Answers : List Count → Result Interval ParseError → Type 0
 Answers counts (Ok t) = IsTrue (fits counts) × (t ≡ sum_of counts)
 Answers counts (Err (InvalidInterval m)) = ⊥
 Answers counts (Err (BadUnit start end)) = ⊥
-Answers counts (Err (InvalidYearMonth m)) = (misfit counts ≡ Some Months) × (m.now ≡ year_month_overflow)
+Answers counts (Err (InvalidYearMonth m)) =
+    (misfit counts ≡ Some Months) × (m.now ≡ year_month_overflow)
 Answers counts (Err (InvalidDay m)) = (misfit counts ≡ Some Days) × (m.now ≡ day_overflow)
 Answers counts (Err (InvalidTime m)) = (misfit counts ≡ Some Micros) × (m.now ≡ time_overflow)
 

@@ -45,13 +45,15 @@ pub record IsBehindAt (front before bytes : List ℕ) : Type 0 where
 -- the tally is of the counts of the body behind the `@`
 abbrev pub IsFrontTally : List ℕ → Bool → Tally → Type 0
 IsFrontTally front ago tally =
-    (before : List ℕ) × (bytes : List ℕ) × (counts : List Count) × IsBehindAt front before bytes × IsBody bytes counts
-    × Tallies tally (turned_counts ago counts)
+    (before : List ℕ) × (bytes : List ℕ) × (counts : List Count) × IsBehindAt front before bytes
+    × IsBody bytes counts × Tallies tally (turned_counts ago counts)
 
 -- why there is no body behind an `@`
 abbrev pub IsFrontMisread : List ℕ → Misread → Type 0
 IsFrontMisread front misread.NoItems =
-    (before bytes : List ℕ) → IsBehindAt front before bytes → (verdict verbose_names [] 0 (words bytes) ≡ Unspelled) × (words bytes ≡ codes "0" ∷ [] → ⊥)
+    (before bytes : List ℕ) → IsBehindAt front before bytes
+    → (verdict verbose_names [] 0 (words bytes) ≡ Unspelled) × (words bytes ≡ codes "0" ∷ [] → ⊥)
 IsFrontMisread front (misread.BadName start end) =
-    (before : List ℕ) × (bytes : List ℕ) × (from : ℕ) × (to : ℕ) × IsBehindAt front before bytes × IsBadName verbose_names bytes from to
-    × (start ≡ length before + 1 + from) × (end ≡ length before + 1 + to)
+    (before : List ℕ) × (bytes : List ℕ) × (from : ℕ) × (to : ℕ) × IsBehindAt front before bytes
+    × IsBadName verbose_names bytes from to × (start ≡ length before + 1 + from)
+    × (end ≡ length before + 1 + to)
