@@ -26,7 +26,9 @@ pub AddsUp-nil : (part : Part) → AddsUp part [] (pos 0)
 AddsUp-nil part = record { each = refl; total_is = refl }
 
 -- one count, by the numbers of its digits
-pub AddsUp-one : (part : Part) (c : Count) (w r : ℕ) → number_of c.whole ≡ w → rounded (scale_of c.unit) c.fraction ≡ r → IsTrue (fits_type part (signed c.negative (magnitude part c.unit w r))) → AddsUp part (c ∷ []) (signed c.negative (magnitude part c.unit w r))
+pub AddsUp-one : (part : Part) (c : Count) (w r : ℕ) → number_of c.whole ≡ w → rounded (scale_of c.unit) c.fraction ≡ r
+    → IsTrue (fits_type part (signed c.negative (magnitude part c.unit w r)))
+    → AddsUp part (c ∷ []) (signed c.negative (magnitude part c.unit w r))
 AddsUp-one part c w r whole fraction fits = record {
   each = rw (whole, fraction) (and_from _ true fits refl);
   total_is = rw (whole, fraction) (omega (arith, ints));
@@ -36,5 +38,6 @@ AddsUp-one part c w r whole fraction fits = record {
 pub AddsUp-same : (part : Part) (counts : List Count) (y z : ℤ) → AddsUp part counts y → y ≡ z → AddsUp part counts z
 AddsUp-same part counts y z h e = record { each = h.each; total_is = h.total_is ∙ e }
 
-pub part_fits-AddsUp : (part : Part) (counts : List Count) (z : ℤ) → AddsUp part counts z → IsTrue (fits_type part z) → IsTrue (part_fits part counts)
+pub part_fits-AddsUp : (part : Part) (counts : List Count) (z : ℤ) → AddsUp part counts z → IsTrue (fits_type part z)
+    → IsTrue (part_fits part counts)
 part_fits-AddsUp part counts z h fits = and_from _ _ h.each (rw h.total_is fits)

@@ -58,7 +58,8 @@ last_end : (u t : Bool) (b : ℕ) → is_blank b ≡ u → after_byte t b ≡ wo
 last_end true t b h = rw h refl
 last_end false t b h = refl
 
-more_end : (u v t : Bool) (b : ℕ) (ws : List (List ℕ)) → is_blank b ≡ u → words_end (after_byte t b) ws ≡ words_end t (cond u ws (cond v ((b ∷ []) ∷ ws) (onto_first b ws)))
+more_end : (u v t : Bool) (b : ℕ) (ws : List (List ℕ)) → is_blank b ≡ u
+    → words_end (after_byte t b) ws ≡ words_end t (cond u ws (cond v ((b ∷ []) ∷ ws) (onto_first b ws)))
 more_end true v t b ws h = rw h refl
 more_end false true t b ws h = refl
 more_end false false t b ws h = sym (onto_end t b ws)

@@ -186,7 +186,9 @@ verbose_names_in Hour = refl
 verbose_names_in Minute = refl
 verbose_names_in Second = refl
 
-spelled_in : (item : List (List ℕ)) (number name : List ℕ) → In number → In name → ((item ≡ number ∷ name ∷ []) ⊎ (item ≡ (number ++ name) ∷ [])) → AllIn item
+spelled_in : (item : List (List ℕ)) (number name : List ℕ) → In number → In name
+    → ((item ≡ number ∷ name ∷ []) ⊎ (item ≡ (number ++ name) ∷ []))
+    → AllIn item
 spelled_in item number name n m (inl e) = subst AllIn (sym e) (n, (m, tt))
 spelled_in item number name n m (inr e) = subst AllIn (sym e) (append number name n m, tt)
 

@@ -19,13 +19,16 @@ fits_or_not : (counts : List Count) (part : Part) → IsTrue (fits counts) → m
 fits_or_not counts part fit misses = let none = (misfit-none counts).1 fit in let clash : None ≡ Some part = sym none ∙ misses in cc
 
 -- what is answered is what the text denotes, or why it denotes nothing
-pub answers_ok : (Shape : List ℕ → List Count → Type 0) (text : List ℕ) (counts : List Count) → Shape text counts → (result : Result Interval ParseError) → Answers counts result
+pub answers_ok : (Shape : List ℕ → List Count → Type 0) (text : List ℕ) (counts : List Count) → Shape text counts
+    → (result : Result Interval ParseError) → Answers counts result
     → IfOk result (λ t. Denotes Shape text t)
 answers_ok Shape text counts shape (Ok t) answer = (counts, shape, answer.0, answer.1)
 answers_ok Shape text counts shape (Err e) answer = tt
 
-pub answers_err : (Shape : List ℕ → List Count → Type 0) (IsBadPlace : List ℕ → ℕ → ℕ → Type 0) (message text : List ℕ) (counts : List Count) → Shape text counts
-    → (result : Result Interval ParseError) → Answers counts result → IfErr result (λ e. Refuses Shape IsBadPlace message text e)
+pub answers_err :
+    (Shape : List ℕ → List Count → Type 0) (IsBadPlace : List ℕ → ℕ → ℕ → Type 0) (message text : List ℕ) (counts : List Count)
+    → Shape text counts → (result : Result Interval ParseError) → Answers counts result
+    → IfErr result (λ e. Refuses Shape IsBadPlace message text e)
 answers_err Shape IsBadPlace message text counts shape (Ok t) answer = tt
 answers_err Shape IsBadPlace message text counts shape (Err (InvalidInterval m)) answer = absurd answer
 answers_err Shape IsBadPlace message text counts shape (Err (BadUnit start end)) answer = absurd answer
@@ -36,8 +39,10 @@ answers_err Shape IsBadPlace message text counts shape (Err (InvalidTime m)) ans
 -- ---- from what is answered to what else it is, for a shape that gives a text one list of counts
 
 -- what the text denotes is what is answered
-pub all_from : (Shape : List ℕ → List Count → Type 0) (IsBad : List ℕ → ℕ → ℕ → Type 0) (message : List ℕ) → HasOneList Shape → (text : List ℕ) (result : Result Interval ParseError)
-    → IfOk result (λ t. Denotes Shape text t) → IfErr result (λ e. Refuses Shape IsBad message text e) → (t : Interval) → Denotes Shape text t → result ≡ Ok t
+pub all_from : (Shape : List ℕ → List Count → Type 0) (IsBad : List ℕ → ℕ → ℕ → Type 0) (message : List ℕ) → HasOneList Shape
+    → (text : List ℕ) (result : Result Interval ParseError) → IfOk result (λ t. Denotes Shape text t)
+    → IfErr result (λ e. Refuses Shape IsBad message text e) → (t : Interval) → Denotes Shape text t
+    → result ≡ Ok t
 all_from Shape IsBad message one text (Ok u) ok err t denotes =
     let same : sum_of ok.0 ≡ sum_of denotes.0 = ap sum_of (one text ok.0 denotes.0 ok.1 denotes.1) in
     ap (λ (v : Interval). Ok v) (ok.3 ∙ same ∙ sym denotes.3)
@@ -51,15 +56,19 @@ all_from Shape IsBad message one text (Err (InvalidTime m)) ok err t denotes =
     absurd (fits_or_not denotes.0 _ denotes.2 (ap misfit (one text denotes.0 err.0.0 denotes.1 err.0.1) ∙ err.0.2))
 
 -- of two parts that don't fit first, one is the other
-one_part : (Shape : List ℕ → List Count → Type 0) → HasOneList Shape → (text : List ℕ) (a b : Part) → Misfits Shape text a → Misfits Shape text b → a ≡ b
+one_part : (Shape : List ℕ → List Count → Type 0) → HasOneList Shape → (text : List ℕ) (a b : Part) → Misfits Shape text a
+    → Misfits Shape text b
+    → a ≡ b
 one_part Shape one text a b x y = let same : Some a ≡ Some b = sym x.2 ∙ ap misfit (one text x.0 y.0 x.1 y.1) ∙ y.2 in cc
 
 is_range_of : (part other : Part) (e : ParseError) → part ≡ other → IsRangeOf part e → IsRangeOf other e
 is_range_of part other e same h = subst (λ (p : Part). IsRangeOf p e) same h
 
 -- where a part doesn't fit, the refusal is that part's
-pub range_from : (Shape : List ℕ → List Count → Type 0) (IsBad : List ℕ → ℕ → ℕ → Type 0) (message : List ℕ) → HasOneList Shape → (text : List ℕ) (result : Result Interval ParseError)
-    → IfOk result (λ t. Denotes Shape text t) → IfErr result (λ e. Refuses Shape IsBad message text e) → (part : Part) → Misfits Shape text part → IsErrAnd result (IsRangeOf part)
+pub range_from : (Shape : List ℕ → List Count → Type 0) (IsBad : List ℕ → ℕ → ℕ → Type 0) (message : List ℕ) → HasOneList Shape
+    → (text : List ℕ) (result : Result Interval ParseError) → IfOk result (λ t. Denotes Shape text t)
+    → IfErr result (λ e. Refuses Shape IsBad message text e) → (part : Part) → Misfits Shape text part
+    → IsErrAnd result (IsRangeOf part)
 range_from Shape IsBad message one text (Ok u) ok err part misfits =
     absurd (fits_or_not ok.0 part ok.2 (ap misfit (one text ok.0 misfits.0 ok.1 misfits.1) ∙ misfits.2))
 range_from Shape IsBad message one text (Err (InvalidInterval m)) ok err part misfits = absurd (err.0 misfits.0 misfits.1)
@@ -69,8 +78,10 @@ range_from Shape IsBad message one text (Err (InvalidDay m)) ok err part misfits
 range_from Shape IsBad message one text (Err (InvalidTime m)) ok err part misfits = is_range_of Micros part (InvalidTime m) (one_part Shape one text Micros part err.0 misfits) err.1
 
 -- without a shape the refusal says so
-pub none_from : (Shape : List ℕ → List Count → Type 0) (IsBad : List ℕ → ℕ → ℕ → Type 0) (message text : List ℕ) (result : Result Interval ParseError)
-    → IfOk result (λ t. Denotes Shape text t) → IfErr result (λ e. Refuses Shape IsBad message text e) → HasNoShape Shape text → IsErrAnd result (λ e. ¬ (IsRange e))
+pub none_from :
+    (Shape : List ℕ → List Count → Type 0) (IsBad : List ℕ → ℕ → ℕ → Type 0) (message text : List ℕ) (result : Result Interval ParseError)
+    → IfOk result (λ t. Denotes Shape text t) → IfErr result (λ e. Refuses Shape IsBad message text e) → HasNoShape Shape text
+    → IsErrAnd result (λ e. ¬ (IsRange e))
 none_from Shape IsBad message text (Ok u) ok err none = absurd (none ok.0 ok.1)
 none_from Shape IsBad message text (Err (InvalidInterval m)) ok err none = λ range. range
 none_from Shape IsBad message text (Err (BadUnit start end)) ok err none = λ range. range
@@ -84,8 +95,10 @@ pub record IsPlaces (Shape : List ℕ → List Count → Type 0) (IsBad : List �
   pub one : (text : List ℕ) (s e t f : ℕ) → IsBad text s e → IsBad text t f → (s ≡ t) × (e ≡ f)
 
 -- where a bad place is, the refusal names it
-pub bad_from : (Shape : List ℕ → List Count → Type 0) (IsBad : List ℕ → ℕ → ℕ → Type 0) (message : List ℕ) → IsPlaces Shape IsBad → (text : List ℕ) (result : Result Interval ParseError)
-    → IfOk result (λ t. Denotes Shape text t) → IfErr result (λ e. Refuses Shape IsBad message text e) → (start end : ℕ) → IsBad text start end → result ≡ Err (BadUnit start end)
+pub bad_from : (Shape : List ℕ → List Count → Type 0) (IsBad : List ℕ → ℕ → ℕ → Type 0) (message : List ℕ) → IsPlaces Shape IsBad
+    → (text : List ℕ) (result : Result Interval ParseError) → IfOk result (λ t. Denotes Shape text t)
+    → IfErr result (λ e. Refuses Shape IsBad message text e) → (start end : ℕ) → IsBad text start end
+    → result ≡ Err (BadUnit start end)
 bad_from Shape IsBad message places text (Ok u) ok err start end bad = absurd (places.none text start end ok.0 bad ok.1)
 bad_from Shape IsBad message places text (Err (InvalidInterval m)) ok err start end bad = absurd (err.1 start end bad)
 bad_from Shape IsBad message places text (Err (BadUnit s e)) ok err start end bad = let same = places.one text s e start end err.1 bad in rw (same.0, same.1) refl

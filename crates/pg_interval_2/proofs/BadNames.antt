@@ -17,8 +17,11 @@ use Rattle.pg_interval_2.proofs.Verdicts.{Names, AreNames, glued_kind, number_ki
 
 -- ---- a number and letters, judged
 
-named_split : (names : Names) (counts : List Count) (total : ℕ) (bytes : List ℕ) (n : Numeral) (letters rest : List ℕ) (h : StandsNamed bytes n letters rest) (blanks : List ℕ) → h.blanks ≡ blanks
-    → (next : List Count → Verdict) × (verdict names counts total (words bytes) ≡ judge_unit counts (total + length h.number) letters n (unit_named names letters) next)
+named_split :
+    (names : Names) (counts : List Count) (total : ℕ) (bytes : List ℕ) (n : Numeral) (letters rest : List ℕ)
+    (h : StandsNamed bytes n letters rest) (blanks : List ℕ) → h.blanks ≡ blanks
+    → (next : List Count → Verdict)
+    × (verdict names counts total (words bytes) ≡ judge_unit counts (total + length h.number) letters n (unit_named names letters) next)
 named_split names counts total bytes n letters rest h [] none =
     let word = h.number ++ letters in
     let split : bytes ≡ word ++ rest = h.split ∙ ap (λ (l : List ℕ). h.number ++ (l ++ (letters ++ rest))) none ∙ sym (append_assoc h.number letters rest) in
@@ -43,22 +46,30 @@ named_split names counts total bytes n letters rest h (b ∷ bs) some =
     )
 
 -- a number with letters, behind blanks or none, in front of bytes
-pub named_words : (names : Names) (counts : List Count) (total : ℕ) (bytes : List ℕ) (n : Numeral) (letters rest : List ℕ) (h : StandsNamed bytes n letters rest)
-    → (next : List Count → Verdict) × (verdict names counts total (words bytes) ≡ judge_unit counts (total + length h.number) letters n (unit_named names letters) next)
+pub named_words :
+    (names : Names) (counts : List Count) (total : ℕ) (bytes : List ℕ) (n : Numeral) (letters rest : List ℕ)
+    (h : StandsNamed bytes n letters rest)
+    → (next : List Count → Verdict)
+    × (verdict names counts total (words bytes) ≡ judge_unit counts (total + length h.number) letters n (unit_named names letters) next)
 named_words names counts total bytes n letters rest h = named_split names counts total bytes n letters rest h h.blanks refl
 
-judge_if : (t : Bool) (total : ℕ) (letters : List ℕ) (other : Verdict) → (t ≡ false → ⊥) → cond t (BadLetters total letters) other ≡ BadLetters total letters
+judge_if : (t : Bool) (total : ℕ) (letters : List ℕ) (other : Verdict) → (t ≡ false → ⊥)
+    → cond t (BadLetters total letters) other ≡ BadLetters total letters
 judge_if true total letters other h = refl
 judge_if false total letters other h = absurd (h refl)
 
-judge_bad : (names : Names) (counts : List Count) (total : ℕ) (letters : List ℕ) (n : Numeral) (found : Option TimeUnit) (next : List Count → Verdict) → unit_named names letters ≡ found
-    → ¬ (IsFreshName names counts letters) → judge_unit counts total letters n found next ≡ BadLetters total letters
+judge_bad :
+    (names : Names) (counts : List Count) (total : ℕ) (letters : List ℕ) (n : Numeral) (found : Option TimeUnit)
+    (next : List Count → Verdict) → unit_named names letters ≡ found → ¬ (IsFreshName names counts letters)
+    → judge_unit counts total letters n found next ≡ BadLetters total letters
 judge_bad names counts total letters n None next is bad = refl
 judge_bad names counts total letters n (Some unit) next is bad = judge_if (counts_unit unit counts) total letters _ (λ fresh. bad (unit, is, fresh))
 
 -- a number with letters that are no fresh name, in front of bytes
-pub bad_in_front : (names : Names) (counts : List Count) (total : ℕ) (bytes : List ℕ) (n : Numeral) (letters rest : List ℕ) (h : StandsNamed bytes n letters rest)
-    → ¬ (IsFreshName names counts letters) → verdict names counts total (words bytes) ≡ BadLetters (total + length h.number) letters
+pub bad_in_front :
+    (names : Names) (counts : List Count) (total : ℕ) (bytes : List ℕ) (n : Numeral) (letters rest : List ℕ)
+    (h : StandsNamed bytes n letters rest) → ¬ (IsFreshName names counts letters)
+    → verdict names counts total (words bytes) ≡ BadLetters (total + length h.number) letters
 bad_in_front names counts total bytes n letters rest h bad =
     let judged = named_words names counts total bytes n letters rest h in
     judged.1 ∙ judge_bad names counts (total + length h.number) letters n (unit_named names letters) judged.0 refl bad
@@ -66,13 +77,15 @@ bad_in_front names counts total bytes n letters rest h bad =
 -- ---- whole texts
 
 -- what items spell
-pub items_verdict : (names : Names) → AreNames names → (all : List (List ℕ)) (counts : List Count) → AreItems names all counts → verdict names [] 0 all ≡ Spelled counts
+pub items_verdict : (names : Names) → AreNames names → (all : List (List ℕ)) (counts : List Count) → AreItems names all counts
+    → verdict names [] 0 all ≡ Spelled counts
 items_verdict names letters all counts (items, join, counted, distinct) =
     let distinct' : has_distinct_units (all_counts items) ≡ true = ap has_distinct_units (sym counted) ∙ distinct in
     ap (verdict names [] 0) (sym (append-nil all)) ∙ advance names letters all [] items [] 0 join distinct' ∙ ap Spelled (sym counted)
 
 -- what the words before a bad name come to
-pub behind_items : (names : Names) → AreNames names → (lead rest : List ℕ) (counts : List Count) → AreItems names (words lead) counts → EndsInBlank lead
+pub behind_items : (names : Names) → AreNames names → (lead rest : List ℕ) (counts : List Count) → AreItems names (words lead) counts
+    → EndsInBlank lead
     → verdict names [] 0 (words (lead ++ rest)) ≡ verdict names counts (total_length (words lead)) (words rest)
 behind_items names letters lead rest counts (items, join, counted, distinct) closed =
     let distinct' : has_distinct_units (all_counts items) ≡ true = ap has_distinct_units (sym counted) ∙ distinct in
@@ -80,7 +93,8 @@ behind_items names letters lead rest counts (items, join, counted, distinct) clo
     ∙ ap (λ (l : List Count). verdict names l (0 + total_length (words lead)) (words rest)) (sym counted) ∙ ap (λ (k : ℕ). verdict names counts k (words rest)) (omega arith)
 
 abbrev stands_at : (names : Names) (text : List ℕ) (start end : ℕ) (h : IsBadName names text start end)
-    → StandsNamed (h.number ++ (h.blanks ++ (h.letters ++ h.after))) (record { negative = h.c.negative; whole = h.c.whole; fraction = h.c.fraction }) h.letters h.after
+    → StandsNamed (h.number ++ (h.blanks ++ (h.letters ++ h.after)))
+    (record { negative = h.c.negative; whole = h.c.whole; fraction = h.c.fraction }) h.letters h.after
 stands_at names text start end h = record { number = h.number; blanks = h.blanks; digits = h.digits; blank = h.blank; some = h.some; ascii = h.ascii; ends = h.ends; split = refl }
 
 pub bad_verdict : (names : Names) → AreNames names → (text : List ℕ) (start end : ℕ) (h : IsBadName names text start end)
@@ -91,12 +105,15 @@ bad_verdict names letters text start end h =
     ∙ bad_in_front names h.counts (total_length (words h.lead)) (h.number ++ (h.blanks ++ (h.letters ++ h.after))) _ h.letters h.after (stands_at names text start end h) h.bad
 
 -- a text with a bad name has no shape
-pub no_shape_at_bad_name : (names : Names) → AreNames names → (text : List ℕ) (start end : ℕ) (counts : List Count) → IsBadName names text start end → AreItems names (words text) counts → ⊥
+pub no_shape_at_bad_name : (names : Names) → AreNames names → (text : List ℕ) (start end : ℕ) (counts : List Count)
+    → IsBadName names text start end → AreItems names (words text) counts
+    → ⊥
 no_shape_at_bad_name names letters text start end counts bad items =
     let clash : Spelled counts ≡ BadLetters (total_length (words bad.lead) + length bad.number) bad.letters = sym (items_verdict names letters (words text) counts items) ∙ bad_verdict names letters text start end bad in cc
 
 -- words have one list of counts
-pub one_counts : (names : Names) → AreNames names → (all : List (List ℕ)) (a b : List Count) → AreItems names all a → AreItems names all b → a ≡ b
+pub one_counts : (names : Names) → AreNames names → (all : List (List ℕ)) (a b : List Count) → AreItems names all a → AreItems names all b
+    → a ≡ b
 one_counts names letters all a b ha hb =
     let same : Spelled a ≡ Spelled b = sym (items_verdict names letters all a ha) ∙ items_verdict names letters all b hb in cc
 
@@ -114,7 +131,8 @@ ink_blanks (b ∷ bs) h = let split = and_parts (is_blank b) (list_all is_blank 
 abbrev pub before_name : (names : Names) (text : List ℕ) (start end : ℕ) → IsBadName names text start end → List ℕ
 before_name names text start end h = h.lead ++ (h.number ++ h.blanks)
 
-before_ink : (names : Names) (text : List ℕ) (start end : ℕ) (h : IsBadName names text start end) → ink (before_name names text start end h) ≡ total_length (words h.lead) + length h.number
+before_ink : (names : Names) (text : List ℕ) (start end : ℕ) (h : IsBadName names text start end)
+    → ink (before_name names text start end h) ≡ total_length (words h.lead) + length h.number
 before_ink names text start end h =
     let a = ink-append h.lead (h.number ++ h.blanks) in
     let b = ink-append h.number h.blanks in
@@ -123,18 +141,22 @@ before_ink names text start end h =
     let e = ink_blanks h.blanks h.blank in
     omega (arith, a, b, c, d, e)
 
-before_split : (names : Names) (text : List ℕ) (start end : ℕ) (h : IsBadName names text start end) → text ≡ before_name names text start end h ++ (h.letters ++ h.after)
+before_split : (names : Names) (text : List ℕ) (start end : ℕ) (h : IsBadName names text start end)
+    → text ≡ before_name names text start end h ++ (h.letters ++ h.after)
 before_split names text start end h =
     h.split ∙ ap (λ (l : List ℕ). h.lead ++ l) (sym (append_assoc h.number h.blanks (h.letters ++ h.after))) ∙ sym (append_assoc h.lead (h.number ++ h.blanks) (h.letters ++ h.after))
 
 -- two places of the same letters behind as many bytes that aren't blank
-same_before : (xs ys letters more s t : List ℕ) → 0 < length letters → AreLetters letters → letters ≡ more → ink xs ≡ ink ys → xs ++ (letters ++ s) ≡ ys ++ (more ++ t) → xs ≡ ys
+same_before : (xs ys letters more s t : List ℕ) → 0 < length letters → AreLetters letters → letters ≡ more → ink xs ≡ ink ys
+    → xs ++ (letters ++ s) ≡ ys ++ (more ++ t)
+    → xs ≡ ys
 same_before xs ys [] more s t some l same count e = absurd (omega arith)
 same_before xs ys (c ∷ cs) more s t some l same count e =
     let solid = letter_no_blank c (first_letter c cs l) in
     same_place xs ys (cs ++ s) (cs ++ t) c c solid solid count (e ∙ ap (λ (x : List ℕ). ys ++ (x ++ t)) (sym same))
 
-pub one_bad_name : (names : Names) → AreNames names → (text : List ℕ) (s e t f : ℕ) → IsBadName names text s e → IsBadName names text t f → (s ≡ t) × (e ≡ f)
+pub one_bad_name : (names : Names) → AreNames names → (text : List ℕ) (s e t f : ℕ) → IsBadName names text s e → IsBadName names text t f
+    → (s ≡ t) × (e ≡ f)
 one_bad_name names letters text s e t f a b =
     let same : BadLetters (total_length (words a.lead) + length a.number) a.letters ≡ BadLetters (total_length (words b.lead) + length b.number) b.letters =
     sym (bad_verdict names letters text s e a) ∙ bad_verdict names letters text t f b in

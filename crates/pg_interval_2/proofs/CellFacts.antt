@@ -19,7 +19,9 @@ read_8 z fits = ap (cast_signed w64) (from_be_bytes-to_be_bytes_8 (cast_unsigned
 below_8 : (bytes : List ℕ) → ((i : ℕ) → slice_index bytes i < 256) → from_be_bytes w64 bytes < 2 ^ 64
 below_8 bytes small = omega (arith, small 0, small 1, small 2, small 3, small 4, small 5, small 6, small 7)
 
-pub written_8 : (bytes : List ℕ) (z : ℤ) → length bytes ≡ 8 → ((i : ℕ) → slice_index bytes i < 256) → z ≡ cast_signed w64 (from_be_bytes w64 bytes) → big_endian w64 (cast_signed w64 (cast_unsigned w64 z)) ≡ bytes
+pub written_8 : (bytes : List ℕ) (z : ℤ) → length bytes ≡ 8 → ((i : ℕ) → slice_index bytes i < 256)
+    → z ≡ cast_signed w64 (from_be_bytes w64 bytes)
+    → big_endian w64 (cast_signed w64 (cast_unsigned w64 z)) ≡ bytes
 written_8 bytes z eight small is =
     let back = of_z-to_z w64 (from_be_bytes w64 bytes) (below_8 bytes small) in
     be_bytes_8 bytes _ eight small (ap (λ z. cast_unsigned w64 (cast_signed w64 (cast_unsigned w64 z))) is ∙ ap (λ n. cast_unsigned w64 (cast_signed w64 n)) back ∙ back)

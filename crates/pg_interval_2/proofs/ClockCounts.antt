@@ -89,7 +89,8 @@ abbrev pub second_count : Bool → ℤ → Count
 second_count negative micros = count_of negative (padded 2 (seconds_of micros)) (take 6 (micros_digits (subsecond_of micros))) Second
 
 -- one field of a part of a number
-pub field_sum : (part : Part) (c : Count) (w r : ℕ) (z : ℤ) → number_of c.whole ≡ w → rounded (scale_of c.unit) c.fraction ≡ r → Serves c.negative z → magnitude part c.unit w r ≤ unsigned_abs z → IsTrue (fits_type part z)
+pub field_sum : (part : Part) (c : Count) (w r : ℕ) (z : ℤ) → number_of c.whole ≡ w → rounded (scale_of c.unit) c.fraction ≡ r
+    → Serves c.negative z → magnitude part c.unit w r ≤ unsigned_abs z → IsTrue (fits_type part z)
     → AddsUp part (c ∷ []) (signed c.negative (magnitude part c.unit w r))
 field_sum part c w r z whole fraction serves below fits = AddsUp-one part c w r whole fraction (fits_type-serves part c.negative z (magnitude part c.unit w r) serves below fits)
 
@@ -97,7 +98,8 @@ field_sum part c w r z whole fraction serves below fits = AddsUp-one part c w r 
 abbrev pub three_counts : Bool → ℕ → ℤ → List Count
 three_counts negative width micros = hour_count negative width micros ∷ minute_count negative micros ∷ second_count negative micros ∷ []
 
-three_micros : (negative : Bool) (width : ℕ) (micros : ℤ) → Serves negative micros → IsTrue (fits_type Micros micros) → AddsUp Micros (three_counts negative width micros) micros
+three_micros : (negative : Bool) (width : ℕ) (micros : ℤ) → Serves negative micros → IsTrue (fits_type Micros micros)
+    → AddsUp Micros (three_counts negative width micros) micros
 three_micros negative width micros serves fits =
     let small : unsigned_abs micros ≤ 2 ^ 63 = abs_fits Micros micros fits in
     AddsUp-same Micros _ _ _
@@ -107,18 +109,23 @@ three_micros negative width micros serves fits =
     (signed_three negative micros _ _ _ serves (omega (arith, time_parts micros)))
 
 -- a field that has nothing of a part
-pub field_nothing : (part : Part) (c : Count) (w r : ℕ) → number_of c.whole ≡ w → rounded (scale_of c.unit) c.fraction ≡ r → magnitude part c.unit w r ≡ 0 → AddsUp part (c ∷ []) (pos 0)
+pub field_nothing : (part : Part) (c : Count) (w r : ℕ) → number_of c.whole ≡ w → rounded (scale_of c.unit) c.fraction ≡ r
+    → magnitude part c.unit w r ≡ 0
+    → AddsUp part (c ∷ []) (pos 0)
 field_nothing part c w r whole fraction none =
     AddsUp-same part _ _ _ (AddsUp-one part c w r whole fraction (rw none (fits_type-signed_zero part c.negative))) (rw none (signed-zero c.negative))
 
 three_nothing : (part : Part) (negative : Bool) (width : ℕ) (micros : ℤ) → unsigned_abs micros ≤ 2 ^ 63
-    → magnitude part Hour (hours_of micros) 0 ≡ 0 → magnitude part Minute (minutes_of micros) 0 ≡ 0 → magnitude part Second (seconds_of micros) (subsecond_of micros) ≡ 0 → AddsUp part (three_counts negative width micros) (pos 0)
+    → magnitude part Hour (hours_of micros) 0 ≡ 0 → magnitude part Minute (minutes_of micros) 0 ≡ 0
+    → magnitude part Second (seconds_of micros) (subsecond_of micros) ≡ 0
+    → AddsUp part (three_counts negative width micros) (pos 0)
 three_nothing part negative width micros small no_hours no_minutes no_seconds =
     AddsUp-append part (hour_count negative width micros ∷ []) _ (pos 0) _ (field_nothing part (hour_count negative width micros) (hours_of micros) 0 (number_of-padded width _ (omega arith)) (rounded-nil _) no_hours)
     (AddsUp-append part (minute_count negative micros ∷ []) _ (pos 0) _ (field_nothing part (minute_count negative micros) (minutes_of micros) 0 (number_of-padded 2 _ (omega arith)) (rounded-nil _) no_minutes)
     (field_nothing part (second_count negative micros) (seconds_of micros) (subsecond_of micros) (number_of-padded 2 _ (omega arith)) (cut_micros _ (omega arith)) no_seconds))
 
-pub three_counts-sum : (negative : Bool) (width : ℕ) (t : Interval) → IsInRange t → Serves negative t.microseconds → SumsTo (three_counts negative width t.microseconds) (time_of t)
+pub three_counts-sum : (negative : Bool) (width : ℕ) (t : Interval) → IsInRange t → Serves negative t.microseconds
+    → SumsTo (three_counts negative width t.microseconds) (time_of t)
 three_counts-sum negative width t range serves =
     let fits : IsTrue (fits_type Micros t.microseconds) = fits_64 t.microseconds range.microseconds in
     let small : unsigned_abs t.microseconds ≤ 2 ^ 63 = abs_fits Micros t.microseconds fits in
@@ -129,7 +136,8 @@ three_counts-sum negative width t range serves =
     }
 
 -- those of them that aren't 0
-pub kept_counts-sum : (width : ℕ) (t : Interval) → IsInRange t → SumsTo (filter is_nonzero (three_counts (is_negative t.microseconds) width t.microseconds)) (time_of t)
+pub kept_counts-sum : (width : ℕ) (t : Interval) → IsInRange t
+    → SumsTo (filter is_nonzero (three_counts (is_negative t.microseconds) width t.microseconds)) (time_of t)
 kept_counts-sum width t range =
     let all = three_counts-sum (is_negative t.microseconds) width t range (signed-abs t.microseconds) in
     record { months = AddsUp-filter Months _ _ all.months; days = AddsUp-filter Days _ _ all.days; micros = AddsUp-filter Micros _ _ all.micros }

@@ -17,7 +17,9 @@ some_digits text run is some =
     omega (arith, long, is.order, other)
 
 -- a clock whose fields have digits, and behind which a word ends
-pub closed : (fields : ClockFields) (rest : List ℕ) → 0 < length fields.hours → 0 < length fields.minutes → 0 < length fields.seconds → ends_word rest ≡ true → closed_clock fields rest ≡ ClockItem fields rest
+pub closed : (fields : ClockFields) (rest : List ℕ) → 0 < length fields.hours → 0 < length fields.minutes → 0 < length fields.seconds
+    → ends_word rest ≡ true
+    → closed_clock fields rest ≡ ClockItem fields rest
 closed fields rest h m s ends =
     let hours = lt-ltb 0 (length fields.hours) h in
     let minutes = lt-ltb 0 (length fields.minutes) m in

@@ -43,7 +43,8 @@ pub record IsSameFrame (x y : List ℕ) (a b : Bool) (u v s t : List ℕ) : Type
   pub ago : a ≡ b
   pub whole : whole_body a u s ≡ whole_body b v t
 
-pub one_frame : (text x y u v : List ℕ) (a b : Bool) (f : IsFramed text x u a) (g : IsFramed text y v b) → (a ≡ false → EndsInAgo text → ⊥) → (b ≡ false → EndsInAgo text → ⊥)
+pub one_frame : (text x y u v : List ℕ) (a b : Bool) (f : IsFramed text x u a) (g : IsFramed text y v b) → (a ≡ false → EndsInAgo text → ⊥)
+    → (b ≡ false → EndsInAgo text → ⊥)
     → IsSameFrame x y a b u v f.after g.after
 one_frame text x y u v true true f g h k =
     let e = sym f.joined ∙ g.joined in

@@ -17,7 +17,8 @@ time_letter : (letter : ℕ) (unit : TimeUnit) → time_unit letter ≡ Some uni
 time_letter letter unit h = grind (arith, nat_tests)
 
 -- a letter that means a unit is no digit and no point
-letter_ends : (in_time : Bool) (letter : ℕ) (unit : TimeUnit) → unit_in in_time letter ≡ Some unit → (is_ascii_digit letter ≡ false) × ((letter == 46) ≡ false)
+letter_ends : (in_time : Bool) (letter : ℕ) (unit : TimeUnit) → unit_in in_time letter ≡ Some unit
+    → (is_ascii_digit letter ≡ false) × ((letter == 46) ≡ false)
 letter_ends false letter unit h = date_letter letter unit h
 letter_ends true letter unit h = time_letter letter unit h
 
@@ -32,7 +33,8 @@ finds_pair in_time piece rest c h =
     rw (found, unit) refl
 
 -- what is read at a letter
-letter_is : (unit_of : ℕ → Option TimeUnit) (n : Numeral) (bytes : List ℕ) (c : Count) (rest : List ℕ) → read_letter unit_of n bytes ≡ Some (c, rest)
+letter_is : (unit_of : ℕ → Option TimeUnit) (n : Numeral) (bytes : List ℕ) (c : Count) (rest : List ℕ)
+    → read_letter unit_of n bytes ≡ Some (c, rest)
     → (letter : ℕ) × (unit : TimeUnit) × (bytes ≡ letter ∷ rest) × (unit_of letter ≡ Some unit) × (c ≡ count_with n unit)
 letter_is unit_of n [] c rest h = cc
 letter_is unit_of n (b ∷ bs) c rest h =
@@ -70,8 +72,9 @@ abbrev pub RestIs : (text : List ℕ) (counts : List Count) → IsIso text count
 RestIs text counts (inl alone) rest dates = (rest ≡ []) × (dates ≡ counts)
 RestIs text counts (inr timed) rest dates = (rest ≡ codes "T" ++ timed.time) × (dates ≡ timed.date_counts)
 
-pub rest_is : (text front rest : List ℕ) (dates counts : List Count) → ArePairs (unit_in false) front dates → read_pair (unit_in false) rest ≡ None
-    → text ≡ codes "P" ++ (front ++ rest) → (iso : IsIso text counts) → RestIs text counts iso rest dates
+pub rest_is : (text front rest : List ℕ) (dates counts : List Count) → ArePairs (unit_in false) front dates
+    → read_pair (unit_in false) rest ≡ None → text ≡ codes "P" ++ (front ++ rest) → (iso : IsIso text counts)
+    → RestIs text counts iso rest dates
 rest_is text front rest dates counts pairs stuck spelled (inl alone) =
     let whole : codes "P" ++ (front ++ rest) ≡ codes "P" ++ alone.0 = sym spelled ∙ alone.3 in
     let tails : front ++ rest ≡ alone.0 = cc in
@@ -85,8 +88,9 @@ rest_is text front rest dates counts pairs stuck spelled (inr timed) =
     pairs timed.dates same stuck (time_ends timed.time) in
     (both.1, both.0)
 
-pub behind_dates : (text front rest : List ℕ) (dates counts : List Count) → ArePairs (unit_in false) front dates → read_pair (unit_in false) rest ≡ None
-    → text ≡ codes "P" ++ (front ++ rest) → IsIso text counts → IsRest rest dates counts
+pub behind_dates : (text front rest : List ℕ) (dates counts : List Count) → ArePairs (unit_in false) front dates
+    → read_pair (unit_in false) rest ≡ None → text ≡ codes "P" ++ (front ++ rest) → IsIso text counts
+    → IsRest rest dates counts
 behind_dates text front rest dates counts pairs stuck spelled (inl alone) = let is = rest_is text front rest dates counts pairs stuck spelled (inl alone) in inl (is.0, sym is.1)
 behind_dates text front rest dates counts pairs stuck spelled (inr timed) =
     let is = rest_is text front rest dates counts pairs stuck spelled (inr timed) in

@@ -17,7 +17,8 @@ use Rattle.pg_interval_2.proofs.OrderFacts.{in_order, kept}
 
 -- a text of a date alone, whose pairs were taken
 pub alone_spelled : (text date : List ℕ) (old : Tally) (was is : Order) (spelled : OrderedTally) → text ≡ codes "P" ++ date → date ≢ []
-    → TakesPairs false date [] old spelled.tally was is → Tallies old [] → Orders false was [] → spelled.in_order ≡ is_kept false is → IsSpelled text spelled
+    → TakesPairs false date [] old spelled.tally was is → Tallies old [] → Orders false was [] → spelled.in_order ≡ is_kept false is
+    → IsSpelled text spelled
 alone_spelled text date old was is spelled whole some taken none unordered told =
     let same : date ≡ taken.front = taken.split ∙ append-nil taken.front in
     let alone : IsDateAlone unit_in text taken.counts = (taken.front, taken.pairs, (λ h. some (same ∙ h)), whole ∙ ap (λ (l : List ℕ). codes "P" ++ l) same) in
@@ -42,9 +43,11 @@ not_bare true time none some = absurd (some (none refl))
 not_bare false time none some = refl
 
 -- a text of a date and a time, whose pairs were taken
-pub timed_spelled : (text date time : List ℕ) (old mid : Tally) (was is from to : Order) (bare : Bool) (spelled : OrderedTally) → text ≡ codes "P" ++ date
-    → TakesPairs false date (codes "T" ++ time) old mid was is → TakesPairs true time [] mid spelled.tally from to → Tallies old [] → Orders false was [] → Orders true from []
-    → ((bare ≡ true) ↔ (time ≡ [])) → spelled.in_order ≡ ((is_kept false is && is_kept true to) && not bare) → IsSpelled text spelled
+pub timed_spelled : (text date time : List ℕ) (old mid : Tally) (was is from to : Order) (bare : Bool) (spelled : OrderedTally)
+    → text ≡ codes "P" ++ date → TakesPairs false date (codes "T" ++ time) old mid was is
+    → TakesPairs true time [] mid spelled.tally from to → Tallies old [] → Orders false was [] → Orders true from []
+    → ((bare ≡ true) ↔ (time ≡ [])) → spelled.in_order ≡ ((is_kept false is && is_kept true to) && not bare)
+    → IsSpelled text spelled
 timed_spelled text date time old mid was is from to bare spelled whole dates times none unordered unordered_times nothing told =
     let same : time ≡ times.front = times.split ∙ append-nil times.front in
     let all = times.tallied dates.counts (dates.tallied [] none) in

@@ -23,7 +23,8 @@ use Rattle.pg_interval_2.proofs.SumsTo.{SumsTo, SumsTo-date_time, Denotes-SumsTo
 zero_sum : (part : Part) (z : ℤ) → int_eq z (pos 0) ≡ true → AddsUp part (zero_count ∷ []) z
 zero_sum part z zero_is = AddsUp-same part _ _ _ (AddsUp-one part zero_count 0 0 refl (rounded-nil 1_000_000) (rw magnitude-zero (fits_type-zero part))) (rw magnitude-zero (sym (int_eq-zero z zero_is)))
 
-zero_sums : (t : Interval) → int_eq t.months (pos 0) && (int_eq t.days (pos 0) && int_eq t.microseconds (pos 0)) ≡ true → SumsTo (zero_count ∷ []) t
+zero_sums : (t : Interval) → int_eq t.months (pos 0) && (int_eq t.days (pos 0) && int_eq t.microseconds (pos 0)) ≡ true
+    → SumsTo (zero_count ∷ []) t
 zero_sums t zero_is =
     let outer = and_parts _ _ zero_is in
     let inner = and_parts _ _ outer.1 in

@@ -20,7 +20,9 @@ use Rattle.scan_core.proofs.Signs.{int_eq-zero, abs_zero}
 use Rattle.pg_interval_2.proofs.WrittenCounts.{part_counts, seconds_counts, zero_count, date_counts, time_counts, time_parts}
 
 -- a part that isn't 0
-whole_pair : (unit_of : ℕ → Option TimeUnit) (negative : Bool) (n letter : ℕ) (unit : TimeUnit) → n < 2 ^ 64 → unit_of letter ≡ Some unit → IsPair unit_of (minus negative ++ (decimal n ++ letter ∷ [])) (record { negative = negative; whole = decimal n; fraction = []; unit = unit })
+whole_pair : (unit_of : ℕ → Option TimeUnit) (negative : Bool) (n letter : ℕ) (unit : TimeUnit) → n < 2 ^ 64 → unit_of letter ≡ Some unit
+    → IsPair unit_of (minus negative ++ (decimal n ++ letter ∷ []))
+    (record { negative = negative; whole = decimal n; fraction = []; unit = unit })
 whole_pair unit_of negative n letter unit small means = record {
   number = minus negative ++ (decimal n ++ []);
   letter = letter;
@@ -29,7 +31,8 @@ whole_pair unit_of negative n letter unit small means = record {
   joined = simp (append_assoc, append-nil);
 }
 
-part_spelled : (unit_of : ℕ → Option TimeUnit) (negative : Bool) (n letter : ℕ) (unit : TimeUnit) → n < 2 ^ 64 → unit_of letter ≡ Some unit → ArePairs unit_of (iso_part negative n (letter ∷ [])) (part_counts negative n unit)
+part_spelled : (unit_of : ℕ → Option TimeUnit) (negative : Bool) (n letter : ℕ) (unit : TimeUnit) → n < 2 ^ 64 → unit_of letter ≡ Some unit
+    → ArePairs unit_of (iso_part negative n (letter ∷ [])) (part_counts negative n unit)
 unfolding iso_part
 part_spelled unit_of negative n letter unit small means =
     cond_two (n == 0) (ArePairs unit_of) _ _ _ _ (λ _. refl) (λ _. IsJoin-one (IsPair unit_of) _ _ (whole_pair unit_of negative n letter unit small means))
@@ -39,7 +42,9 @@ unfolding nonzero_digits
 whole_digits n small = cond_both (n == 0) _ _ AreDigits (λ _. tt) (λ _. digits_decimal n small)
 
 -- seconds with microseconds that aren't 0
-point_pair : (negative : Bool) (seconds micros : ℕ) → seconds < 2 ^ 64 → micros < 1_000_000 → IsPair time_unit (iso_decimal negative seconds micros) (record { negative = negative; whole = nonzero_digits seconds; fraction = padded 6 micros; unit = Second })
+point_pair : (negative : Bool) (seconds micros : ℕ) → seconds < 2 ^ 64 → micros < 1_000_000
+    → IsPair time_unit (iso_decimal negative seconds micros)
+    (record { negative = negative; whole = nonzero_digits seconds; fraction = padded 6 micros; unit = Second })
 unfolding iso_decimal
 point_pair negative seconds micros small below = record {
   number = minus negative ++ (nonzero_digits seconds ++ (codes "." ++ padded 6 micros));
@@ -49,12 +54,14 @@ point_pair negative seconds micros small below = record {
   joined = simp append_assoc;
 }
 
-seconds_spelled : (negative : Bool) (seconds micros : ℕ) → seconds < 2 ^ 64 → micros < 1_000_000 → ArePairs time_unit (iso_seconds negative seconds micros) (seconds_counts negative seconds micros)
+seconds_spelled : (negative : Bool) (seconds micros : ℕ) → seconds < 2 ^ 64 → micros < 1_000_000
+    → ArePairs time_unit (iso_seconds negative seconds micros) (seconds_counts negative seconds micros)
 unfolding iso_seconds
 seconds_spelled negative seconds micros small below =
     cond_two (micros == 0) (ArePairs time_unit) _ _ _ _ (λ _. part_spelled time_unit negative seconds 83 Second small refl) (λ _. IsJoin-one (IsPair time_unit) _ _ (point_pair negative seconds micros small below))
 
-date_spelled : (months days : ℤ) → unsigned_abs months ≤ 2 ^ 63 → unsigned_abs days ≤ 2 ^ 63 → ArePairs date_unit (iso_date months days) (date_counts months days)
+date_spelled : (months days : ℤ) → unsigned_abs months ≤ 2 ^ 63 → unsigned_abs days ≤ 2 ^ 63
+    → ArePairs date_unit (iso_date months days) (date_counts months days)
 unfolding iso_date
 date_spelled months days small_months small_days =
     IsJoin-append _ _ _ _ _ (part_spelled date_unit (is_negative months) (years_of months) 89 Year (omega arith) refl)
@@ -78,7 +85,8 @@ none_of : (unit : TimeUnit) (units : List TimeUnit) (counts : List Count) → Ar
 none_of unit units [] h = tt
 none_of unit units (c ∷ cs) h = inr h
 
-part_order : (negative : Bool) (n : ℕ) (unit : TimeUnit) (units : List TimeUnit) (counts : List Count) → AreInOrder units counts → AreInOrder (unit ∷ units) (part_counts negative n unit ++ counts)
+part_order : (negative : Bool) (n : ℕ) (unit : TimeUnit) (units : List TimeUnit) (counts : List Count) → AreInOrder units counts
+    → AreInOrder (unit ∷ units) (part_counts negative n unit ++ counts)
 part_order negative n unit units counts h = cond_both (n == 0) _ _ (λ (part : List Count). AreInOrder (unit ∷ units) (part ++ counts)) (λ _. none_of unit units counts h) (λ _. inl (refl, h))
 
 last_order : (negative : Bool) (n : ℕ) (unit : TimeUnit) → AreInOrder (unit ∷ []) (part_counts negative n unit)
@@ -178,7 +186,9 @@ unfolding iso_time
 some_time micros zero_is = cond-false _ _ _ zero_is
 
 -- a date without a time
-date_alone : (months days micros : ℤ) → unsigned_abs months ≤ 2 ^ 63 → unsigned_abs days ≤ 2 ^ 63 → int_eq micros (pos 0) ≡ true → int_eq months (pos 0) && (int_eq days (pos 0) && int_eq micros (pos 0)) ≡ false → IsIsoStrict (codes "P" ++ (iso_date months days ++ iso_time micros)) (date_counts months days ++ time_counts micros)
+date_alone : (months days micros : ℤ) → unsigned_abs months ≤ 2 ^ 63 → unsigned_abs days ≤ 2 ^ 63 → int_eq micros (pos 0) ≡ true
+    → int_eq months (pos 0) && (int_eq days (pos 0) && int_eq micros (pos 0)) ≡ false
+    → IsIsoStrict (codes "P" ++ (iso_date months days ++ iso_time micros)) (date_counts months days ++ time_counts micros)
 date_alone months days micros small_months small_days no_micros some =
     let none = no_time micros no_micros in
     rw (none.0, none.1, append-nil (iso_date months days), append-nil (date_counts months days))
@@ -190,7 +200,9 @@ date_alone months days micros small_months small_days no_micros some =
         true≢false (sym (rw (zero.0, zero.1) no_micros) ∙ some)
 
 -- a date, perhaps empty, and a time
-date_and_time : (months days micros : ℤ) → unsigned_abs months ≤ 2 ^ 63 → unsigned_abs days ≤ 2 ^ 63 → unsigned_abs micros ≤ 2 ^ 63 → int_eq micros (pos 0) ≡ false → IsIsoStrict (codes "P" ++ (iso_date months days ++ iso_time micros)) (date_counts months days ++ time_counts micros)
+date_and_time : (months days micros : ℤ) → unsigned_abs months ≤ 2 ^ 63 → unsigned_abs days ≤ 2 ^ 63 → unsigned_abs micros ≤ 2 ^ 63
+    → int_eq micros (pos 0) ≡ false
+    → IsIsoStrict (codes "P" ++ (iso_date months days ++ iso_time micros)) (date_counts months days ++ time_counts micros)
 date_and_time months days micros small_months small_days small_micros some =
     rw (some_time micros some)
     (inr (
@@ -216,7 +228,8 @@ date_and_time months days micros small_months small_days small_micros some =
         true≢false (sym is_zero ∙ some)
 
 -- the written text spells these counts
-pub iso_spelled : (months days micros : ℤ) → unsigned_abs months ≤ 2 ^ 63 → unsigned_abs days ≤ 2 ^ 63 → unsigned_abs micros ≤ 2 ^ 63 → IsIsoStrict (iso_text months days micros) (iso_counts months days micros)
+pub iso_spelled : (months days micros : ℤ) → unsigned_abs months ≤ 2 ^ 63 → unsigned_abs days ≤ 2 ^ 63 → unsigned_abs micros ≤ 2 ^ 63
+    → IsIsoStrict (iso_text months days micros) (iso_counts months days micros)
 unfolding iso_text
 iso_spelled months days micros small_months small_days small_micros =
     cond_two _ IsIsoStrict _ _ _ _ (λ _. zero_spelled)

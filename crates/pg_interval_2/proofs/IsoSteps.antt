@@ -25,9 +25,11 @@ no_pairs in_time bytes tally order = record {
 }
 
 -- one more pair in front of the rest
-pub one_more_pair : (in_time : Bool) (bytes rest after : List ℕ) (old mid new : Tally) (was now is : Order) (c : Count) → TakesPairs in_time bytes rest old mid was now
-    → read_pair (unit_in in_time) rest ≡ Some (c, after) → ((counts : List Count) → Tallies mid counts → Tallies new (counts ++ c ∷ []))
-    → ((counts : List Count) → Orders in_time now counts → Orders in_time is (counts ++ c ∷ [])) → TakesPairs in_time bytes after old new was is
+pub one_more_pair : (in_time : Bool) (bytes rest after : List ℕ) (old mid new : Tally) (was now is : Order) (c : Count)
+    → TakesPairs in_time bytes rest old mid was now → read_pair (unit_in in_time) rest ≡ Some (c, after)
+    → ((counts : List Count) → Tallies mid counts → Tallies new (counts ++ c ∷ []))
+    → ((counts : List Count) → Orders in_time now counts → Orders in_time is (counts ++ c ∷ []))
+    → TakesPairs in_time bytes after old new was is
 one_more_pair in_time bytes rest after old mid new was now is c taken read adds orders =
     let pair = is_pair in_time rest c after read in
     record {
@@ -42,8 +44,10 @@ one_more_pair in_time bytes rest after old mid new was now is c taken read adds 
 -- ---- whole texts
 
 -- neither the end nor the time follows the pairs
-pub no_shape_behind_dates : (text date rest : List ℕ) (old new : Tally) (was is : Order) → text ≡ codes "P" ++ date → TakesPairs false date rest old new was is → read_pair (unit_in false) rest ≡ None
-    → rest ≢ [] → ((time : List ℕ) → rest ≢ codes "T" ++ time) → HasNoShape IsIso text
+pub no_shape_behind_dates : (text date rest : List ℕ) (old new : Tally) (was is : Order) → text ≡ codes "P" ++ date
+    → TakesPairs false date rest old new was is → read_pair (unit_in false) rest ≡ None → rest ≢ []
+    → ((time : List ℕ) → rest ≢ codes "T" ++ time)
+    → HasNoShape IsIso text
 no_shape_behind_dates text date rest old new was is spelled taken stuck some no_time counts shape =
     elim (behind_dates text taken.front rest taken.counts counts taken.pairs stuck (spelled ∙ ap (λ (l : List ℕ). codes "P" ++ l) taken.split) shape) [
       | inl end ↦ some end.0
@@ -52,7 +56,9 @@ no_shape_behind_dates text date rest old new was is spelled taken stuck some no_
 
 -- something follows the pairs of the time
 pub no_shape_behind_times : (text date time rest : List ℕ) (old mid new : Tally) (was is from to : Order) → text ≡ codes "P" ++ date
-    → TakesPairs false date (codes "T" ++ time) old mid was is → TakesPairs true time rest mid new from to → read_pair (unit_in true) rest ≡ None → rest ≢ [] → HasNoShape IsIso text
+    → TakesPairs false date (codes "T" ++ time) old mid was is → TakesPairs true time rest mid new from to
+    → read_pair (unit_in true) rest ≡ None → rest ≢ []
+    → HasNoShape IsIso text
 no_shape_behind_times text date time rest old mid new was is from to spelled dates times stuck some counts shape =
     elim (behind_dates text dates.front (codes "T" ++ time) dates.counts counts dates.pairs (time_ends time) (spelled ∙ ap (λ (l : List ℕ). codes "P" ++ l) dates.split) shape) [
       | inl end ↦ no_time time end.0
@@ -72,8 +78,9 @@ no_pair_at_end in_time [] ends = refl
 no_pair_at_end in_time (b ∷ bs) ends = let letter = eqb-true b 84 ends in rw letter refl
 
 -- behind the pairs of the date, where the text goes on, the time begins
-pub time_begins : (passed : Option ℕ) (old new : Place) → IfSome passed (λ byte. Passes (byte ∷ []) old new) → IfNone passed ((ahead old ≡ []) × (new ≡ old))
-    → ends_pairs (ahead old) ≡ true → ahead old ≢ [] → ahead old ≡ codes "T" ++ ahead new
+pub time_begins : (passed : Option ℕ) (old new : Place) → IfSome passed (λ byte. Passes (byte ∷ []) old new)
+    → IfNone passed ((ahead old ≡ []) × (new ≡ old)) → ends_pairs (ahead old) ≡ true → ahead old ≢ []
+    → ahead old ≡ codes "T" ++ ahead new
 time_begins None old new some none ends more = absurd (more none.0)
 time_begins (Some b) old new some none ends more = let letter : b ≡ 84 = eqb-true b 84 (sym (ap ends_pairs some.split) ∙ ends) in some.split ∙ ap (λ (x : ℕ). x ∷ ahead new) letter
 
@@ -86,11 +93,13 @@ no_time_left [] time goes_on e = cc
 no_time_left (b ∷ bs) time goes_on e = let letter : b ≡ 84 = cc in let ends : (b == 84) ≡ true = rw letter refl in cc
 
 -- where the pairs of the date stop at something else, or those of the time, the text has no shape
-pub stopped_dates : (text date : List ℕ) (old : Tally) (was : Order) → text ≡ codes "P" ++ date → StopsBehindPairs false date old was → HasNoShape IsIso text
+pub stopped_dates : (text date : List ℕ) (old : Tally) (was : Order) → text ≡ codes "P" ++ date → StopsBehindPairs false date old was
+    → HasNoShape IsIso text
 stopped_dates text date old was spelled stop =
     no_shape_behind_dates text date stop.rest old stop.mid was stop.order spelled stop.taken stop.stuck (some_left stop.rest stop.goes_on) (λ time. no_time_left stop.rest time stop.goes_on)
 
-pub stopped_times : (text date time : List ℕ) (old mid : Tally) (was is from : Order) → text ≡ codes "P" ++ date → TakesPairs false date (codes "T" ++ time) old mid was is
-    → StopsBehindPairs true time mid from → HasNoShape IsIso text
+pub stopped_times : (text date time : List ℕ) (old mid : Tally) (was is from : Order) → text ≡ codes "P" ++ date
+    → TakesPairs false date (codes "T" ++ time) old mid was is → StopsBehindPairs true time mid from
+    → HasNoShape IsIso text
 stopped_times text date time old mid was is from spelled dates stop =
     no_shape_behind_times text date time stop.rest old mid stop.mid was is from stop.order spelled dates stop.taken stop.stuck (some_left stop.rest stop.goes_on)

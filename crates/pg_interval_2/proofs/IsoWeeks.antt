@@ -38,12 +38,15 @@ forth in_time letter unit other means = sym (same_unit in_time letter other) ∙
 back : (in_time : Bool) → GoesOver (unit_without_weeks in_time) (unit_in in_time)
 back in_time letter unit other means = same_unit in_time letter other ∙ means
 
-pair_over : (from to : ℕ → Option TimeUnit) → GoesOver from to → (piece : List ℕ) (c : Count) → has_week piece ≡ false → IsPair from piece c → IsPair to piece c
+pair_over : (from to : ℕ → Option TimeUnit) → GoesOver from to → (piece : List ℕ) (c : Count) → has_week piece ≡ false → IsPair from piece c
+    → IsPair to piece c
 pair_over from to over piece c none pair =
     let letter = (or_parts (pair.letter == 87) false (apart piece pair.number (pair.letter ∷ []) none pair.joined).1).0 in
     record { number = pair.number; letter = pair.letter; digits = pair.digits; unit = over pair.letter c.unit letter pair.unit; joined = pair.joined }
 
-pairs_over : (from to : ℕ → Option TimeUnit) → GoesOver from to → (bytes : List ℕ) (counts : List Count) → has_week bytes ≡ false → ArePairs from bytes counts → ArePairs to bytes counts
+pairs_over : (from to : ℕ → Option TimeUnit) → GoesOver from to → (bytes : List ℕ) (counts : List Count) → has_week bytes ≡ false
+    → ArePairs from bytes counts
+    → ArePairs to bytes counts
 pairs_over from to over bytes [] none pairs = pairs
 pairs_over from to over bytes (c ∷ cs) none (piece, rest, pair, more, split) =
     let parts = apart bytes piece rest none split in (piece, rest, pair_over from to over piece c parts.0 pair, pairs_over from to over rest cs parts.1 more, split)
@@ -52,8 +55,9 @@ pairs_over from to over bytes (c ∷ cs) none (piece, rest, pair, more, split) =
 abbrev HasShapeBy : (Bool → ℕ → Option TimeUnit) → List ℕ → List Count → Type 0
 HasShapeBy units text counts = IsDateAlone units text counts ⊎ IsDateAndTime units text counts
 
-shape_over : (from to : Bool → ℕ → Option TimeUnit) → ((in_time : Bool) → GoesOver (from in_time) (to in_time)) → (text : List ℕ) (counts : List Count) → has_week text ≡ false
-    → HasShapeBy from text counts → HasShapeBy to text counts
+shape_over : (from to : Bool → ℕ → Option TimeUnit) → ((in_time : Bool) → GoesOver (from in_time) (to in_time))
+    → (text : List ℕ) (counts : List Count) → has_week text ≡ false → HasShapeBy from text counts
+    → HasShapeBy to text counts
 shape_over from to over text counts none (inl (date, pairs, some, spelled)) =
     inl (date, pairs_over (from false) (to false) (over false) date counts (apart text (codes "P") date none spelled).1 pairs, some, spelled)
 shape_over from to over text counts none (inr timed) =
@@ -114,7 +118,8 @@ pair in_time piece c is =
     let means = letter in_time is.letter c.unit is.unit in
     joined piece is.number (is.letter ∷ []) is.joined (number c.negative c.whole c.fraction is.number is.digits) (rw means refl)
 
-pairs : (in_time : Bool) (bytes : List ℕ) (counts : List Count) → ArePairs (unit_without_weeks in_time) bytes counts → has_week bytes ≡ false
+pairs : (in_time : Bool) (bytes : List ℕ) (counts : List Count) → ArePairs (unit_without_weeks in_time) bytes counts
+    → has_week bytes ≡ false
 pairs in_time bytes [] none = ap has_week none
 pairs in_time bytes (c ∷ cs) (piece, rest, first, more, split) = joined bytes piece rest split (pair in_time piece c first) (pairs in_time rest cs more)
 

@@ -18,20 +18,25 @@ use Rattle.pg_interval_2.proofs.ItemSteps.{ItemsTaken, closed_now}
 
 -- ---- no item
 
-rest_unspelled : (names : Names) (counts : List Count) (total : ℕ) (rest : List ℕ) → ((b : ℕ) (bs : List ℕ) → rest ≡ b ∷ bs → is_blank b ≡ false) → rest ≢ [] → IsNoItem rest counts
+rest_unspelled : (names : Names) (counts : List Count) (total : ℕ) (rest : List ℕ)
+    → ((b : ℕ) (bs : List ℕ) → rest ≡ b ∷ bs → is_blank b ≡ false) → rest ≢ [] → IsNoItem rest counts
     → verdict names counts total (words rest) ≡ Unspelled
 rest_unspelled names counts total [] solid some none = absurd (some refl)
 rest_unspelled names counts total (b ∷ bs) solid some (inl none) = no_item_verdict names counts total b bs (solid b bs refl) none
 rest_unspelled names counts total (b ∷ bs) solid some (inr (fields, rest, read, again)) =
     clock_again_verdict names counts total (b ∷ bs) rest fields (subst (Stands (b ∷ bs)) read (item_stands (b ∷ bs))) again
 
-pub text_unspelled : (names : Names) → AreNames names → (turned : Bool) (text rest : List ℕ) (state : Counted) (taken : ItemsTaken names turned text rest state) → rest ≢ [] → IsNoItem rest taken.counts → verdict names [] 0 (words text) ≡ Unspelled
+pub text_unspelled : (names : Names) → AreNames names
+    → (turned : Bool) (text rest : List ℕ) (state : Counted) (taken : ItemsTaken names turned text rest state) → rest ≢ []
+    → IsNoItem rest taken.counts
+    → verdict names [] 0 (words text) ≡ Unspelled
 text_unspelled names letters_names turned text rest state taken some none =
     ap (λ (l : List ℕ). verdict names [] 0 (words l)) taken.split ∙ behind_items names letters_names taken.consumed rest taken.counts taken.items (closed_now names turned text rest state taken some)
     ∙ rest_unspelled names taken.counts (total_length (words taken.consumed)) rest taken.solid some none
 
 -- a text whose words spell nothing is no items, and has no bad name
-pub nothing_spelled : (names : Names) → AreNames names → (text : List ℕ) → verdict names [] 0 (words text) ≡ Unspelled → HasNoItems names text × HasNoBadName names text
+pub nothing_spelled : (names : Names) → AreNames names → (text : List ℕ) → verdict names [] 0 (words text) ≡ Unspelled
+    → HasNoItems names text × HasNoBadName names text
 nothing_spelled names letters_names text judged = (
   λ counts shape. let clash : Unspelled ≡ Spelled counts = sym judged ∙ items_verdict names letters_names (words text) counts shape in cc,
   λ start end bad. let clash : Unspelled ≡ BadLetters _ bad.letters = sym judged ∙ bad_verdict names letters_names text start end bad in cc,
@@ -39,8 +44,9 @@ nothing_spelled names letters_names text judged = (
 
 -- ---- a bad name
 
-pub name_within : (names : Names) (turned : Bool) (text rest letters after : List ℕ) (state : Counted) (n : Numeral) → ItemsTaken names turned text rest state
-    → read_item rest ≡ NamedItem n letters after → (0 < length letters) × (length letters + length after ≤ length text)
+pub name_within : (names : Names) (turned : Bool) (text rest letters after : List ℕ) (state : Counted) (n : Numeral)
+    → ItemsTaken names turned text rest state → read_item rest ≡ NamedItem n letters after
+    → (0 < length letters) × (length letters + length after ≤ length text)
 name_within names turned text rest letters after state n taken read =
     let h : StandsNamed rest n letters after = subst (Stands rest) read (item_stands rest) in
     let whole = ap (λ (l : List ℕ). length l) taken.split ∙ length-append taken.consumed rest in
@@ -49,8 +55,11 @@ name_within names turned text rest letters after state n taken read =
     let third = length-append letters after in
     (h.some, omega (arith, whole, first, second, third))
 
-pub bad_next : (names : Names) (turned : Bool) (text rest letters after : List ℕ) (state : Counted) (n : Numeral) (taken : ItemsTaken names turned text rest state) → rest ≢ [] → read_item rest ≡ NamedItem n letters after
-    → ¬ (IsFreshName names taken.counts letters) → IsBadName names text (length text - length after - length letters) (length text - length after)
+pub bad_next :
+    (names : Names) (turned : Bool) (text rest letters after : List ℕ) (state : Counted) (n : Numeral)
+    (taken : ItemsTaken names turned text rest state) → rest ≢ [] → read_item rest ≡ NamedItem n letters after
+    → ¬ (IsFreshName names taken.counts letters)
+    → IsBadName names text (length text - length after - length letters) (length text - length after)
 bad_next names turned text rest letters after state n taken some read bad =
     let h : StandsNamed rest n letters after = subst (Stands rest) read (item_stands rest) in
     let whole = ap (λ (l : List ℕ). length l) taken.split ∙ length-append taken.consumed rest in

@@ -32,12 +32,14 @@ pub record IsItemInFront (names : Names) (bytes rest : List ℕ) (cs : List Coun
   pub ends : EndsWord rest
   pub split : bytes ≡ front ++ rest
 
-clock_front : (names : Names) (bytes : List ℕ) (fields : ClockFields) (rest : List ℕ) → StandsClock bytes fields rest → IsItemInFront names bytes rest (clock_of fields)
+clock_front : (names : Names) (bytes : List ℕ) (fields : ClockFields) (rest : List ℕ) → StandsClock bytes fields rest
+    → IsItemInFront names bytes rest (clock_of fields)
 clock_front names bytes fields rest h =
     let alone = ap words (sym (append-nil h.word)) ∙ words_in_front h.word [] (clock_some h.word _ h.clock) (clock_no_blanks h.word _ h.clock) tt in
     record { front = h.word; item = inr (h.word, h.clock, alone); ends = h.ends; split = h.split }
 
-named_item : (names : Names) (n : Numeral) (letters bytes rest : List ℕ) (h : StandsNamed bytes n letters rest) (unit : TimeUnit) → unit_named names letters ≡ Some unit → (blanks : List ℕ) → h.blanks ≡ blanks
+named_item : (names : Names) (n : Numeral) (letters bytes rest : List ℕ) (h : StandsNamed bytes n letters rest) (unit : TimeUnit)
+    → unit_named names letters ≡ Some unit → (blanks : List ℕ) → h.blanks ≡ blanks
     → IsItem names (words (h.number ++ (h.blanks ++ letters))) (count_with n unit ∷ [])
 named_item names n letters bytes rest h unit found [] none =
     let word = h.number ++ letters in
@@ -55,7 +57,8 @@ named_item names n letters bytes rest h unit found (b ∷ bs) some =
     ap (λ (l : List ℕ). words (h.number ++ (l ++ letters))) some ∙ first ∙ ap (λ (l : List (List ℕ)). h.number ∷ l) second in
     inl (count_with n unit, record { number = h.number; name = letters; digits = h.digits; unit = found; spelled = inl spelled }, refl)
 
-named_front : (names : Names) (bytes : List ℕ) (n : Numeral) (letters rest : List ℕ) (unit : TimeUnit) → StandsNamed bytes n letters rest → unit_named names letters ≡ Some unit
+named_front : (names : Names) (bytes : List ℕ) (n : Numeral) (letters rest : List ℕ) (unit : TimeUnit) → StandsNamed bytes n letters rest
+    → unit_named names letters ≡ Some unit
     → IsItemInFront names bytes rest (count_with n unit ∷ [])
 named_front names bytes n letters rest unit h found = record {
   front = h.number ++ (h.blanks ++ letters);
@@ -66,7 +69,8 @@ named_front names bytes n letters rest unit h found = record {
 
 -- ---- blanks behind an item
 
-last_blank : (b : ℕ) (bs : List ℕ) → AreBlanks (b ∷ bs) → (front : List ℕ) × (last : ℕ) × IsTrue (is_blank last) × (b ∷ bs ≡ front ++ last ∷ [])
+last_blank : (b : ℕ) (bs : List ℕ) → AreBlanks (b ∷ bs)
+    → (front : List ℕ) × (last : ℕ) × IsTrue (is_blank last) × (b ∷ bs ≡ front ++ last ∷ [])
 last_blank b [] all = ([], b, (and_parts (is_blank b) true all).0, refl)
 last_blank b (c ∷ cs) all =
     let below = last_blank c cs (and_parts (is_blank b) (list_all is_blank (c ∷ cs)) all).1 in (b ∷ below.0, below.1, below.2, ap (λ (l : List ℕ). b ∷ l) below.3)
@@ -80,7 +84,8 @@ pub closed_start : (blanks : List ℕ) → AreBlanks blanks → EndsInBlank blan
 closed_start [] all = inl refl
 closed_start (b ∷ bs) all = blanks_end [] b bs all
 
-closed_after : (front after blanks : List ℕ) → EndsWord after → AreBlanks blanks → after ≡ blanks ++ after_blanks after → (after_blanks after ≡ []) ⊎ EndsInBlank (front ++ blanks)
+closed_after : (front after blanks : List ℕ) → EndsWord after → AreBlanks blanks → after ≡ blanks ++ after_blanks after
+    → (after_blanks after ≡ []) ⊎ EndsInBlank (front ++ blanks)
 closed_after front after (b ∷ bs) ends all split = inr (blanks_end front b bs all)
 closed_after front [] [] ends all split = inl refl
 closed_after front (c ∷ cs) [] ends all split = let solid = after_solid (c ∷ cs) c cs (sym split) in let clash : true ≡ false = sym ends ∙ solid in cc
@@ -97,7 +102,8 @@ pub record ItemsTaken (names : Names) (turned : Bool) (text rest : List ℕ) (st
   pub solid : (b : ℕ) (bs : List ℕ) → rest ≡ b ∷ bs → is_blank b ≡ false
   pub counted : IsCounted state (turned_counts turned counts)
 
-pub none_taken : (names : Names) (turned : Bool) (text : List ℕ) (state : Counted) → IsCounted state [] → ItemsTaken names turned text (after_blanks text) state
+pub none_taken : (names : Names) (turned : Bool) (text : List ℕ) (state : Counted) → IsCounted state []
+    → ItemsTaken names turned text (after_blanks text) state
 none_taken names turned text state h =
     let skip = are_skipped text in
     record {
@@ -110,19 +116,25 @@ none_taken names turned text state h =
       counted = h;
     }
 
-pub closed_now : (names : Names) (turned : Bool) (text rest : List ℕ) (state : Counted) (taken : ItemsTaken names turned text rest state) → rest ≢ [] → EndsInBlank taken.consumed
+pub closed_now : (names : Names) (turned : Bool) (text rest : List ℕ) (state : Counted) (taken : ItemsTaken names turned text rest state)
+    → rest ≢ []
+    → EndsInBlank taken.consumed
 closed_now names turned text rest state taken some = elim taken.closed [ inl none ↦ absurd (some none) | inr closed ↦ closed ]
 
 all_counts-push : (items : List (List Count)) (cs : List Count) → all_counts (items ++ cs ∷ []) ≡ all_counts items ++ cs
 all_counts-push [] cs = append-nil cs
 all_counts-push (x ∷ xs) cs = ap (λ (l : List Count). x ++ l) (all_counts-push xs cs) ∙ sym (append_assoc x (all_counts xs) cs)
 
-items_push : (names : Names) (consumed front : List (List ℕ)) (counts cs : List Count) → AreItems names consumed counts → IsItem names front cs → has_distinct_units (counts ++ cs) ≡ true
+items_push : (names : Names) (consumed front : List (List ℕ)) (counts cs : List Count) → AreItems names consumed counts
+    → IsItem names front cs → has_distinct_units (counts ++ cs) ≡ true
     → AreItems names (consumed ++ front) (counts ++ cs)
 items_push names consumed front counts cs (items, join, counted, distinct) item both_distinct =
     (items ++ cs ∷ [], join_push (IsItem names) consumed front items cs join item, ap (λ (l : List Count). l ++ cs) counted ∙ sym (all_counts-push items cs), both_distinct)
 
-front_taken : (names : Names) (turned : Bool) (text rest after : List ℕ) (cs : List Count) (old new : Counted) (taken : ItemsTaken names turned text rest old) → rest ≢ [] → IsItemInFront names rest after cs → IsCounted new (turned_counts turned (taken.counts ++ cs))
+front_taken :
+    (names : Names) (turned : Bool) (text rest after : List ℕ) (cs : List Count) (old new : Counted)
+    (taken : ItemsTaken names turned text rest old) → rest ≢ [] → IsItemInFront names rest after cs
+    → IsCounted new (turned_counts turned (taken.counts ++ cs))
     → ItemsTaken names turned text (after_blanks after) new
 front_taken names turned text rest after cs old new taken some item counted =
     let skip = are_skipped after in
@@ -142,15 +154,19 @@ front_taken names turned text rest after cs old new taken some item counted =
       counted = counted;
     }
 
-pub one_taken : (names : Names) (turned : Bool) (text rest after : List ℕ) (old new : Counted) (taken : ItemsTaken names turned text rest old) → rest ≢ []
-    → TakesItem names turned rest after taken.counts new → ItemsTaken names turned text (after_blanks after) new
+pub one_taken :
+    (names : Names) (turned : Bool) (text rest after : List ℕ) (old new : Counted) (taken : ItemsTaken names turned text rest old)
+    → rest ≢ [] → TakesItem names turned rest after taken.counts new
+    → ItemsTaken names turned text (after_blanks after) new
 one_taken names turned text rest after old new taken some (inl (fields, read, counted)) =
     front_taken names turned text rest after (clock_of fields) old new taken some (clock_front names rest fields after (subst (Stands rest) read (item_stands rest))) counted
 one_taken names turned text rest after old new taken some (inr (n, letters, unit, read, found, counted)) =
     front_taken names turned text rest after (count_with n unit ∷ []) old new taken some (named_front names rest n letters after unit (subst (Stands rest) read (item_stands rest)) found) counted
 
 -- what is left of a rest after an item is shorter
-pub taken_shorter : (names : Names) (turned : Bool) (rest after : List ℕ) (counts : List Count) (new : Counted) → TakesItem names turned rest after counts new → length (after_blanks after) < length rest
+pub taken_shorter : (names : Names) (turned : Bool) (rest after : List ℕ) (counts : List Count) (new : Counted)
+    → TakesItem names turned rest after counts new
+    → length (after_blanks after) < length rest
 taken_shorter names turned rest after counts new (inl (fields, read, counted)) =
     let skip = ap (λ (l : List ℕ). length l) (are_skipped after).2 ∙ length-append (are_skipped after).0 (after_blanks after) in omega (arith, clock_long rest fields after read, skip)
 taken_shorter names turned rest after counts new (inr (n, letters, unit, read, found, counted)) =

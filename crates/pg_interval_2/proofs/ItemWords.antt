@@ -97,7 +97,8 @@ pub record FirstWord (bytes : List ℕ) : Type 0 where
   pub ends : EndsWord rest
   pub split : bytes ≡ word ++ rest
 
-word_if : (t : Bool) (b c : ℕ) (bs : List ℕ) → is_blank b ≡ false → is_blank c ≡ t → (is_blank c ≡ false → FirstWord (c ∷ bs)) → FirstWord (b ∷ c ∷ bs)
+word_if : (t : Bool) (b c : ℕ) (bs : List ℕ) → is_blank b ≡ false → is_blank c ≡ t → (is_blank c ≡ false → FirstWord (c ∷ bs))
+    → FirstWord (b ∷ c ∷ bs)
 word_if true b c bs first blank more = record { word = b ∷ []; rest = c ∷ bs; some = omega arith; solid = (first, tt); ends = blank; split = refl }
 word_if false b c bs first blank more =
     let next = more blank in

@@ -27,7 +27,8 @@ letters_close : (letters rest : List ℕ) → 0 < length letters → AreLetters 
 letters_close [] rest some l = absurd (omega arith)
 letters_close (c ∷ cs) rest some l = let other = letter_is_no c (first_letter c cs l) in record { digit = other.0; point = other.1; colon = (let colon = other.2 in rw colon refl) }
 
-blanks_close : (blanks letters rest : List ℕ) → AreBlanks blanks → 0 < length letters → AreLetters letters → ClosesNumber (blanks ++ (letters ++ rest))
+blanks_close : (blanks letters rest : List ℕ) → AreBlanks blanks → 0 < length letters → AreLetters letters
+    → ClosesNumber (blanks ++ (letters ++ rest))
 blanks_close [] letters rest blank some l = letters_close letters rest some l
 blanks_close (b ∷ bs) letters rest blank some l = end_closes (b ∷ (bs ++ (letters ++ rest))) (first_blank b bs blank)
 
@@ -55,13 +56,15 @@ number_read negative whole fraction number rest h closes =
     rw (sign, front, after, colon, behind, some) refl
 
 -- a number alone is no item
-pub number_alone : (negative : Bool) (whole fraction number : List ℕ) → IsNumber true negative whole fraction number → read_item number ≡ NoItem
+pub number_alone : (negative : Bool) (whole fraction number : List ℕ) → IsNumber true negative whole fraction number
+    → read_item number ≡ NoItem
 number_alone negative whole fraction number h = ap read_item (sym (append-nil number)) ∙ number_read negative whole fraction number [] h (end_closes [] tt)
 
 -- a number with letters, behind blanks or none
-pub named_read : (negative : Bool) (whole fraction number blanks letters rest : List ℕ) → IsNumber true negative whole fraction number → AreBlanks blanks
-    → 0 < length letters → AreLetters letters → EndsWord rest
-    → read_item (number ++ (blanks ++ (letters ++ rest))) ≡ NamedItem (record { negative = negative; whole = whole; fraction = fraction }) letters rest
+pub named_read : (negative : Bool) (whole fraction number blanks letters rest : List ℕ) → IsNumber true negative whole fraction number
+    → AreBlanks blanks → 0 < length letters → AreLetters letters → EndsWord rest
+    → read_item (number ++ (blanks ++ (letters ++ rest)))
+    ≡ NamedItem (record { negative = negative; whole = whole; fraction = fraction }) letters rest
 named_read negative whole fraction number blanks letters rest h blank some l ends =
     let read = number_read negative whole fraction number (blanks ++ (letters ++ rest)) h (blanks_close blanks letters rest blank some l) in
     let skip = behind_skips is_blank blanks (letters ++ rest) blank ∙ no_skip letters rest some l in
@@ -77,7 +80,8 @@ pub field_no_sign : (field rest : List ℕ) → IsField field → NoSignFirst (f
 field_no_sign field rest h = digits_no_sign field [] [] rest h.1 (inl (refl, refl)) (let some = h.0 in omega arith)
 
 -- the seconds behind the second colon
-seconds_read : (negative : Bool) (hours minutes seconds fraction tail rest : List ℕ) → IsField hours → IsField minutes → IsField seconds → IsFraction fraction tail → EndsWord rest
+seconds_read : (negative : Bool) (hours minutes seconds fraction tail rest : List ℕ) → IsField hours → IsField minutes → IsField seconds
+    → IsFraction fraction tail → EndsWord rest
     → read_seconds negative hours minutes (Some (seconds ++ (tail ++ rest)))
     ≡ ClockItem (record { negative = negative; hours = hours; minutes = minutes; seconds = seconds; fraction = fraction }) rest
 seconds_read negative hours minutes seconds fraction tail rest h m s point ends =
@@ -94,7 +98,8 @@ seconds_read negative hours minutes seconds fraction tail rest h m s point ends 
 
 -- a clock in front, which ends
 pub clock_read : (word rest : List ℕ) (counts : List Count) (h : IsClock word counts) → EndsWord rest
-    → read_item (word ++ rest) ≡ ClockItem (record { negative = h.negative; hours = h.hours; minutes = h.minutes; seconds = h.seconds; fraction = h.fraction }) rest
+    → read_item (word ++ rest)
+    ≡ ClockItem (record { negative = h.negative; hours = h.hours; minutes = h.minutes; seconds = h.seconds; fraction = h.fraction }) rest
 unfolding read_item read_clock
 clock_read word rest counts h ends =
     let last = h.seconds ++ (h.tail ++ rest) in

@@ -48,7 +48,8 @@ chosen : (t : Bool) (bytes : List ℕ) (item : NextItem) → (t ≡ true → Sta
 chosen true bytes item h = h refl
 chosen false bytes item h = tt
 
-letters_stand : (bytes number rest : List ℕ) (n : Numeral) → IsNumber true n.negative n.whole n.fraction number → bytes ≡ number ++ rest → Stands bytes (named_item n (after_blanks rest))
+letters_stand : (bytes number rest : List ℕ) (n : Numeral) → IsNumber true n.negative n.whole n.fraction number → bytes ≡ number ++ rest
+    → Stands bytes (named_item n (after_blanks rest))
 letters_stand bytes number rest n digits split =
     let name = after_blanks rest in
     chosen (nat_lt 0 (length (front_letters name)) && ends_word (after_letters name)) bytes (NamedItem n (front_letters name) (after_letters name)) (λ test.
@@ -65,7 +66,9 @@ letters_stand bytes number rest n digits split =
       split = split ∙ ap (λ (l : List ℕ). number ++ l) (skip.2 ∙ ap (λ (l : List ℕ). skip.0 ++ l) (sym (leading_and_behind is_ascii_alphabetic name)));
     })
 
-named_stands : (negative : Bool) (sign whole rest bytes : List ℕ) → IsSign true negative sign → AreDigits whole → bytes ≡ sign ++ (whole ++ rest) → Stands bytes (read_named negative whole rest)
+named_stands : (negative : Bool) (sign whole rest bytes : List ℕ) → IsSign true negative sign → AreDigits whole
+    → bytes ≡ sign ++ (whole ++ rest)
+    → Stands bytes (read_named negative whole rest)
 unfolding read_named
 named_stands negative sign whole rest bytes signed digits split =
     let fraction = read_fraction rest in
@@ -92,8 +95,10 @@ fraction_digits fraction tail (inl none) = rw none.0 tt
 fraction_digits fraction tail (inr some) = some.0
 
 -- behind the second colon, if there is one
-seconds_stand : (negative : Bool) (sign hours minutes after bytes : List ℕ) (o : Option (List ℕ)) → ((last : List ℕ) → o ≡ Some last → after ≡ 58 ∷ last)
-    → IsSign true negative sign → AreDigits hours → AreDigits minutes → bytes ≡ sign ++ (hours ++ (codes ":" ++ (minutes ++ after))) → Stands bytes (read_seconds negative hours minutes o)
+seconds_stand : (negative : Bool) (sign hours minutes after bytes : List ℕ) (o : Option (List ℕ))
+    → ((last : List ℕ) → o ≡ Some last → after ≡ 58 ∷ last) → IsSign true negative sign → AreDigits hours → AreDigits minutes
+    → bytes ≡ sign ++ (hours ++ (codes ":" ++ (minutes ++ after)))
+    → Stands bytes (read_seconds negative hours minutes o)
 seconds_stand negative sign hours minutes after bytes None colon signed h m split = tt
 seconds_stand negative sign hours minutes after bytes (Some last) colon signed h m split =
     let seconds = front_digits last in
@@ -138,15 +143,18 @@ seconds_stand negative sign hours minutes after bytes (Some last) colon signed h
       split = split ∙ ap (λ (l : List ℕ). sign ++ (hours ++ (codes ":" ++ (minutes ++ l)))) (colon last refl ∙ ap (λ (l : List ℕ). codes ":" ++ l) last_split) ∙ sym joined;
     })
 
-clock_stands : (negative : Bool) (sign hours rest bytes : List ℕ) → IsSign true negative sign → AreDigits hours → bytes ≡ sign ++ (hours ++ (codes ":" ++ rest)) → Stands bytes (read_clock negative hours rest)
+clock_stands : (negative : Bool) (sign hours rest bytes : List ℕ) → IsSign true negative sign → AreDigits hours
+    → bytes ≡ sign ++ (hours ++ (codes ":" ++ rest))
+    → Stands bytes (read_clock negative hours rest)
 unfolding read_clock
 clock_stands negative sign hours rest bytes signed digits split =
     seconds_stand negative sign hours (front_digits rest) (after_digits rest) bytes (read_byte 58 (after_digits rest)) (byte_in_front 58 (after_digits rest)) signed digits (front_are_digits rest)
     (split ∙ ap (λ (l : List ℕ). sign ++ (hours ++ (codes ":" ++ l))) (sym (front_and_after rest)))
 
 -- behind a sign and digits
-behind_digits : (negative : Bool) (sign whole after bytes : List ℕ) (o : Option (List ℕ)) → ((last : List ℕ) → o ≡ Some last → after ≡ 58 ∷ last)
-    → IsSign true negative sign → AreDigits whole → bytes ≡ sign ++ (whole ++ after) → Stands bytes (read_behind_digits negative whole after o)
+behind_digits : (negative : Bool) (sign whole after bytes : List ℕ) (o : Option (List ℕ))
+    → ((last : List ℕ) → o ≡ Some last → after ≡ 58 ∷ last) → IsSign true negative sign → AreDigits whole → bytes ≡ sign ++ (whole ++ after)
+    → Stands bytes (read_behind_digits negative whole after o)
 behind_digits negative sign whole after bytes None colon signed digits split = named_stands negative sign whole after bytes signed digits split
 behind_digits negative sign whole after bytes (Some last) colon signed digits split =
     clock_stands negative sign whole last bytes signed digits (split ∙ ap (λ (l : List ℕ). sign ++ (whole ++ l)) (colon last refl))

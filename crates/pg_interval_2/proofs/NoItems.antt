@@ -22,7 +22,9 @@ ends_both : (xs ys : List ℕ) → EndsWord xs → EndsWord ys → EndsWord (xs 
 ends_both [] ys h k = k
 ends_both (x ∷ xs) ys h k = h
 
-solid_if : (t : Bool) (b x : ℕ) (bs xs rest : List ℕ) → is_blank b ≡ t → cond t rest (b ∷ bs) ≡ x ∷ xs → (rest ≡ x ∷ xs → is_blank x ≡ false) → is_blank x ≡ false
+solid_if : (t : Bool) (b x : ℕ) (bs xs rest : List ℕ) → is_blank b ≡ t → cond t rest (b ∷ bs) ≡ x ∷ xs
+    → (rest ≡ x ∷ xs → is_blank x ≡ false)
+    → is_blank x ≡ false
 solid_if true b x bs xs rest is h below = below h
 solid_if false b x bs xs rest is h below = let first : b ≡ x = cc in ap is_blank (sym first) ∙ is
 
@@ -41,7 +43,8 @@ pub record StandsBehind (bytes : List ℕ) (name : List ℕ) : Type 0 where
   pub ends : EndsWord rest
   pub split : bytes ≡ blanks ++ (name ++ rest)
 
-next_if : (bytes : List ℕ) (name : List ℕ) (more : List (List ℕ)) (next : List ℕ) → after_blanks bytes ≡ next → words bytes ≡ name ∷ more → StandsBehind bytes name
+next_if : (bytes : List ℕ) (name : List ℕ) (more : List (List ℕ)) (next : List ℕ) → after_blanks bytes ≡ next → words bytes ≡ name ∷ more
+    → StandsBehind bytes name
 next_if bytes name more [] is h =
     let none : [] ≡ name ∷ more = sym (ap words is) ∙ words-after_blanks bytes ∙ h in cc
 next_if bytes name more (x ∷ xs) is h =
@@ -66,15 +69,17 @@ name_test : (t : Bool) (other : Verdict) → (t ≡ true → ⊥) → cond t oth
 name_test true other h = absurd (h refl)
 name_test false other h = refl
 
-no_name : (negative : Bool) (whole fraction number bytes name : List ℕ) → IsNumber true negative whole fraction number → read_item (number ++ bytes) ≡ NoItem → StandsBehind bytes name
-    → is_name name ≡ true → ⊥
+no_name : (negative : Bool) (whole fraction number bytes name : List ℕ) → IsNumber true negative whole fraction number
+    → read_item (number ++ bytes) ≡ NoItem → StandsBehind bytes name → is_name name ≡ true
+    → ⊥
 no_name negative whole fraction number bytes name digits read h test =
     let tests = and_parts (nat_lt 0 (length name)) (list_all is_ascii_alphabetic name) test in
     let found = named_read negative whole fraction number h.blanks name h.rest digits h.blank (ltb-true 0 _ tests.0) tests.1 h.ends in
     let clash : NoItem ≡ NamedItem (record { negative = negative; whole = whole; fraction = fraction }) name h.rest = sym read ∙ ap (λ (l : List ℕ). read_item (number ++ l)) h.split ∙ found in cc
 
-pair_unspelled : (names : Names) (counts : List Count) (total : ℕ) (number bytes : List ℕ) (n : Numeral) (more : List (List ℕ)) → IsNumber true n.negative n.whole n.fraction number
-    → read_item (number ++ bytes) ≡ NoItem → words bytes ≡ more → judge_pair names counts total (length number) more n ≡ Unspelled
+pair_unspelled : (names : Names) (counts : List Count) (total : ℕ) (number bytes : List ℕ) (n : Numeral) (more : List (List ℕ))
+    → IsNumber true n.negative n.whole n.fraction number → read_item (number ++ bytes) ≡ NoItem → words bytes ≡ more
+    → judge_pair names counts total (length number) more n ≡ Unspelled
 pair_unspelled names counts total number bytes n [] digits read is = refl
 pair_unspelled names counts total number bytes n (name ∷ more) digits read is =
     name_test (is_name name) _ (no_name n.negative n.whole n.fraction number bytes name digits read (next_word bytes name more is))
@@ -85,14 +90,19 @@ is_whole : (l : List ℕ) → (length l == 0) ≡ true → l ≡ []
 is_whole [] h = refl
 is_whole (b ∷ bs) h = grind (arith, nat_tests)
 
-number_case : (t : Bool) (names : Names) (counts : List Count) (total size : ℕ) (n : Numeral) (next : List Count → Verdict) (pair : Numeral → Verdict) → (t ≡ true → pair n ≡ Unspelled)
+number_case :
+    (t : Bool) (names : Names) (counts : List Count) (total size : ℕ) (n : Numeral) (next : List Count → Verdict) (pair : Numeral → Verdict)
+    → (t ≡ true → pair n ≡ Unspelled)
     → judge_word names counts total size (cond t (NumberWord n) OtherWord) next pair ≡ Unspelled
 number_case true names counts total size n next pair h = h refl
 number_case false names counts total size n next pair h = refl
 
-word_case : (names : Names) (counts : List Count) (total : ℕ) (word rest : List ℕ) (next : List Count → Verdict) (item : NextItem) (found : Option (Numeral × List ℕ))
-    → EndsWord rest → read_item (word ++ rest) ≡ NoItem → Stands word item → read_number true word ≡ found
-    → judge_word names counts total (length word) (kind_from item found) next (judge_pair names counts total (length word) (words rest)) ≡ Unspelled
+word_case :
+    (names : Names) (counts : List Count) (total : ℕ) (word rest : List ℕ) (next : List Count → Verdict) (item : NextItem)
+    (found : Option (Numeral × List ℕ)) → EndsWord rest → read_item (word ++ rest) ≡ NoItem → Stands word item
+    → read_number true word ≡ found
+    → judge_word names counts total (length word) (kind_from item found) next (judge_pair names counts total (length word) (words rest))
+    ≡ Unspelled
 word_case names counts total word rest next (ClockItem fields behind) found ends read h is =
     let split : word ++ rest ≡ h.word ++ (behind ++ rest) = ap (λ (l : List ℕ). l ++ rest) h.split ∙ append_assoc h.word behind rest in
     let other = clock_read h.word (behind ++ rest) _ h.clock (ends_both behind rest h.ends ends) in
@@ -111,7 +121,8 @@ word_case names counts total word rest next NoItem (Some (n, behind)) ends read 
     pair_unspelled names counts total word rest n (words rest) (subst (λ (l : List ℕ). IsNumber true n.negative n.whole n.fraction l) (sym same) number.1) read refl)
 
 -- bytes that begin with no item and no blank
-pub no_item_verdict : (names : Names) (counts : List Count) (total b : ℕ) (bs : List ℕ) → is_blank b ≡ false → read_item (b ∷ bs) ≡ NoItem → verdict names counts total (words (b ∷ bs)) ≡ Unspelled
+pub no_item_verdict : (names : Names) (counts : List Count) (total b : ℕ) (bs : List ℕ) → is_blank b ≡ false → read_item (b ∷ bs) ≡ NoItem
+    → verdict names counts total (words (b ∷ bs)) ≡ Unspelled
 unfolding word_kind
 no_item_verdict names counts total b bs solid read =
     let first = first_word b bs solid in
@@ -120,8 +131,9 @@ no_item_verdict names counts total b bs solid read =
     ∙ word_case names counts total first.word first.rest _ (read_item first.word) (read_number true first.word) first.ends (ap read_item (sym first.split) ∙ read) (item_stands first.word) refl
 
 -- a clock in front that counts a unit again
-pub clock_again_verdict : (names : Names) (counts : List Count) (total : ℕ) (bytes rest : List ℕ) (fields : ClockFields) → StandsClock bytes fields rest
-    → has_distinct_units (counts ++ clock_of fields) ≡ false → verdict names counts total (words bytes) ≡ Unspelled
+pub clock_again_verdict : (names : Names) (counts : List Count) (total : ℕ) (bytes rest : List ℕ) (fields : ClockFields)
+    → StandsClock bytes fields rest → has_distinct_units (counts ++ clock_of fields) ≡ false
+    → verdict names counts total (words bytes) ≡ Unspelled
 clock_again_verdict names counts total bytes rest fields h again =
     let front = ap words h.split ∙ words_in_front h.word rest (clock_some h.word _ h.clock) (clock_no_blanks h.word _ h.clock) h.ends in
     let kind = clock_kind h.word _ h.clock in

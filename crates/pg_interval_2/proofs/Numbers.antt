@@ -21,12 +21,15 @@ no_fraction [] p = refl
 no_fraction (b ∷ bs) p = rw p refl
 
 -- the fraction that stands in front is read
-pub fraction_of : (fraction tail rest : List ℕ) → IsFraction fraction tail → NoDigitFirst rest → NoPointFirst rest → read_fraction (tail ++ rest) ≡ (fraction, rest)
+pub fraction_of : (fraction tail rest : List ℕ) → IsFraction fraction tail → NoDigitFirst rest → NoPointFirst rest
+    → read_fraction (tail ++ rest) ≡ (fraction, rest)
 fraction_of fraction tail rest (inl none) d p = rw (none.1, none.0) (no_fraction rest p)
 fraction_of fraction tail rest (inr some) d p = rw some.1 (rw (front_of fraction rest some.0 d, after_of fraction rest some.0 d) refl)
 
 fraction_if : (t : Bool) (b : ℕ) (bs : List ℕ) → (t ≡ true → b ≡ 46)
-    → (tail : List ℕ) × IsFraction (cond {A = List ℕ × List ℕ} t (front_digits bs, after_digits bs) ([], b ∷ bs)).0 tail × (b ∷ bs ≡ tail ++ (cond {A = List ℕ × List ℕ} t (front_digits bs, after_digits bs) ([], b ∷ bs)).1)
+    → (tail : List ℕ)
+    × IsFraction (cond {A = List ℕ × List ℕ} t (front_digits bs, after_digits bs) ([], b ∷ bs)).0 tail
+    × (b ∷ bs ≡ tail ++ (cond {A = List ℕ × List ℕ} t (front_digits bs, after_digits bs) ([], b ∷ bs)).1)
 fraction_if true b bs point =
     let split = front_and_after bs in
     (46 ∷ front_digits bs, inr (front_are_digits bs, refl), let here : b ≡ 46 = point refl in rw (here, split) refl)
@@ -47,7 +50,8 @@ no_sign plus [] h = refl
 no_sign true (b ∷ bs) h = rw (h.0, h.1) refl
 no_sign false (b ∷ bs) h = rw h.0 refl
 
-pub sign_of : (plus negative : Bool) (sign rest : List ℕ) → IsSign plus negative sign → NoSignFirst rest → read_sign plus (sign ++ rest) ≡ (negative, rest)
+pub sign_of : (plus negative : Bool) (sign rest : List ℕ) → IsSign plus negative sign → NoSignFirst rest
+    → read_sign plus (sign ++ rest) ≡ (negative, rest)
 sign_of plus true sign rest h n = rw h refl
 sign_of plus false sign rest (inl none) n = rw none (no_sign plus rest n)
 sign_of plus false sign rest (inr some) n = rw (some.1, some.0) refl
@@ -60,7 +64,8 @@ tail_no_sign : (fraction tail rest : List ℕ) → IsFraction fraction tail → 
 tail_no_sign fraction tail rest (inl none) some = absurd (let e = ap (λ (l : List ℕ). length l) none.0 in omega (arith, e))
 tail_no_sign fraction tail rest (inr point) some = rw point.1 (refl, refl)
 
-pub digits_no_sign : (whole fraction tail rest : List ℕ) → AreDigits whole → IsFraction fraction tail → 0 < length whole + length fraction → NoSignFirst (whole ++ (tail ++ rest))
+pub digits_no_sign : (whole fraction tail rest : List ℕ) → AreDigits whole → IsFraction fraction tail → 0 < length whole + length fraction
+    → NoSignFirst (whole ++ (tail ++ rest))
 digits_no_sign [] fraction tail rest d f some = tail_no_sign fraction tail rest f (omega arith)
 digits_no_sign (c ∷ cs) fraction tail rest d f some = digit_no_sign c d.0
 
@@ -69,8 +74,8 @@ pub tail_no_digit : (fraction tail rest : List ℕ) → IsFraction fraction tail
 tail_no_digit fraction tail rest (inl none) d = rw none.1 d
 tail_no_digit fraction tail rest (inr point) d = rw point.1 refl
 
-finds_unsigned : (negative : Bool) (whole fraction tail rest : List ℕ) → AreDigits whole → IsFraction fraction tail → 0 < length whole + length fraction
-    → NoDigitFirst rest → NoPointFirst rest
+finds_unsigned : (negative : Bool) (whole fraction tail rest : List ℕ) → AreDigits whole → IsFraction fraction tail
+    → 0 < length whole + length fraction → NoDigitFirst rest → NoPointFirst rest
     → read_unsigned negative (whole ++ (tail ++ rest)) ≡ Some (record { negative = negative; whole = whole; fraction = fraction }, rest)
 unfolding read_unsigned
 finds_unsigned negative whole fraction tail rest digits point some d p =
@@ -82,7 +87,8 @@ finds_unsigned negative whole fraction tail rest digits point some d p =
     rw (front, after, behind, counted) refl
 
 -- a number in front, which no further digit and no point follows, is read
-pub finds_number : (plus negative : Bool) (whole fraction word rest : List ℕ) → IsNumber plus negative whole fraction word → NoDigitFirst rest → NoPointFirst rest
+pub finds_number : (plus negative : Bool) (whole fraction word rest : List ℕ) → IsNumber plus negative whole fraction word
+    → NoDigitFirst rest → NoPointFirst rest
     → read_number plus (word ++ rest) ≡ Some (record { negative = negative; whole = whole; fraction = fraction }, rest)
 unfolding read_number
 finds_number plus negative whole fraction word rest h d p =
@@ -93,15 +99,17 @@ finds_number plus negative whole fraction word rest h d p =
     rw sign (finds_unsigned negative whole fraction h.tail rest h.digits h.point h.some d p)
 
 -- a sign, as tests for a minus and a plus choose it, or the default where neither passes
-pub sign_if : (Is : Bool → List ℕ → Type 0) (t u default : Bool) (b : ℕ) (bs : List ℕ) → Is true (codes "-") → (u ≡ true → Is false (codes "+")) → Is default []
-    → (t ≡ true → b ≡ 45) → (u ≡ true → b ≡ 43)
-    → (sign : List ℕ) × Is (cond {A = Bool × List ℕ} t (true, bs) (cond u (false, bs) (default, b ∷ bs))).0 sign
+pub sign_if : (Is : Bool → List ℕ → Type 0) (t u default : Bool) (b : ℕ) (bs : List ℕ) → Is true (codes "-")
+    → (u ≡ true → Is false (codes "+")) → Is default [] → (t ≡ true → b ≡ 45) → (u ≡ true → b ≡ 43)
+    → (sign : List ℕ)
+    × Is (cond {A = Bool × List ℕ} t (true, bs) (cond u (false, bs) (default, b ∷ bs))).0 sign
     × (b ∷ bs ≡ sign ++ (cond {A = Bool × List ℕ} t (true, bs) (cond u (false, bs) (default, b ∷ bs))).1)
 sign_if Is true u default b bs minus plus none is_minus is_plus = (codes "-", minus, let here = is_minus refl in rw here refl)
 sign_if Is false true default b bs minus plus none is_minus is_plus = (codes "+", plus refl, let here = is_plus refl in rw here refl)
 sign_if Is false false default b bs minus plus none is_minus is_plus = ([], none, refl)
 
-pub is_sign : (plus : Bool) (bytes : List ℕ) → (sign : List ℕ) × IsSign plus (read_sign plus bytes).0 sign × (bytes ≡ sign ++ (read_sign plus bytes).1)
+pub is_sign : (plus : Bool) (bytes : List ℕ)
+    → (sign : List ℕ) × IsSign plus (read_sign plus bytes).0 sign × (bytes ≡ sign ++ (read_sign plus bytes).1)
 is_sign plus [] = ([], inl refl, refl)
 is_sign plus (b ∷ bs) =
     sign_if (IsSign plus) (b == 45) (plus && b == 43) false b bs refl (λ h. inr ((and_parts plus (b == 43) h).0, refl)) (inl refl) (eqb-true b 45) (λ h. eqb-true b 43 (and_parts plus (b == 43) h).1)
@@ -115,7 +123,8 @@ pub record IsUnsigned (negative : Bool) (bytes : List ℕ) (n : Numeral) (rest :
   pub some : 0 < length n.whole + length n.fraction
   pub joined : bytes ≡ (n.whole ++ tail) ++ rest
 
-is_unsigned : (negative : Bool) (bytes : List ℕ) (n : Numeral) (rest : List ℕ) → read_unsigned negative bytes ≡ Some (n, rest) → IsUnsigned negative bytes n rest
+is_unsigned : (negative : Bool) (bytes : List ℕ) (n : Numeral) (rest : List ℕ) → read_unsigned negative bytes ≡ Some (n, rest)
+    → IsUnsigned negative bytes n rest
 unfolding read_unsigned
 is_unsigned negative bytes n rest h =
     let found = cond_some _ _ _ h in

@@ -131,7 +131,8 @@ nonzero_line : (n : ℕ) → n < 2 ^ 64 → OneLine (nonzero_digits n)
 unfolding nonzero_digits
 nonzero_line n small = if_line (n == 0) [] (decimal n) (lit [] refl) (decimal_line n small)
 
-iso_decimal_line : (negative : Bool) (seconds micros : ℕ) → seconds < 2 ^ 64 → micros < 2 ^ 64 → OneLine (iso_decimal negative seconds micros)
+iso_decimal_line : (negative : Bool) (seconds micros : ℕ) → seconds < 2 ^ 64 → micros < 2 ^ 64
+    → OneLine (iso_decimal negative seconds micros)
 unfolding iso_decimal
 iso_decimal_line negative seconds micros s m =
     let end : List ℕ = padded 6 micros ++ codes "S" in
@@ -139,7 +140,8 @@ iso_decimal_line negative seconds micros s m =
     let number = append (nonzero_digits seconds) (codes "." ++ end) (nonzero_line seconds s) fraction in
     append (minus negative) (nonzero_digits seconds ++ (codes "." ++ end)) (minus_line negative) number
 
-iso_seconds_line : (negative : Bool) (seconds micros : ℕ) → seconds < 2 ^ 64 → micros < 2 ^ 64 → OneLine (iso_seconds negative seconds micros)
+iso_seconds_line : (negative : Bool) (seconds micros : ℕ) → seconds < 2 ^ 64 → micros < 2 ^ 64
+    → OneLine (iso_seconds negative seconds micros)
 unfolding iso_seconds
 iso_seconds_line negative seconds micros s m =
     if_line (micros == 0) (iso_part negative seconds (codes "S")) (iso_decimal negative seconds micros) (part_line negative seconds (codes "S") s (lit (codes "S") refl)) (iso_decimal_line negative seconds micros s m)
@@ -155,7 +157,10 @@ iso_date_line months days m d =
     append year (month ++ day) (part_line (is_negative months) (years_of months) (codes "Y") (years_small months m) (lit (codes "Y") refl)) (append month day months_in days_in)
 
 iso_clock_line : (micros : ℤ) → IsSmall micros
-    → OneLine (iso_part (is_negative micros) (hours_of micros) (codes "H") ++ (iso_part (is_negative micros) (minutes_of micros) (codes "M") ++ iso_seconds (is_negative micros) (seconds_of micros) (subsecond_of micros)))
+    → OneLine
+    (iso_part (is_negative micros) (hours_of micros) (codes "H")
+    ++ (iso_part (is_negative micros) (minutes_of micros) (codes "M")
+    ++ iso_seconds (is_negative micros) (seconds_of micros) (subsecond_of micros)))
 iso_clock_line micros u =
     let hour : List ℕ = iso_part (is_negative micros) (hours_of micros) (codes "H") in
     let minute : List ℕ = iso_part (is_negative micros) (minutes_of micros) (codes "M") in
@@ -187,14 +192,16 @@ number_line negative n word small h =
     let number = append (minus negative) (decimal n) (minus_line negative) (decimal_line n small) in
     if_words (n == 0) [] ((minus negative ++ decimal n) ∷ word ∷ []) tt (number, (h, tt))
 
-counted_line : (negative plural : Bool) (n : ℕ) (name : List ℕ) → n < 2 ^ 64 → list_all is_no_feed name ≡ true → OneLineEach (number_words negative n (counted_name plural n name))
+counted_line : (negative plural : Bool) (n : ℕ) (name : List ℕ) → n < 2 ^ 64 → list_all is_no_feed name ≡ true
+    → OneLineEach (number_words negative n (counted_name plural n name))
 counted_line negative plural n name small h = number_line negative n (counted_name plural n name) small (name_line plural n name (lit name h))
 
 clock_words_line : (micros : ℤ) → IsSmall micros → OneLineEach (clock_words micros)
 unfolding clock_words
 clock_words_line micros u = if_words (int_eq micros (pos 0)) [] ((minus (is_negative micros) ++ clock_text 2 micros) ∷ []) tt (signed_clock_line 2 micros u, tt)
 
-postgres_words_line : (months days micros : ℤ) → IsSmall months → IsSmall days → IsSmall micros → OneLineEach (postgres_words months days micros)
+postgres_words_line : (months days micros : ℤ) → IsSmall months → IsSmall days → IsSmall micros
+    → OneLineEach (postgres_words months days micros)
 postgres_words_line months days micros m d u =
     let year : List (List ℕ) = part_words (is_negative months) (years_of months) (codes "year") in
     let month : List (List ℕ) = part_words (is_negative months) (months_of months) (codes "mon") in
@@ -221,7 +228,8 @@ spaced_line : (all : List (List ℕ)) → OneLineEach all → OneLine (behind_sp
 spaced_line [] h = lit [] refl
 spaced_line (word ∷ more) h = append (codes " ") (word ++ behind_spaces more) (lit (codes " ") refl) (append word (behind_spaces more) h.0 (spaced_line more h.1))
 
-unit_line : (negative : Bool) (n : ℕ) (name : List ℕ) → n < 2 ^ 64 → list_all is_no_feed name ≡ true → OneLine (behind_spaces (unit_words negative n name))
+unit_line : (negative : Bool) (n : ℕ) (name : List ℕ) → n < 2 ^ 64 → list_all is_no_feed name ≡ true
+    → OneLine (behind_spaces (unit_words negative n name))
 unit_line negative n name small h = spaced_line (unit_words negative n name) (counted_line negative false n name small h)
 
 second_digits_line : (seconds micros : ℕ) → seconds < 2 ^ 64 → micros < 2 ^ 64 → OneLine (second_digits seconds micros)
@@ -230,7 +238,8 @@ second_digits_line seconds micros s m =
     let fraction = append (codes ".") (trimmed (padded 6 micros)) (lit (codes ".") refl) (trimmed_line 6 micros m) in
     append (decimal seconds) (codes "." ++ trimmed (padded 6 micros)) (decimal_line seconds s) fraction
 
-second_words_line : (negative : Bool) (seconds micros : ℕ) → seconds < 2 ^ 64 → micros < 2 ^ 64 → OneLineEach (second_words negative seconds micros)
+second_words_line : (negative : Bool) (seconds micros : ℕ) → seconds < 2 ^ 64 → micros < 2 ^ 64
+    → OneLineEach (second_words negative seconds micros)
 unfolding second_words
 second_words_line negative seconds micros s m =
     let number = append (minus negative) (second_digits seconds micros) (minus_line negative) (second_digits_line seconds micros s m) in
@@ -259,7 +268,8 @@ verbose_time_line ago micros u =
     let seconds = spaced_line (second_words sign (seconds_of micros) (subsecond_of micros)) (second_words_line sign (seconds_of micros) (subsecond_of micros) (seconds_small micros u) (subsecond_small micros u)) in
     append hour (minute ++ second) (unit_line sign (hours_of micros) (codes "hour") (hours_small micros u) refl) (append minute second minutes seconds)
 
-parts_line : (ago : Bool) (months days micros : ℤ) → IsSmall months → IsSmall days → IsSmall micros → OneLine (parts_text ago months days micros)
+parts_line : (ago : Bool) (months days micros : ℤ) → IsSmall months → IsSmall days → IsSmall micros
+    → OneLine (parts_text ago months days micros)
 unfolding parts_text
 parts_line ago months days micros m d u =
     let end = if_line ago (codes " ago") [] (lit (codes " ago") refl) (lit [] refl) in

@@ -12,7 +12,8 @@ use Rattle.pg_interval_2.proofs.UnitFacts.{place_small, same_unit}
 
 -- ---- what may follow
 
-behind_push : (least : ℕ) (counts : List Count) (c : Count) → behind_last least (counts ++ c ∷ []) ≡ place_behind (behind_last least counts) (place_of c.unit)
+behind_push : (least : ℕ) (counts : List Count) (c : Count)
+    → behind_last least (counts ++ c ∷ []) ≡ place_behind (behind_last least counts) (place_of c.unit)
 behind_push least [] c = refl
 behind_push least (x ∷ xs) c = behind_push (place_behind least (place_of x.unit)) xs c
 
@@ -20,7 +21,8 @@ behind_next : (least place : ℕ) → least ≤ place → place_behind least pla
 behind_next least place h = let next : nat_le least place ≡ true = le-leb least place h in rw next refl
 
 -- a first count that may follow
-goes_on : (least : ℕ) (c : Count) (cs : List Count) → least ≤ place_of c.unit → behind_last least (c ∷ cs) ≡ behind_last (place_of c.unit + 1) cs
+goes_on : (least : ℕ) (c : Count) (cs : List Count) → least ≤ place_of c.unit
+    → behind_last least (c ∷ cs) ≡ behind_last (place_of c.unit + 1) cs
 goes_on least c cs h = ap (λ (place : ℕ). behind_last place cs) (behind_next least (place_of c.unit) h)
 
 behind_none : (least place : ℕ) → place < least → place_behind least place ≡ 8
@@ -46,7 +48,9 @@ stand-le from to [] stand = omega (arith, stand)
 stand-le from to (unit ∷ units) stand = omega (arith, stand-le (suc from) to units stand.1)
 
 -- a first unit that isn't behind the least place
-out_of_order : (least to : ℕ) (c : Count) (cs : List Count) {P : Type 0} → to < 8 → place_of c.unit < least → behind_last least (c ∷ cs) ≤ to → P
+out_of_order : (least to : ℕ) (c : Count) (cs : List Count) {P : Type 0} → to < 8 → place_of c.unit < least
+    → behind_last least (c ∷ cs) ≤ to
+    → P
 out_of_order least to c cs below less high = absurd (omega (arith, broken least c cs less, high, below))
 
 least_grows : (least : ℕ) (counts : List Count) → least ≤ 8 → least ≤ behind_last least counts
@@ -59,7 +63,8 @@ least_grows least (c ∷ cs) h =
           omega (arith, below, goes_on least c cs (omega (arith, next)), next)
     ]
 
-in_order_ends : (units : List TimeUnit) (from to : ℕ) (counts : List Count) → to < 8 → StandFrom from to units → AreInOrder units counts → behind_last from counts ≤ to
+in_order_ends : (units : List TimeUnit) (from to : ℕ) (counts : List Count) → to < 8 → StandFrom from to units → AreInOrder units counts
+    → behind_last from counts ≤ to
 in_order_ends units from to [] below stand h = stand-le from to units stand
 in_order_ends [] from to (c ∷ cs) below stand h = absurd h
 in_order_ends (unit ∷ units) from to (c ∷ cs) below stand (inl first) =
@@ -75,7 +80,9 @@ in_order_ends (unit ∷ units) from to (c ∷ cs) below stand (inr later) =
           subst (λ (place : ℕ). behind_last place cs ≤ to) same rest
     ]
 
-ends_in_order : (units : List TimeUnit) (from to : ℕ) (counts : List Count) → to < 8 → StandFrom from to units → behind_last from counts ≤ to → AreInOrder units counts
+ends_in_order : (units : List TimeUnit) (from to : ℕ) (counts : List Count) → to < 8 → StandFrom from to units
+    → behind_last from counts ≤ to
+    → AreInOrder units counts
 ends_in_order units from to [] below stand h = tt
 ends_in_order [] from to (c ∷ cs) below stand h =
     elim (cases_lt (place_of c.unit) from) [
@@ -108,15 +115,18 @@ small false = omega arith
 small true = omega arith
 
 -- the order is kept where the counts are in order, and not where they aren't
-pub in_order : (in_time : Bool) (order : Order) (counts : List Count) → Orders in_time order counts → is_kept in_time order ≡ true → AreInOrder (units_in_order in_time) counts
+pub in_order : (in_time : Bool) (order : Order) (counts : List Count) → Orders in_time order counts → is_kept in_time order ≡ true
+    → AreInOrder (units_in_order in_time) counts
 in_order in_time order counts orders kept =
     ends_in_order (units_in_order in_time) _ _ counts (small in_time) (stands in_time) (subst (λ (least : ℕ). least ≤ end_place in_time) orders (leb-true order.least (end_place in_time) kept))
 
-pub kept : (in_time : Bool) (order : Order) (counts : List Count) → Orders in_time order counts → AreInOrder (units_in_order in_time) counts → is_kept in_time order ≡ true
+pub kept : (in_time : Bool) (order : Order) (counts : List Count) → Orders in_time order counts → AreInOrder (units_in_order in_time) counts
+    → is_kept in_time order ≡ true
 kept in_time order counts orders is =
     le-leb order.least (end_place in_time) (subst (λ (least : ℕ). least ≤ end_place in_time) (sym orders) (in_order_ends (units_in_order in_time) _ _ counts (small in_time) (stands in_time) is))
 
 -- one more count
-pub orders_push : (in_time : Bool) (old new : Order) (counts : List Count) (c : Count) → Orders in_time old counts → new.least ≡ place_behind old.least (place_of c.unit)
+pub orders_push : (in_time : Bool) (old new : Order) (counts : List Count) (c : Count) → Orders in_time old counts
+    → new.least ≡ place_behind old.least (place_of c.unit)
     → Orders in_time new (counts ++ c ∷ [])
 orders_push in_time old new counts c orders now = now ∙ ap (λ (least : ℕ). place_behind least (place_of c.unit)) orders ∙ sym (behind_push (first_place in_time) counts c)

@@ -23,7 +23,8 @@ clock_part-sum t range =
 sums : (t : Interval) → IsInRange t → SumsTo (postgres_counts t.months t.days t.microseconds) t
 sums t range = SumsTo-date_time _ _ t (date_counts-sum t range) (clock_part-sum t range)
 
-spelled : (t : Interval) → IsInRange t → IsPostgres (postgres_text t.months t.days t.microseconds) (postgres_counts t.months t.days t.microseconds)
+spelled : (t : Interval) → IsInRange t
+    → IsPostgres (postgres_text t.months t.days t.microseconds) (postgres_counts t.months t.days t.microseconds)
 spelled t range = postgres_spelled t.months t.days t.microseconds (abs_fits Months t.months (fits_32 t.months range.months)) (abs_fits Days t.days (fits_32 t.days range.days)) (abs_fits Micros t.microseconds (fits_64 t.microseconds range.microseconds))
 
 pub postgres_denotes : (t : Interval) → IsInRange t → Denotes IsPostgres (postgres_text t.months t.days t.microseconds) t

@@ -30,11 +30,13 @@ use Rattle.pg_interval_2.proofs.WrittenNumbers.{cond_two, IsSign-minus, IsNumber
 
 -- the name that stands behind a number names the unit, singular or not
 pub counted_unit : (names : TimeUnit → List (List ℕ)) (negative : Bool) (n : ℕ) (name : List ℕ) (unit : TimeUnit)
-    → unit_named names name ≡ Some unit → unit_named names (name ++ codes "s") ≡ Some unit → unit_named names (counted_name negative n name) ≡ Some unit
+    → unit_named names name ≡ Some unit → unit_named names (name ++ codes "s") ≡ Some unit
+    → unit_named names (counted_name negative n name) ≡ Some unit
 unfolding counted_name
 counted_unit names negative n name unit one more = cond_both (not negative && n == 1) _ _ (λ word. unit_named names word ≡ Some unit) (λ _. one) (λ _. more)
 
-named : (names : TimeUnit → List (List ℕ)) (negative : Bool) (n : ℕ) (word : List ℕ) (unit : TimeUnit) → n < 2 ^ 64 → unit_named names word ≡ Some unit
+named : (names : TimeUnit → List (List ℕ)) (negative : Bool) (n : ℕ) (word : List ℕ) (unit : TimeUnit) → n < 2 ^ 64
+    → unit_named names word ≡ Some unit
     → IsNamed names ((minus negative ++ decimal n) ∷ word ∷ []) (count_of negative (decimal n) [] unit)
 named names negative n word unit small is = record {
   number = minus negative ++ decimal n;
@@ -48,14 +50,16 @@ named names negative n word unit small is = record {
 abbrev pub part_items : Bool → ℕ → TimeUnit → List (List Count)
 part_items negative n unit = if n == 0 then [] else ((count_of negative (decimal n) [] unit ∷ []) ∷ [])
 
-pub number_join : (names : TimeUnit → List (List ℕ)) (negative : Bool) (n : ℕ) (word : List ℕ) (unit : TimeUnit) → n < 2 ^ 64 → unit_named names word ≡ Some unit
+pub number_join : (names : TimeUnit → List (List ℕ)) (negative : Bool) (n : ℕ) (word : List ℕ) (unit : TimeUnit) → n < 2 ^ 64
+    → unit_named names word ≡ Some unit
     → IsJoin (IsItem names) (number_words negative n word) (part_items negative n unit)
 unfolding number_words
 number_join names negative n word unit small is =
     cond_two (n == 0) (IsJoin (IsItem names)) _ _ _ _ (λ _. refl)
     (λ _. IsJoin-one (IsItem names) _ _ (inl (count_of negative (decimal n) [] unit, named names negative n word unit small is, refl)))
 
-part_join : (negative : Bool) (n : ℕ) (name : List ℕ) (unit : TimeUnit) → n < 2 ^ 64 → unit_named postgres_names name ≡ Some unit → unit_named postgres_names (name ++ codes "s") ≡ Some unit
+part_join : (negative : Bool) (n : ℕ) (name : List ℕ) (unit : TimeUnit) → n < 2 ^ 64 → unit_named postgres_names name ≡ Some unit
+    → unit_named postgres_names (name ++ codes "s") ≡ Some unit
     → IsJoin (IsItem postgres_names) (part_words negative n name) (part_items negative n unit)
 part_join negative n name unit small one more =
     number_join postgres_names negative n (counted_name negative n name) unit small (counted_unit postgres_names negative n name unit one more)
@@ -89,7 +93,8 @@ pub fraction_is : (micros : ℕ) → micros < 2 ^ 64 → IsFraction (micros_digi
 unfolding fraction_text
 fraction_is micros small = cond_two (micros == 0) IsFraction _ _ _ _ (λ _. inl (refl, refl)) (λ _. inr (digits-padded 6 micros small, refl))
 
-clock_is : (micros : ℤ) → unsigned_abs micros ≤ 2 ^ 63 → IsClock (minus (is_negative micros) ++ clock_text 2 micros) (filter is_nonzero (three_counts (is_negative micros) 2 micros))
+clock_is : (micros : ℤ) → unsigned_abs micros ≤ 2 ^ 63
+    → IsClock (minus (is_negative micros) ++ clock_text 2 micros) (filter is_nonzero (three_counts (is_negative micros) 2 micros))
 unfolding clock_text hours_text field_text
 clock_is micros small = record {
   negative = is_negative micros;
@@ -142,12 +147,14 @@ distinct months days micros =
     (rw (append_assoc, append_assoc) (rises_front (years_of months == 0) _ _ (rises_front (months_of months == 0) _ _ (rises_lower _ _ _ (omega arith) (rises_front (unsigned_abs days == 0) _ _ (rises_clock micros))))))
 
 -- the counts of four runs of items
-counts_of_four : (a b c d : List (List Count)) (x y z w : List Count) → all_counts a ≡ x → all_counts b ≡ y → all_counts c ≡ z → all_counts d ≡ w
+counts_of_four : (a b c d : List (List Count)) (x y z w : List Count) → all_counts a ≡ x → all_counts b ≡ y → all_counts c ≡ z
+    → all_counts d ≡ w
     → (x ++ (y ++ z)) ++ w ≡ all_counts (a ++ (b ++ (c ++ d)))
 counts_of_four a b c d x y z w is_a is_b is_c is_d =
     rw (all_counts-append a (b ++ (c ++ d)), all_counts-append b (c ++ d), all_counts-append c d, is_a, is_b, is_c, is_d) (simp append_assoc)
 
-nonzero_items : (months days micros : ℤ) → unsigned_abs months ≤ 2 ^ 63 → unsigned_abs days ≤ 2 ^ 63 → unsigned_abs micros ≤ 2 ^ 63 → AreItems postgres_names (postgres_words months days micros) (postgres_counts months days micros)
+nonzero_items : (months days micros : ℤ) → unsigned_abs months ≤ 2 ^ 63 → unsigned_abs days ≤ 2 ^ 63 → unsigned_abs micros ≤ 2 ^ 63
+    → AreItems postgres_names (postgres_words months days micros) (postgres_counts months days micros)
 nonzero_items months days micros small_months small_days small_micros = (
   part_items (is_negative months) (years_of months) Year ++ (part_items (is_negative months) (months_of months) Month ++ (part_items (is_negative days) (unsigned_abs days) Day ++ clock_items micros)),
   IsJoin-append _ _ _ _ _ (part_join (is_negative months) (years_of months) (codes "year") Year (omega arith) year_names.0 year_names.1)
@@ -181,7 +188,8 @@ zero_clock = record {
 zero_items : AreItems postgres_names (codes "00:00:00" ∷ []) []
 zero_items = ([] ∷ [], IsJoin-one (IsItem postgres_names) (codes "00:00:00" ∷ []) [] (inr (codes "00:00:00", zero_clock, refl)), refl, refl)
 
-zero_spelled : (months days micros : ℤ) → int_eq months (pos 0) && (int_eq days (pos 0) && int_eq micros (pos 0)) ≡ true → IsPostgres (codes "00:00:00") (postgres_counts months days micros)
+zero_spelled : (months days micros : ℤ) → int_eq months (pos 0) && (int_eq days (pos 0) && int_eq micros (pos 0)) ≡ true
+    → IsPostgres (codes "00:00:00") (postgres_counts months days micros)
 zero_spelled months days micros zero_is =
     let outer = and_parts _ _ zero_is in
     let inner = and_parts _ _ outer.1 in
@@ -191,7 +199,8 @@ zero_spelled months days micros zero_is =
     rw (no_months, no_days, no_micros) zero_items
 
 -- the written text spells these counts
-pub postgres_spelled : (months days micros : ℤ) → unsigned_abs months ≤ 2 ^ 63 → unsigned_abs days ≤ 2 ^ 63 → unsigned_abs micros ≤ 2 ^ 63 → IsPostgres (postgres_text months days micros) (postgres_counts months days micros)
+pub postgres_spelled : (months days micros : ℤ) → unsigned_abs months ≤ 2 ^ 63 → unsigned_abs days ≤ 2 ^ 63 → unsigned_abs micros ≤ 2 ^ 63
+    → IsPostgres (postgres_text months days micros) (postgres_counts months days micros)
 unfolding postgres_text
 postgres_spelled months days micros small_months small_days small_micros =
     cond_both _ _ _ (λ text. IsPostgres text (postgres_counts months days micros)) (zero_spelled months days micros)

@@ -17,14 +17,16 @@ pub no_blank-minus : (negative : Bool) → NoBlanks (minus negative)
 no_blank-minus true = (refl, tt)
 no_blank-minus false = tt
 
-pub counted_name_is : (negative : Bool) (n : ℕ) (name : List ℕ) → 0 < length name → NoBlanks name → (0 < length (counted_name negative n name)) × NoBlanks (counted_name negative n name)
+pub counted_name_is : (negative : Bool) (n : ℕ) (name : List ℕ) → 0 < length name → NoBlanks name
+    → (0 < length (counted_name negative n name)) × NoBlanks (counted_name negative n name)
 unfolding counted_name
 counted_name_is negative n name some clear =
     cond_both (not negative && n == 1) _ _ (λ (word : List ℕ). (0 < length word) × NoBlanks word) (λ _. (some, clear))
     (λ _. (omega (arith, length-append name (codes "s")), no_blanks-append name (codes "s") clear (refl, tt)))
 
 -- the words of a number and a word behind it
-pub AreWords-number_words : (negative : Bool) (n : ℕ) (word : List ℕ) → n < 2 ^ 64 → (0 < length word) × NoBlanks word → AreWords (number_words negative n word)
+pub AreWords-number_words : (negative : Bool) (n : ℕ) (word : List ℕ) → n < 2 ^ 64 → (0 < length word) × NoBlanks word
+    → AreWords (number_words negative n word)
 unfolding number_words
 AreWords-number_words negative n word small behind =
     cond_both (n == 0) _ _ AreWords (λ _. tt)
@@ -34,7 +36,8 @@ AreWords-number_words negative n word small behind =
       (behind.0, behind.1, tt),
     ))
 
-AreWords-part_words : (negative : Bool) (n : ℕ) (name : List ℕ) → n < 2 ^ 64 → 0 < length name → NoBlanks name → AreWords (part_words negative n name)
+AreWords-part_words : (negative : Bool) (n : ℕ) (name : List ℕ) → n < 2 ^ 64 → 0 < length name → NoBlanks name
+    → AreWords (part_words negative n name)
 AreWords-part_words negative n name small some clear = AreWords-number_words negative n (counted_name negative n name) small (counted_name_is negative n name some clear)
 
 pub year_words : (months : ℤ) → unsigned_abs months ≤ 2 ^ 63 → AreWords (part_words (is_negative months) (years_of months) (codes "year"))
@@ -86,6 +89,8 @@ pub AreWords-append : (xs ys : List (List ℕ)) → AreWords xs → AreWords ys 
 AreWords-append [] ys left right = right
 AreWords-append (x ∷ xs) ys left right = (left.0, left.1, AreWords-append xs ys left.2 right)
 
-pub AreWords-postgres_words : (months days micros : ℤ) → unsigned_abs months ≤ 2 ^ 63 → unsigned_abs days ≤ 2 ^ 63 → unsigned_abs micros ≤ 2 ^ 63 → AreWords (postgres_words months days micros)
+pub AreWords-postgres_words : (months days micros : ℤ) → unsigned_abs months ≤ 2 ^ 63 → unsigned_abs days ≤ 2 ^ 63
+    → unsigned_abs micros ≤ 2 ^ 63
+    → AreWords (postgres_words months days micros)
 AreWords-postgres_words months days micros small_months small_days small_micros =
     AreWords-append _ _ (year_words months small_months) (AreWords-append _ _ (month_words months small_months) (AreWords-append _ _ (day_words days small_days) (time_words micros small_micros)))

@@ -10,12 +10,14 @@ abbrev pub AreWords : List (List ℕ) → Type 0
 AreWords [] = Unit {0}
 AreWords (word ∷ words) = (0 < length word) × NoBlanks word × AreWords words
 
-pub join-append : (x y : List ℕ) (xs ys : List (List ℕ)) → join_with_byte 32 ((x ∷ xs) ++ (y ∷ ys)) ≡ join_with_byte 32 (x ∷ xs) ++ (32 ∷ join_with_byte 32 (y ∷ ys))
+pub join-append : (x y : List ℕ) (xs ys : List (List ℕ))
+    → join_with_byte 32 ((x ∷ xs) ++ (y ∷ ys)) ≡ join_with_byte 32 (x ∷ xs) ++ (32 ∷ join_with_byte 32 (y ∷ ys))
 join-append x y [] ys = refl
 join-append x y (z ∷ zs) ys = rw (join-append z y zs ys) (sym (append_assoc x (32 ∷ join_with_byte 32 (z ∷ zs)) (32 ∷ join_with_byte 32 (y ∷ ys))))
 
 -- words behind other words, and more words behind them all
-words_behind-append : (others : Bool) (xs ys : List (List ℕ)) → words_behind others (xs ++ ys) ≡ words_behind others xs ++ words_behind (others || has_words xs) ys
+words_behind-append : (others : Bool) (xs ys : List (List ℕ))
+    → words_behind others (xs ++ ys) ≡ words_behind others xs ++ words_behind (others || has_words xs) ys
 words_behind-append true [] ys = refl
 words_behind-append false [] ys = refl
 words_behind-append others (x ∷ xs) [] = ap (words_behind others) (append-nil (x ∷ xs)) ∙ sym (append-nil (words_behind others (x ∷ xs)))
@@ -30,7 +32,11 @@ words_behind-none [] = refl
 words_behind-none (x ∷ xs) = refl
 
 -- words written in four steps
-pub four_steps : (a b c d : List (List ℕ)) → words_behind false a ++ (words_behind (false || has_words a) b ++ (words_behind ((false || has_words a) || has_words b) c ++ words_behind (((false || has_words a) || has_words b) || has_words c) d)) ≡ join_with_byte 32 (a ++ (b ++ (c ++ d)))
+pub four_steps : (a b c d : List (List ℕ))
+    → words_behind false a
+    ++ (words_behind (false || has_words a) b
+    ++ (words_behind ((false || has_words a) || has_words b) c ++ words_behind (((false || has_words a) || has_words b) || has_words c) d))
+    ≡ join_with_byte 32 (a ++ (b ++ (c ++ d)))
 four_steps a b c d =
     sym (sym (words_behind-none (a ++ (b ++ (c ++ d))))
     ∙ words_behind-append false a (b ++ (c ++ d))

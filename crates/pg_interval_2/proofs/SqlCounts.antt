@@ -66,7 +66,8 @@ no_words bytes h = nothing_if (after_blanks bytes) (after_blanks-first bytes) (w
 
 -- ---- the words of a text are read
 
-one_word : (text word : List ℕ) (counts : List Count) → words text ≡ word ∷ [] → IsYearMonth word counts ⊎ IsTime false word counts → read_sql text ≡ Some counts
+one_word : (text word : List ℕ) (counts : List Count) → words text ≡ word ∷ [] → IsYearMonth word counts ⊎ IsTime false word counts
+    → read_sql text ≡ Some counts
 unfolding read_sql behind_date
 one_word text word counts h (inl date) =
     let found = begins_with text word [] h in
@@ -81,7 +82,8 @@ one_word text word counts h (inr time) =
     rw (read, end) (ap (λ (l : List Count). Some l) (sym reads.counted))
 
 -- a time that ends the bytes, behind counts
-ends_in_time : (default : Bool) (bytes word : List ℕ) (before counts : List Count) → words bytes ≡ word ∷ [] → IsTime default word counts → option_and_then (last_time before) (read_word default (after_blanks bytes)) ≡ Some (before ++ counts)
+ends_in_time : (default : Bool) (bytes word : List ℕ) (before counts : List Count) → words bytes ≡ word ∷ [] → IsTime default word counts
+    → option_and_then (last_time before) (read_word default (after_blanks bytes)) ≡ Some (before ++ counts)
 ends_in_time default bytes word before counts h time =
     let found = begins_with bytes word [] h in
     let reads = time_read default word found.rest counts time found.ends in
@@ -89,7 +91,8 @@ ends_in_time default bytes word before counts h time =
     let end = no_words found.rest found.behind in
     rw (read, end) (ap (λ (l : List Count). Some (before ++ l)) (sym reads.counted))
 
-two_words : (text first second : List ℕ) (counts : List Count) → words text ≡ first ∷ second ∷ [] → AreDaysAndTime first second counts → read_sql text ≡ Some counts
+two_words : (text first second : List ℕ) (counts : List Count) → words text ≡ first ∷ second ∷ [] → AreDaysAndTime first second counts
+    → read_sql text ≡ Some counts
 unfolding read_sql behind_days
 two_words text first second counts h are =
     let found = begins_with text first (second ∷ []) h in
@@ -99,7 +102,9 @@ two_words text first second counts h are =
     let counted = are.counted ∙ ap (λ (l : List Count). l ++ are.time_counts) are.days.counted in
     rw (read, next) (rw next at last ∙ ap (λ (l : List Count). Some l) (sym counted))
 
-three_words : (text first second third : List ℕ) (counts : List Count) → words text ≡ first ∷ second ∷ third ∷ [] → AreAllThree first second third counts → read_sql text ≡ Some counts
+three_words : (text first second third : List ℕ) (counts : List Count) → words text ≡ first ∷ second ∷ third ∷ []
+    → AreAllThree first second third counts
+    → read_sql text ≡ Some counts
 unfolding read_sql behind_date
 three_words text first second third counts h are =
     let found = begins_with text first (second ∷ third ∷ []) h in
@@ -116,7 +121,8 @@ zero_read : read_sql (codes "0") ≡ Some []
 unfolding read_sql behind_days read_word read_field
 zero_read = refl
 
-words_read : (text : List ℕ) (all : List (List ℕ)) (counts : List Count) → words text ≡ all → AreSqlWords all counts → read_sql text ≡ Some counts
+words_read : (text : List ℕ) (all : List (List ℕ)) (counts : List Count) → words text ≡ all → AreSqlWords all counts
+    → read_sql text ≡ Some counts
 words_read text [] counts h are = absurd are
 words_read text (word ∷ []) counts h are = one_word text word counts h are
 words_read text (first ∷ second ∷ []) counts h are = two_words text first second counts h are

@@ -15,7 +15,8 @@ use Rattle.pg_interval_2.proofs.SqlSpelled.{governed}
 
 -- ---- a sign and digits
 
-sign_stands : (default : Bool) (bytes : List ℕ) → (sign : List ℕ) × IsSignOr default (read_sign_or default bytes).0 sign × (bytes ≡ sign ++ (read_sign_or default bytes).1)
+sign_stands : (default : Bool) (bytes : List ℕ)
+    → (sign : List ℕ) × IsSignOr default (read_sign_or default bytes).0 sign × (bytes ≡ sign ++ (read_sign_or default bytes).1)
 sign_stands default [] = ([], governed default, refl)
 sign_stands default (b ∷ bs) = sign_if (IsSignOr default) (b == 45) (b == 43) default b bs (inl refl) (λ h. inl refl) (governed default) (eqb-true b 45) (eqb-true b 43)
 
@@ -35,7 +36,9 @@ mapped_some f (Some x) y h k = k x refl (same_Some _ _ h)
 abbrev SecondsStand : Bool → List ℕ → Option (List ℕ × List ℕ) × List ℕ → Type 0
 SecondsStand negative bytes r = (piece : List ℕ) × HasSeconds negative piece (seconds_counts negative r.0) × (bytes ≡ piece ++ r.1)
 
-short_stand : (negative : Bool) (bs : List ℕ) (field : List ℕ × List ℕ) (r : (List ℕ × List ℕ) × List ℕ) → IsField field.0 → bs ≡ field.0 ++ field.1 → short_seconds field.0 (read_fraction field.1) ≡ Some r → SecondsStand negative (58 ∷ bs) (Some r.0, r.1)
+short_stand : (negative : Bool) (bs : List ℕ) (field : List ℕ × List ℕ) (r : (List ℕ × List ℕ) × List ℕ) → IsField field.0
+    → bs ≡ field.0 ++ field.1 → short_seconds field.0 (read_fraction field.1) ≡ Some r
+    → SecondsStand negative (58 ∷ bs) (Some r.0, r.1)
 short_stand negative bs field r digits split h =
     let found = cond_some _ _ _ h in
     let point = is_fraction field.1 in
@@ -55,7 +58,8 @@ short_stand negative bs field r digits split h =
       ap (λ (l : List ℕ). 58 ∷ l) (split ∙ ap (λ (l : List ℕ). field.0 ++ l) point.2 ∙ sym (append_assoc field.0 point.0 fraction.1)),
     )
 
-colon_stands : (negative : Bool) (bs : List ℕ) (r : (List ℕ × List ℕ) × List ℕ) → read_seconds bs ≡ Some r → SecondsStand negative (58 ∷ bs) (Some r.0, r.1)
+colon_stands : (negative : Bool) (bs : List ℕ) (r : (List ℕ × List ℕ) × List ℕ) → read_seconds bs ≡ Some r
+    → SecondsStand negative (58 ∷ bs) (Some r.0, r.1)
 unfolding read_seconds
 colon_stands negative bs r h =
     option_and_then_some _ (read_field bs) r h (λ field read last. let stands = field_stands bs field read in short_stand negative bs field r stands.0 stands.1 last)
@@ -67,7 +71,8 @@ seconds_if true negative b bs r colon h =
     mapped_some _ (read_seconds bs) r h (λ q read same. subst (λ (c : ℕ). SecondsStand negative (c ∷ bs) r) (sym here) (subst (SecondsStand negative (58 ∷ bs)) same (colon_stands negative bs q read)))
 seconds_if false negative b bs r colon h = subst (SecondsStand negative (b ∷ bs)) (same_Some _ _ h) ([], inl (refl, refl), refl)
 
-seconds_stand : (negative : Bool) (bytes : List ℕ) (r : Option (List ℕ × List ℕ) × List ℕ) → read_perhaps_seconds bytes ≡ Some r → SecondsStand negative bytes r
+seconds_stand : (negative : Bool) (bytes : List ℕ) (r : Option (List ℕ × List ℕ) × List ℕ) → read_perhaps_seconds bytes ≡ Some r
+    → SecondsStand negative bytes r
 seconds_stand negative [] r h = subst (SecondsStand negative []) (same_Some _ _ h) ([], inl (refl, refl), refl)
 seconds_stand negative (b ∷ bs) r h = seconds_if (b == 58) negative b bs r (eqb-true b 58) h
 
@@ -89,7 +94,8 @@ IsBody (Time negative hours minutes seconds) body =
 abbrev BodyStands : Bool → List ℕ → SqlWord × List ℕ → Type 0
 BodyStands negative bytes r = (body : List ℕ) × IsBody r.0 body × (negative_of r.0 ≡ negative) × (bytes ≡ body ++ r.1)
 
-months_stand : (negative : Bool) (digits bs : List ℕ) (r : SqlWord × List ℕ) → IsField digits → read_months negative digits bs ≡ Some r → BodyStands negative (digits ++ (codes "-" ++ bs)) r
+months_stand : (negative : Bool) (digits bs : List ℕ) (r : SqlWord × List ℕ) → IsField digits → read_months negative digits bs ≡ Some r
+    → BodyStands negative (digits ++ (codes "-" ++ bs)) r
 unfolding read_months
 months_stand negative digits bs r field h =
     mapped_some _ (read_field bs) r h (λ months read same.
@@ -101,7 +107,8 @@ months_stand negative digits bs r field h =
       ap (λ (l : List ℕ). digits ++ (codes "-" ++ l)) stands.1 ∙ sym (append_assoc digits (codes "-" ++ months.0) months.1),
     ))
 
-time_stands : (negative : Bool) (digits bs : List ℕ) (r : SqlWord × List ℕ) → IsField digits → read_time negative digits bs ≡ Some r → BodyStands negative (digits ++ (codes ":" ++ bs)) r
+time_stands : (negative : Bool) (digits bs : List ℕ) (r : SqlWord × List ℕ) → IsField digits → read_time negative digits bs ≡ Some r
+    → BodyStands negative (digits ++ (codes ":" ++ bs)) r
 unfolding read_time
 time_stands negative digits bs r field h =
     option_and_then_some _ (read_field bs) r h (λ minutes read last.
@@ -115,17 +122,22 @@ time_stands negative digits bs r field h =
       ap (λ (l : List ℕ). digits ++ (codes ":" ++ l)) (stands.1 ∙ ap (λ (l : List ℕ). minutes.0 ++ l) behind.2 ∙ sym (append_assoc minutes.0 behind.0 seconds.1)) ∙ sym (append_assoc digits (codes ":" ++ (minutes.0 ++ behind.0)) seconds.1),
     )))
 
-days_stand : (negative : Bool) (digits bytes : List ℕ) (r : SqlWord × List ℕ) → IsField digits → Some (Days negative digits, bytes) ≡ Some r → BodyStands negative (digits ++ bytes) r
+days_stand : (negative : Bool) (digits bytes : List ℕ) (r : SqlWord × List ℕ) → IsField digits → Some (Days negative digits, bytes) ≡ Some r
+    → BodyStands negative (digits ++ bytes) r
 days_stand negative digits bytes r field h =
     subst (BodyStands negative (digits ++ bytes)) (same_Some _ _ h) (digits ++ [], (field, refl), refl, ap (λ (l : List ℕ). l ++ bytes) (sym (append-nil digits)))
 
-behind_if : (t u negative : Bool) (digits : List ℕ) (b : ℕ) (bs : List ℕ) (r : SqlWord × List ℕ) → IsField digits → (t ≡ true → b ≡ 45) → (u ≡ true → b ≡ 58)
-    → cond t (read_months negative digits bs) (cond u (read_time negative digits bs) (Some (Days negative digits, b ∷ bs))) ≡ Some r → BodyStands negative (digits ++ (b ∷ bs)) r
+behind_if : (t u negative : Bool) (digits : List ℕ) (b : ℕ) (bs : List ℕ) (r : SqlWord × List ℕ) → IsField digits → (t ≡ true → b ≡ 45)
+    → (u ≡ true → b ≡ 58)
+    → cond t (read_months negative digits bs) (cond u (read_time negative digits bs) (Some (Days negative digits, b ∷ bs))) ≡ Some r
+    → BodyStands negative (digits ++ (b ∷ bs)) r
 behind_if true u negative digits b bs r field minus colon h = subst (λ (c : ℕ). BodyStands negative (digits ++ (c ∷ bs)) r) (sym (minus refl)) (months_stand negative digits bs r field h)
 behind_if false true negative digits b bs r field minus colon h = subst (λ (c : ℕ). BodyStands negative (digits ++ (c ∷ bs)) r) (sym (colon refl)) (time_stands negative digits bs r field h)
 behind_if false false negative digits b bs r field minus colon h = days_stand negative digits (b ∷ bs) r field h
 
-behind_stands : (negative : Bool) (digits bytes : List ℕ) (r : SqlWord × List ℕ) → IsField digits → read_behind negative digits bytes ≡ Some r → BodyStands negative (digits ++ bytes) r
+behind_stands : (negative : Bool) (digits bytes : List ℕ) (r : SqlWord × List ℕ) → IsField digits
+    → read_behind negative digits bytes ≡ Some r
+    → BodyStands negative (digits ++ bytes) r
 behind_stands negative digits [] r field h = days_stand negative digits [] r field h
 behind_stands negative digits (b ∷ bs) r field h = behind_if (b == 45) (b == 58) negative digits b bs r field (eqb-true b 45) (eqb-true b 58) h
 

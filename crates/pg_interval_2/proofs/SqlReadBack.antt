@@ -60,7 +60,9 @@ days-sum t range =
 -- ---- the sums of the texts
 
 signed-sum : (t : Interval) → IsInRange t
-    → SumsTo (year_month_counts (is_negative t.months) t.months ++ (day_counts (is_negative t.days) t.days ++ three_counts (is_negative t.microseconds) 1 t.microseconds)) t
+    → SumsTo
+    (year_month_counts (is_negative t.months) t.months
+    ++ (day_counts (is_negative t.days) t.days ++ three_counts (is_negative t.microseconds) 1 t.microseconds)) t
 signed-sum t range =
     SumsTo-append _ _ _ _ _ (year_month-sum t range)
     (SumsTo-append _ _ _ _ (record { months = pos 0; days = t.days; microseconds = t.microseconds }) (days-sum t range) (three_counts-sum (is_negative t.microseconds) 1 t range (signed-abs t.microseconds))
@@ -68,7 +70,9 @@ signed-sum t range =
     (omega (arith, ints)) (omega (arith, ints)) (omega (arith, ints))
 
 -- where no two of the numbers have opposite signs, that of days that aren't 0 serves the time
-one_sign : (months days micros : ℤ) → int_eq days (pos 0) ≡ false → has_negative months days micros && has_positive months days micros ≡ false → Serves (is_negative days) micros
+one_sign : (months days micros : ℤ) → int_eq days (pos 0) ≡ false
+    → has_negative months days micros && has_positive months days micros ≡ false
+    → Serves (is_negative days) micros
 one_sign months (pos n) (pos m) some one = rw is_negative-pos refl
 one_sign months (pos n) (negsuc m) some one = grind (arith, ints, nat_tests)
 one_sign months (negsuc n) (pos m) some one = grind (arith, ints, nat_tests)
@@ -78,7 +82,8 @@ first_false : (x y : Bool) → x || y ≡ false → x ≡ false
 first_false true y h = cc
 first_false false y h = refl
 
-both_or : (x months days micros : Bool) → x || (not months && not (days && micros)) ≡ false → months ≡ false → (days ≡ true) × (micros ≡ true)
+both_or : (x months days micros : Bool) → x || (not months && not (days && micros)) ≡ false → months ≡ false
+    → (days ≡ true) × (micros ≡ true)
 both_or true months days micros h none = cc
 both_or false true days micros h none = cc
 both_or false false true true h none = (refl, refl)
@@ -86,23 +91,28 @@ both_or false false true false h none = cc
 both_or false false false micros h none = cc
 
 -- without a sign for each number, months that aren't 0 stand alone
-none_beside : (months days micros : ℤ) → has_all_signs months days micros ≡ false → int_eq months (pos 0) ≡ false → (int_eq days (pos 0) ≡ true) × (int_eq micros (pos 0) ≡ true)
+none_beside : (months days micros : ℤ) → has_all_signs months days micros ≡ false → int_eq months (pos 0) ≡ false
+    → (int_eq days (pos 0) ≡ true) × (int_eq micros (pos 0) ≡ true)
 unfolding has_all_signs
 none_beside months days micros one some = both_or (has_negative months days micros && has_positive months days micros) (int_eq months (pos 0)) (int_eq days (pos 0)) (int_eq micros (pos 0)) one some
 
-no_opposites : (months days micros : ℤ) → has_all_signs months days micros ≡ false → has_negative months days micros && has_positive months days micros ≡ false
+no_opposites : (months days micros : ℤ) → has_all_signs months days micros ≡ false
+    → has_negative months days micros && has_positive months days micros ≡ false
 unfolding has_all_signs
 no_opposites months days micros one = first_false (has_negative months days micros && has_positive months days micros) _ one
 
 -- a sum with other names of its numbers
-SumsTo-same : (counts : List Count) (t u : Interval) → SumsTo counts t → t.months ≡ u.months → t.days ≡ u.days → t.microseconds ≡ u.microseconds → SumsTo counts u
+SumsTo-same : (counts : List Count) (t u : Interval) → SumsTo counts t → t.months ≡ u.months → t.days ≡ u.days
+    → t.microseconds ≡ u.microseconds
+    → SumsTo counts u
 SumsTo-same counts t u sums months days micros = record {
   months = AddsUp-same Months counts _ _ sums.months months;
   days = AddsUp-same Days counts _ _ sums.days days;
   micros = AddsUp-same Micros counts _ _ sums.micros micros;
 }
 
-plain-sum : (t : Interval) → IsInRange t → has_all_signs t.months t.days t.microseconds ≡ false → SumsTo (plain_counts t.months t.days t.microseconds) t
+plain-sum : (t : Interval) → IsInRange t → has_all_signs t.months t.days t.microseconds ≡ false
+    → SumsTo (plain_counts t.months t.days t.microseconds) t
 plain-sum t range one =
     cond_both (not (int_eq t.months (pos 0))) _ _ (λ counts. SumsTo counts t)
     (λ some.

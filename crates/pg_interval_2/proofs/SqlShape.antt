@@ -18,7 +18,8 @@ use Rattle.pg_interval_2.proofs.SqlSolid.{IsSolid, solid, seconds_clear}
 
 -- ---- the words that stand in front
 
-body_solid : (default : Bool) (sign body : List ℕ) (word : SqlWord) → IsSignOr default (negative_of word) sign → IsBody word body → IsSolid (sign ++ body)
+body_solid : (default : Bool) (sign body : List ℕ) (word : SqlWord) → IsSignOr default (negative_of word) sign → IsBody word body
+    → IsSolid (sign ++ body)
 body_solid default sign body (YearMonth negative years months) signed is =
     subst (λ (l : List ℕ). IsSolid (sign ++ l)) (sym is.2) (solid default negative sign years (codes "-" ++ months) signed is.0 (refl, digits_no_blanks months is.1.1))
 body_solid default sign body (Days negative days) signed is = subst (λ (l : List ℕ). IsSolid (sign ++ l)) (sym is.1) (solid default negative sign days [] signed is.0 tt)
@@ -27,12 +28,15 @@ body_solid default sign body (Time negative hours minutes seconds) signed is =
     subst (λ (l : List ℕ). IsSolid (sign ++ l)) (sym behind.2)
     (solid default negative sign hours (codes ":" ++ (minutes ++ behind.0)) signed is.0 (refl, no_blanks-append minutes behind.0 (digits_no_blanks minutes is.1.1) (seconds_clear negative behind.0 _ behind.1)))
 
-words_are : (default : Bool) (bytes : List ℕ) (r : SqlWord × List ℕ) (h : StandsWord default bytes r) → words bytes ≡ (h.sign ++ h.body) ∷ words r.1
+words_are : (default : Bool) (bytes : List ℕ) (r : SqlWord × List ℕ) (h : StandsWord default bytes r)
+    → words bytes ≡ (h.sign ++ h.body) ∷ words r.1
 words_are default bytes r h =
     let clear = body_solid default h.sign h.body r.0 h.signed h.is in
     ap words h.split ∙ words_in_front (h.sign ++ h.body) h.after clear.0 clear.1 h.ends ∙ ap (λ (ws : List (List ℕ)). (h.sign ++ h.body) ∷ ws) (sym (words-after_blanks h.after) ∙ ap words h.behind)
 
-is_year_month : (bytes rest : List ℕ) (negative : Bool) (years months : List ℕ) (h : StandsWord false bytes (YearMonth negative years months, rest)) → IsYearMonth (h.sign ++ h.body) (word_counts (YearMonth negative years months))
+is_year_month :
+    (bytes rest : List ℕ) (negative : Bool) (years months : List ℕ) (h : StandsWord false bytes (YearMonth negative years months, rest))
+    → IsYearMonth (h.sign ++ h.body) (word_counts (YearMonth negative years months))
 is_year_month bytes rest negative years months h = record {
   negative = negative;
   sign = h.sign;
@@ -45,7 +49,8 @@ is_year_month bytes rest negative years months h = record {
   counted = refl;
 }
 
-are_days : (bytes rest : List ℕ) (negative : Bool) (days : List ℕ) (h : StandsWord false bytes (Days negative days, rest)) → IsDays negative (h.sign ++ h.body) (word_counts (Days negative days))
+are_days : (bytes rest : List ℕ) (negative : Bool) (days : List ℕ) (h : StandsWord false bytes (Days negative days, rest))
+    → IsDays negative (h.sign ++ h.body) (word_counts (Days negative days))
 are_days bytes rest negative days h = record {
   sign = h.sign;
   days = days;
@@ -55,7 +60,9 @@ are_days bytes rest negative days h = record {
   counted = refl;
 }
 
-is_time : (default : Bool) (bytes rest : List ℕ) (negative : Bool) (hours minutes : List ℕ) (seconds : Option (List ℕ × List ℕ)) (h : StandsWord default bytes (Time negative hours minutes seconds, rest))
+is_time :
+    (default : Bool) (bytes rest : List ℕ) (negative : Bool) (hours minutes : List ℕ) (seconds : Option (List ℕ × List ℕ))
+    (h : StandsWord default bytes (Time negative hours minutes seconds, rest))
     → IsTime default (h.sign ++ h.body) (word_counts (Time negative hours minutes seconds))
 is_time default bytes rest negative hours minutes seconds h =
     let behind = h.is.2 in
@@ -84,7 +91,9 @@ pub record TimeEnds (default : Bool) (bytes : List ℕ) (before counts : List Co
   pub time : IsTime default word time_counts
   pub counted : counts ≡ before ++ time_counts
 
-last_ends : (default : Bool) (bytes : List ℕ) (before counts : List Count) (r : SqlWord × List ℕ) → StandsWord default bytes r → last_time before r ≡ Some counts → TimeEnds default bytes before counts
+last_ends : (default : Bool) (bytes : List ℕ) (before counts : List Count) (r : SqlWord × List ℕ) → StandsWord default bytes r
+    → last_time before r ≡ Some counts
+    → TimeEnds default bytes before counts
 last_ends default bytes before counts (YearMonth negative years months, rest) h e = cc
 last_ends default bytes before counts (Days negative days, rest) h e = cc
 last_ends default bytes before counts (Time negative hours minutes seconds, b ∷ rest) h e = cc
@@ -96,16 +105,22 @@ last_ends default bytes before counts (Time negative hours minutes seconds, []) 
   counted = sym (same_Some _ _ e);
 }
 
-time_ends : (default : Bool) (bytes : List ℕ) (before counts : List Count) → option_and_then (last_time before) (read_word default bytes) ≡ Some counts → TimeEnds default bytes before counts
+time_ends : (default : Bool) (bytes : List ℕ) (before counts : List Count)
+    → option_and_then (last_time before) (read_word default bytes) ≡ Some counts
+    → TimeEnds default bytes before counts
 time_ends default bytes before counts h =
     option_and_then_some (last_time before) (read_word default bytes) counts h (λ r read last. last_ends default bytes before counts r (word_stands default bytes r read) last)
 
-by_words : (text : List ℕ) (all : List (List ℕ)) (counts : List Count) → words (after_blanks text) ≡ all → AreSqlWords all counts → IsSql text counts
+by_words : (text : List ℕ) (all : List (List ℕ)) (counts : List Count) → words (after_blanks text) ≡ all → AreSqlWords all counts
+    → IsSql text counts
 by_words text all counts h are = inr (subst (λ (ws : List (List ℕ)). AreSqlWords ws counts) (sym (sym (words-after_blanks text) ∙ h)) are)
 
 -- days and a time stand behind a year-month
-date_and_days : (text : List ℕ) (b : ℕ) (rest : List ℕ) (negative : Bool) (years months : List ℕ) (counts : List Count) (h : StandsWord false (after_blanks text) (YearMonth negative years months, b ∷ rest)) (r : SqlWord × List ℕ)
-    → StandsWord false (b ∷ rest) r → days_and_time (word_counts (YearMonth negative years months)) r ≡ Some counts → IsSql text counts
+date_and_days :
+    (text : List ℕ) (b : ℕ) (rest : List ℕ) (negative : Bool) (years months : List ℕ) (counts : List Count)
+    (h : StandsWord false (after_blanks text) (YearMonth negative years months, b ∷ rest)) (r : SqlWord × List ℕ)
+    → StandsWord false (b ∷ rest) r → days_and_time (word_counts (YearMonth negative years months)) r ≡ Some counts
+    → IsSql text counts
 date_and_days text b rest negative years months counts h (YearMonth n y m, last) then e = cc
 date_and_days text b rest negative years months counts h (Time n hours minutes seconds, last) then e = cc
 date_and_days text b rest negative years months counts h (Days n days, last) then e =
@@ -127,7 +142,8 @@ date_and_days text b rest negative years months counts h (Days n days, last) the
 
 -- ---- zero
 
-one_byte : (blanks sign days after : List ℕ) → 0 < length days → length (blanks ++ ((sign ++ (days ++ [])) ++ after)) ≡ 1 → (d : ℕ) × (days ≡ d ∷ []) × (blanks ++ ((sign ++ (days ++ [])) ++ after) ≡ d ∷ [])
+one_byte : (blanks sign days after : List ℕ) → 0 < length days → length (blanks ++ ((sign ++ (days ++ [])) ++ after)) ≡ 1
+    → (d : ℕ) × (days ≡ d ∷ []) × (blanks ++ ((sign ++ (days ++ [])) ++ after) ≡ d ∷ [])
 one_byte [] [] (d ∷ []) [] some h = (d, refl, refl)
 one_byte [] [] (d ∷ []) (c ∷ after) some h = absurd (omega arith)
 one_byte [] [] (d ∷ e ∷ days) after some h = absurd (omega arith)
@@ -139,7 +155,9 @@ one_byte (c ∷ blanks) sign days after some h =
 zero_digit : (d : ℕ) → AreDigits (d ∷ []) → number_of (d ∷ []) ≡ 0 → d ≡ 48
 zero_digit d digits none = omega (arith, digit_is_alone d digits.0)
 
-zero_shape : (text : List ℕ) (negative : Bool) (days : List ℕ) (counts : List Count) → StandsWord false (after_blanks text) (Days negative days, []) → behind_days text negative days [] ≡ Some counts → IsSql text counts
+zero_shape : (text : List ℕ) (negative : Bool) (days : List ℕ) (counts : List Count)
+    → StandsWord false (after_blanks text) (Days negative days, []) → behind_days text negative days [] ≡ Some counts
+    → IsSql text counts
 unfolding behind_days
 zero_shape text negative days counts h e =
     let found = cond_some _ _ _ e in
@@ -156,8 +174,10 @@ zero_shape text negative days counts h e =
 
 -- ---- the whole text
 
-date_found : (text : List ℕ) (counts : List Count) (negative : Bool) (years months rest : List ℕ) → StandsWord false (after_blanks text) (YearMonth negative years months, rest)
-    → behind_date (word_counts (YearMonth negative years months)) rest ≡ Some counts → IsSql text counts
+date_found : (text : List ℕ) (counts : List Count) (negative : Bool) (years months rest : List ℕ)
+    → StandsWord false (after_blanks text) (YearMonth negative years months, rest)
+    → behind_date (word_counts (YearMonth negative years months)) rest ≡ Some counts
+    → IsSql text counts
 unfolding behind_date
 date_found text counts negative years months [] h e =
     by_words text ((h.sign ++ h.body) ∷ []) counts (words_are false (after_blanks text) (YearMonth negative years months, []) h)
@@ -165,7 +185,9 @@ date_found text counts negative years months [] h e =
 date_found text counts negative years months (b ∷ rest) h e =
     option_and_then_some _ (read_word false (b ∷ rest)) counts e (λ r read then. date_and_days text b rest negative years months counts h r (word_stands false (b ∷ rest) r read) then)
 
-days_found : (text : List ℕ) (counts : List Count) (negative : Bool) (days rest : List ℕ) → StandsWord false (after_blanks text) (Days negative days, rest) → behind_days text negative days rest ≡ Some counts → IsSql text counts
+days_found : (text : List ℕ) (counts : List Count) (negative : Bool) (days rest : List ℕ)
+    → StandsWord false (after_blanks text) (Days negative days, rest) → behind_days text negative days rest ≡ Some counts
+    → IsSql text counts
 unfolding behind_days
 days_found text counts negative days [] h e = zero_shape text negative days counts h e
 days_found text counts negative days (b ∷ rest) h e =
@@ -181,7 +203,9 @@ days_found text counts negative days (b ∷ rest) h e =
       counted = ends.counted;
     })
 
-words_found : (text : List ℕ) (counts : List Count) (r : SqlWord × List ℕ) → StandsWord false (after_blanks text) r → read_words text r ≡ Some counts → IsSql text counts
+words_found : (text : List ℕ) (counts : List Count) (r : SqlWord × List ℕ) → StandsWord false (after_blanks text) r
+    → read_words text r ≡ Some counts
+    → IsSql text counts
 words_found text counts (YearMonth negative years months, rest) h e = date_found text counts negative years months rest h e
 words_found text counts (Days negative days, rest) h e = days_found text counts negative days rest h e
 words_found text counts (Time negative hours minutes seconds, rest) h e =

@@ -17,7 +17,8 @@ sign_clear default false sign (inl plus) = rw plus (refl, tt)
 sign_clear default false sign (inr none) = rw none.0 tt
 
 -- a sign, digits and what follows them
-pub solid : (default negative : Bool) (sign field tail : List ℕ) → IsSignOr default negative sign → IsField field → NoBlanks tail → IsSolid (sign ++ (field ++ tail))
+pub solid : (default negative : Bool) (sign field tail : List ℕ) → IsSignOr default negative sign → IsField field → NoBlanks tail
+    → IsSolid (sign ++ (field ++ tail))
 solid default negative sign field tail signed digits clear =
     let some = digits.0 in
     (omega (arith, some, length-append sign (field ++ tail), length-append field tail), no_blanks-append sign (field ++ tail) (sign_clear default negative sign signed) (no_blanks-append field tail (digits_no_blanks field digits.1) clear))

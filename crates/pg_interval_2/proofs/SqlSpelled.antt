@@ -43,7 +43,8 @@ decimal_field n small = (decimal_nonempty n small, digits_decimal n small)
 abbrev pub year_month_counts : Bool → ℤ → List Count
 year_month_counts negative months = count_of negative (decimal (years_of months)) [] Year ∷ count_of negative (decimal (months_of months)) [] Month ∷ []
 
-year_month_is : (negative : Bool) (sign : List ℕ) (months : ℤ) → IsSignOr false negative sign → unsigned_abs months ≤ 2 ^ 63 → IsYearMonth (sign ++ year_month_text months) (year_month_counts negative months)
+year_month_is : (negative : Bool) (sign : List ℕ) (months : ℤ) → IsSignOr false negative sign → unsigned_abs months ≤ 2 ^ 63
+    → IsYearMonth (sign ++ year_month_text months) (year_month_counts negative months)
 unfolding year_month_text
 year_month_is negative sign months signed small = record {
   negative = negative;
@@ -60,7 +61,8 @@ year_month_is negative sign months signed small = record {
 abbrev pub day_counts : Bool → ℤ → List Count
 day_counts negative days = count_of negative (decimal (unsigned_abs days)) [] Day ∷ []
 
-days_are : (negative : Bool) (sign : List ℕ) (days : ℤ) → IsSignOr false negative sign → unsigned_abs days ≤ 2 ^ 63 → IsDays negative (sign ++ decimal (unsigned_abs days)) (day_counts negative days)
+days_are : (negative : Bool) (sign : List ℕ) (days : ℤ) → IsSignOr false negative sign → unsigned_abs days ≤ 2 ^ 63
+    → IsDays negative (sign ++ decimal (unsigned_abs days)) (day_counts negative days)
 days_are negative sign days signed small = record {
   sign = sign;
   days = decimal (unsigned_abs days);
@@ -74,7 +76,8 @@ short_micros : (micros : ℕ) → micros < 1_000_000 → length (micros_digits m
 short_micros micros below =
     cond_both (micros == 0) _ _ (λ (digits : List ℕ). length digits ≤ 6) (λ _. omega arith) (λ _. omega (arith, length-padded 6 micros, length_decimal_micros micros below))
 
-time_is : (default negative : Bool) (sign : List ℕ) (micros : ℤ) → IsSignOr default negative sign → unsigned_abs micros ≤ 2 ^ 63 → IsTime default (sign ++ clock_text 1 micros) (three_counts negative 1 micros)
+time_is : (default negative : Bool) (sign : List ℕ) (micros : ℤ) → IsSignOr default negative sign → unsigned_abs micros ≤ 2 ^ 63
+    → IsTime default (sign ++ clock_text 1 micros) (three_counts negative 1 micros)
 unfolding clock_text hours_text field_text
 time_is default negative sign micros signed small = record {
   negative = negative;
@@ -107,7 +110,8 @@ spelled_by : (all : List (List ℕ)) (counts : List Count) → AreWords all → 
 spelled_by all counts solid are = inr (subst (λ (ws : List (List ℕ)). AreSqlWords ws counts) (sym (words-join all solid)) are)
 
 signed_spelled : (months days micros : ℤ) → unsigned_abs months ≤ 2 ^ 63 → unsigned_abs days ≤ 2 ^ 63 → unsigned_abs micros ≤ 2 ^ 63
-    → IsSql (signed_text months days micros) (year_month_counts (is_negative months) months ++ (day_counts (is_negative days) days ++ three_counts (is_negative micros) 1 micros))
+    → IsSql (signed_text months days micros)
+    (year_month_counts (is_negative months) months ++ (day_counts (is_negative days) days ++ three_counts (is_negative micros) 1 micros))
 unfolding signed_text
 signed_spelled months days micros small_months small_days small_micros =
     let date = year_month_is (is_negative months) (minus_or_plus (is_negative months)) months (any_sign (is_negative months)) small_months in
@@ -136,7 +140,8 @@ months_spelled months small =
     let solid_date = year_month_solid _ _ date in
     spelled_by ((minus (is_negative months) ++ year_month_text months) ∷ []) _ (solid_date.0, solid_date.1, tt) (inl date)
 
-days_spelled : (days micros : ℤ) → unsigned_abs days ≤ 2 ^ 63 → unsigned_abs micros ≤ 2 ^ 63 → IsSql (days_text days micros) (day_counts (is_negative days) days ++ three_counts (is_negative days) 1 micros)
+days_spelled : (days micros : ℤ) → unsigned_abs days ≤ 2 ^ 63 → unsigned_abs micros ≤ 2 ^ 63
+    → IsSql (days_text days micros) (day_counts (is_negative days) days ++ three_counts (is_negative days) 1 micros)
 unfolding days_text
 days_spelled days micros small_days small_micros =
     let day = days_are (is_negative days) (minus (is_negative days)) days (minus_alone (is_negative days)) small_days in
@@ -169,14 +174,16 @@ abbrev pub sql_counts : ℤ → ℤ → ℤ → List Count
 sql_counts months days micros =
     if int_eq months (pos 0) && (int_eq days (pos 0) && int_eq micros (pos 0)) then [] else if has_all_signs months days micros then (year_month_counts (is_negative months) months ++ (day_counts (is_negative days) days ++ three_counts (is_negative micros) 1 micros)) else plain_counts months days micros
 
-plain_spelled : (months days micros : ℤ) → unsigned_abs months ≤ 2 ^ 63 → unsigned_abs days ≤ 2 ^ 63 → unsigned_abs micros ≤ 2 ^ 63 → IsSql (plain_text months days micros) (plain_counts months days micros)
+plain_spelled : (months days micros : ℤ) → unsigned_abs months ≤ 2 ^ 63 → unsigned_abs days ≤ 2 ^ 63 → unsigned_abs micros ≤ 2 ^ 63
+    → IsSql (plain_text months days micros) (plain_counts months days micros)
 unfolding plain_text
 plain_spelled months days micros small_months small_days small_micros =
     cond_two (not (int_eq months (pos 0))) IsSql _ _ _ _ (λ _. months_spelled months small_months) (λ _.
     cond_two (not (int_eq days (pos 0))) IsSql _ _ _ _ (λ _. days_spelled days micros small_days small_micros) (λ _. time_spelled micros small_micros))
 
 -- the written text spells these counts
-pub sql_spelled : (months days micros : ℤ) → unsigned_abs months ≤ 2 ^ 63 → unsigned_abs days ≤ 2 ^ 63 → unsigned_abs micros ≤ 2 ^ 63 → IsSql (sql_text months days micros) (sql_counts months days micros)
+pub sql_spelled : (months days micros : ℤ) → unsigned_abs months ≤ 2 ^ 63 → unsigned_abs days ≤ 2 ^ 63 → unsigned_abs micros ≤ 2 ^ 63
+    → IsSql (sql_text months days micros) (sql_counts months days micros)
 unfolding sql_text
 sql_spelled months days micros small_months small_days small_micros =
     cond_two (int_eq months (pos 0) && (int_eq days (pos 0) && int_eq micros (pos 0))) IsSql _ _ _ _ (λ _. inl (refl, refl)) (λ _.

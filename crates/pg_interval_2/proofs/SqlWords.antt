@@ -21,7 +21,8 @@ no_sign_or : (default : Bool) (rest : List ℕ) → NoSignFirst rest → read_si
 no_sign_or default [] h = refl
 no_sign_or default (b ∷ bs) h = rw (h.0, h.1) refl
 
-sign_read : (default negative : Bool) (sign rest : List ℕ) → IsSignOr default negative sign → NoSignFirst rest → read_sign_or default (sign ++ rest) ≡ (negative, rest)
+sign_read : (default negative : Bool) (sign rest : List ℕ) → IsSignOr default negative sign → NoSignFirst rest
+    → read_sign_or default (sign ++ rest) ≡ (negative, rest)
 sign_read default true sign rest (inl minus) n = rw minus refl
 sign_read default true sign rest (inr none) n = rw (none.0, none.1) (no_sign_or true rest n)
 sign_read default false sign rest (inl plus) n = rw plus refl
@@ -49,11 +50,13 @@ word_ends rest word ends = let ended = ends_test rest ends in rw ended refl
 
 -- ---- a year-month
 
-months_read : (negative : Bool) (years months rest : List ℕ) → IsField months → EndsWord rest → read_months negative years (months ++ rest) ≡ Some (YearMonth negative years months, rest)
+months_read : (negative : Bool) (years months rest : List ℕ) → IsField months → EndsWord rest
+    → read_months negative years (months ++ rest) ≡ Some (YearMonth negative years months, rest)
 unfolding read_months
 months_read negative years months rest field ends = let found = field_read months rest field (end_closes rest ends).digit in rw found refl
 
-pub year_month_read : (word rest : List ℕ) (counts : List Count) (h : IsYearMonth word counts) → EndsWord rest → read_word false (word ++ rest) ≡ Some (YearMonth h.negative h.years h.months, after_blanks rest)
+pub year_month_read : (word rest : List ℕ) (counts : List Count) (h : IsYearMonth word counts) → EndsWord rest
+    → read_word false (word ++ rest) ≡ Some (YearMonth h.negative h.years h.months, after_blanks rest)
 year_month_read word rest counts h ends =
     let split : word ++ rest ≡ h.sign ++ (h.years ++ (codes "-" ++ (h.months ++ rest))) =
     ap (λ (l : List ℕ). l ++ rest) h.joined ∙ append_assoc h.sign (h.years ++ (codes "-" ++ h.months)) rest ∙ ap (λ (l : List ℕ). h.sign ++ l) (append_assoc h.years (codes "-" ++ h.months) rest) in
@@ -70,7 +73,8 @@ end_is_days : (negative : Bool) (days rest : List ℕ) → EndsWord rest → rea
 end_is_days negative days [] ends = refl
 end_is_days negative days (b ∷ bs) ends = let other = blank_is_neither b ends in rw (other.0, other.1) refl
 
-pub days_read : (negative : Bool) (word rest : List ℕ) (counts : List Count) (h : IsDays negative word counts) → EndsWord rest → read_word false (word ++ rest) ≡ Some (Days negative h.days, after_blanks rest)
+pub days_read : (negative : Bool) (word rest : List ℕ) (counts : List Count) (h : IsDays negative word counts) → EndsWord rest
+    → read_word false (word ++ rest) ≡ Some (Days negative h.days, after_blanks rest)
 days_read negative word rest counts h ends =
     let split : word ++ rest ≡ h.sign ++ (h.days ++ rest) = ap (λ (l : List ℕ). l ++ rest) h.joined ∙ append_assoc h.sign h.days rest in
     let first = word_read false negative h.sign h.days rest h.signed h.day_field (end_closes rest ends).digit in
@@ -90,7 +94,8 @@ no_seconds : (rest : List ℕ) → EndsWord rest → read_perhaps_seconds rest �
 no_seconds [] ends = refl
 no_seconds (b ∷ bs) ends = let other = (blank_is_no b ends).2 in rw other refl
 
-seconds_behind : (seconds fraction tail rest : List ℕ) → IsField seconds → IsFraction fraction tail → length fraction ≤ 6 → EndsWord rest → read_seconds (seconds ++ (tail ++ rest)) ≡ Some ((seconds, fraction), rest)
+seconds_behind : (seconds fraction tail rest : List ℕ) → IsField seconds → IsFraction fraction tail → length fraction ≤ 6 → EndsWord rest
+    → read_seconds (seconds ++ (tail ++ rest)) ≡ Some ((seconds, fraction), rest)
 unfolding read_seconds
 seconds_behind seconds fraction tail rest digits point few ends =
     let closes = end_closes rest ends in
@@ -99,7 +104,8 @@ seconds_behind seconds fraction tail rest digits point few ends =
     let short : nat_le (length fraction) 6 ≡ true = grind (arith, nat_tests) in
     rw (field, behind, short) refl
 
-seconds_read : (negative : Bool) (piece rest : List ℕ) (counts : List Count) → HasSeconds negative piece counts → EndsWord rest → ReadsSeconds negative piece rest counts
+seconds_read : (negative : Bool) (piece rest : List ℕ) (counts : List Count) → HasSeconds negative piece counts → EndsWord rest
+    → ReadsSeconds negative piece rest counts
 seconds_read negative piece rest counts (inl none) ends =
     let empty = none.0 in
     record { seconds = None; read = rw empty (no_seconds rest ends); counted = none.1; no_digit = rw empty (end_closes rest ends).digit }
@@ -123,12 +129,14 @@ pub record ReadsTime (default : Bool) (word rest : List ℕ) (counts : List Coun
   pub read : read_word default (word ++ rest) ≡ Some (Time negative hours minutes seconds, after_blanks rest)
   pub counted : counts ≡ word_counts (Time negative hours minutes seconds)
 
-minutes_read : (negative : Bool) (hours minutes piece rest : List ℕ) (seconds : Option (List ℕ × List ℕ)) → IsField minutes → NoDigitFirst (piece ++ rest) → read_perhaps_seconds (piece ++ rest) ≡ Some (seconds, rest)
+minutes_read : (negative : Bool) (hours minutes piece rest : List ℕ) (seconds : Option (List ℕ × List ℕ)) → IsField minutes
+    → NoDigitFirst (piece ++ rest) → read_perhaps_seconds (piece ++ rest) ≡ Some (seconds, rest)
     → read_time negative hours (minutes ++ (piece ++ rest)) ≡ Some (Time negative hours minutes seconds, rest)
 unfolding read_time
 minutes_read negative hours minutes piece rest seconds field n read = let found = field_read minutes (piece ++ rest) field n in rw (found, read) refl
 
-pub time_read : (default : Bool) (word rest : List ℕ) (counts : List Count) → IsTime default word counts → EndsWord rest → ReadsTime default word rest counts
+pub time_read : (default : Bool) (word rest : List ℕ) (counts : List Count) → IsTime default word counts → EndsWord rest
+    → ReadsTime default word rest counts
 time_read default word rest counts h ends =
     let seconds = seconds_read h.negative h.piece rest h.second_counts h.seconds ends in
     let split : word ++ rest ≡ h.sign ++ (h.hours ++ (codes ":" ++ (h.minutes ++ (h.piece ++ rest)))) =

@@ -37,14 +37,17 @@ SumsTo-nil t months days micros = record {
   micros = AddsUp-same Micros [] (pos 0) _ (AddsUp-nil Micros) (sym micros);
 }
 
-pub SumsTo-append : (xs ys : List Count) (t u v : Interval) → SumsTo xs t → SumsTo ys u → t.months +ℤ u.months ≡ v.months → t.days +ℤ u.days ≡ v.days → t.microseconds +ℤ u.microseconds ≡ v.microseconds → SumsTo (xs ++ ys) v
+pub SumsTo-append : (xs ys : List Count) (t u v : Interval) → SumsTo xs t → SumsTo ys u → t.months +ℤ u.months ≡ v.months
+    → t.days +ℤ u.days ≡ v.days → t.microseconds +ℤ u.microseconds ≡ v.microseconds
+    → SumsTo (xs ++ ys) v
 SumsTo-append xs ys t u v first second months days micros = record {
   months = AddsUp-same Months _ _ _ (AddsUp-append Months xs ys _ _ first.months second.months) months;
   days = AddsUp-same Days _ _ _ (AddsUp-append Days xs ys _ _ first.days second.days) days;
   micros = AddsUp-same Micros _ _ _ (AddsUp-append Micros xs ys _ _ first.micros second.micros) micros;
 }
 
-pub SumsTo-date_time : (dates times : List Count) (t : Interval) → SumsTo dates (date_of t) → SumsTo times (time_of t) → SumsTo (dates ++ times) t
+pub SumsTo-date_time : (dates times : List Count) (t : Interval) → SumsTo dates (date_of t) → SumsTo times (time_of t)
+    → SumsTo (dates ++ times) t
 SumsTo-date_time dates times t date time = SumsTo-append dates times (date_of t) (time_of t) t date time (omega (arith, ints)) (omega (arith, ints)) (omega (arith, ints))
 
 pub sum_of-SumsTo : (counts : List Count) (t : Interval) → SumsTo counts t → t ≡ sum_of counts
@@ -56,11 +59,15 @@ fits-SumsTo counts t range sums =
     (and_from _ _ (part_fits-AddsUp Days counts t.days sums.days (fits_32 t.days range.days))
     (part_fits-AddsUp Micros counts t.microseconds sums.micros (fits_64 t.microseconds range.microseconds)))
 
-pub Denotes-SumsTo : (Shape : List ℕ → List Count → Type 0) (text : List ℕ) (counts : List Count) (t : Interval) → IsInRange t → Shape text counts → SumsTo counts t → Denotes Shape text t
+pub Denotes-SumsTo : (Shape : List ℕ → List Count → Type 0) (text : List ℕ) (counts : List Count) (t : Interval) → IsInRange t
+    → Shape text counts → SumsTo counts t
+    → Denotes Shape text t
 Denotes-SumsTo Shape text counts t range spelled sums = (counts, spelled, fits-SumsTo counts t range sums, sum_of-SumsTo counts t sums)
 
 -- where the text spells no other counts, it denotes no other interval
-pub alone-SumsTo : (Shape : List ℕ → List Count → Type 0) (text : List ℕ) (counts : List Count) (t u : Interval) → ((others : List Count) → Shape text others → others ≡ counts) → SumsTo counts t → Denotes Shape text u → u ≡ t
+pub alone-SumsTo : (Shape : List ℕ → List Count → Type 0) (text : List ℕ) (counts : List Count) (t u : Interval)
+    → ((others : List Count) → Shape text others → others ≡ counts) → SumsTo counts t → Denotes Shape text u
+    → u ≡ t
 alone-SumsTo Shape text counts t u one sums denotes =
     let same : denotes.0 ≡ counts = one denotes.0 denotes.1 in
     denotes.3 ∙ rw same (sym (sum_of-SumsTo counts t sums))

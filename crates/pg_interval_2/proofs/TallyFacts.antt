@@ -18,7 +18,8 @@ use Rattle.scan_core.proofs.Signs.{signed-zero, fits_type-signed_zero}
 use Rattle.pg_interval_2.specs.declared.tally.Tally.{Tally}
 use Rattle.pg_interval_2.specs.inside.Tallies.{Tallies, each_fits, marked}
 
-each_fits_push : (part : Part) (counts : List Count) (c : Count) → each_fits part (counts ++ c ∷ []) ≡ (each_fits part counts && fits_type part (share part c))
+each_fits_push : (part : Part) (counts : List Count) (c : Count)
+    → each_fits part (counts ++ c ∷ []) ≡ (each_fits part counts && fits_type part (share part c))
 each_fits_push part counts c = list_all-append _ counts (c ∷ []) ∙ ap (λ (b : Bool). each_fits part counts && b) (and-true (fits_type part (share part c)))
 
 -- the new tally is the old one with a share that fits
@@ -31,11 +32,13 @@ pub record AddsShare (old new : Tally) (c : Count) : Type 0 where
   pub micros : new.totals.micros ≡ old.totals.micros +ℤ share Micros c
 
 -- one more share that fits, at the end, changes nothing of whether each does
-still_fits : (part : Part) (counts : List Count) (c : Count) → fits_type part (share part c) ≡ true → each_fits part (counts ++ c ∷ []) ≡ each_fits part counts
+still_fits : (part : Part) (counts : List Count) (c : Count) → fits_type part (share part c) ≡ true
+    → each_fits part (counts ++ c ∷ []) ≡ each_fits part counts
 still_fits part counts c fits = each_fits_push part counts c ∙ (rw fits (and-true (each_fits part counts)))
 
-pub tally_share : (old new : Tally) (counts : List Count) (c : Count) → AreDigits c.fraction → fits_type (main_part c.unit) (share (main_part c.unit) c) ≡ true
-    → AddsShare old new c → Tallies old counts → Tallies new (counts ++ c ∷ [])
+pub tally_share : (old new : Tally) (counts : List Count) (c : Count) → AreDigits c.fraction
+    → fits_type (main_part c.unit) (share (main_part c.unit) c) ≡ true → AddsShare old new c → Tallies old counts
+    → Tallies new (counts ++ c ∷ [])
 tally_share old new counts c digits fits adds h =
     let months = still_fits Months counts c (each_part_fits Months c digits fits) in
     let days = still_fits Days counts c (each_part_fits Days c digits fits) in
@@ -53,14 +56,16 @@ pub off_unless : (x : Bool) → (x ≡ true → false ≡ true) → x ≡ false
 off_unless true h = sym (h refl)
 off_unless false h = refl
 
-no_more_fits : (part : Part) (counts : List Count) (c : Count) → fits_type part (share part c) ≡ false → each_fits part (counts ++ c ∷ []) ≡ false
+no_more_fits : (part : Part) (counts : List Count) (c : Count) → fits_type part (share part c) ≡ false
+    → each_fits part (counts ++ c ∷ []) ≡ false
 no_more_fits part counts c out = each_fits_push part counts c ∙ (rw out (and-false (each_fits part counts)))
 
 -- a sum with a share of 0
 same_total : (part : Part) (counts : List Count) (c : Count) → share part c ≡ pos 0 → total part counts ≡ total part (counts ++ c ∷ [])
 same_total part counts c zero = let push = total_push part counts c in omega (arith, ints)
 
-mark_months : (tally : Tally) (counts : List Count) (c : Count) → fits_type Months (share Months c) ≡ false → Tallies tally counts → Tallies (marked Months tally) (counts ++ c ∷ [])
+mark_months : (tally : Tally) (counts : List Count) (c : Count) → fits_type Months (share Months c) ≡ false → Tallies tally counts
+    → Tallies (marked Months tally) (counts ++ c ∷ [])
 mark_months tally counts c out h =
     let off = no_more_fits Months counts c out in
     record {
@@ -72,8 +77,9 @@ mark_months tally counts c out h =
       micro_sum = λ m. absurd (both_ways _ off m);
     }
 
-mark_days : (tally : Tally) (counts : List Count) (c : Count) → fits_type Months (share Months c) ≡ true → share Months c ≡ pos 0 → fits_type Days (share Days c) ≡ false
-    → Tallies tally counts → Tallies (marked Days tally) (counts ++ c ∷ [])
+mark_days : (tally : Tally) (counts : List Count) (c : Count) → fits_type Months (share Months c) ≡ true → share Months c ≡ pos 0
+    → fits_type Days (share Days c) ≡ false → Tallies tally counts
+    → Tallies (marked Days tally) (counts ++ c ∷ [])
 mark_days tally counts c fits zero out h =
     let months = still_fits Months counts c fits in
     let off = no_more_fits Days counts c out in

@@ -37,7 +37,9 @@ some_blanks t b bs more h solid =
     let clash : true ≡ false = sym solid ∙ none in cc
 
 -- a text without blanks at its end is known from itself with blanks behind it
-same_solid : (t u : Bool) (x y r s : List ℕ) → AreBlanks r → AreBlanks s → solid_behind t x ≡ true → solid_behind u y ≡ true → x ++ r ≡ y ++ s → x ≡ y
+same_solid : (t u : Bool) (x y r s : List ℕ) → AreBlanks r → AreBlanks s → solid_behind t x ≡ true → solid_behind u y ≡ true
+    → x ++ r ≡ y ++ s
+    → x ≡ y
 same_solid t u [] [] r s h k hx hy e = refl
 same_solid t u [] (y ∷ ys) r s h k hx hy e = absurd (some_blanks u y ys s (ap (list_all is_blank) (sym e) ∙ h) hy)
 same_solid t u (x ∷ xs) [] r s h k hx hy e = absurd (some_blanks t x xs r (ap (list_all is_blank) e ∙ k) hx)
@@ -48,7 +50,8 @@ same_solid t u (x ∷ xs) (y ∷ ys) r s h k hx hy e =
 
 -- ---- the places before the end
 
-pub solid_byte : (text : List ℕ) (last b : ℕ) → is_blank b ≡ false → take last text ≡ take (last - 1) text ++ b ∷ [] → ends_solid (take last text) ≡ true
+pub solid_byte : (text : List ℕ) (last b : ℕ) → is_blank b ≡ false → take last text ≡ take (last - 1) text ++ b ∷ []
+    → ends_solid (take last text) ≡ true
 solid_byte text last b solid before = ap ends_solid before ∙ solid-append true (take (last - 1) text) (b ∷ []) ∙ rw solid refl
 
 -- ---- `ago`
@@ -57,7 +60,8 @@ solid_byte text last b solid before = ap ends_solid before ∙ solid-append true
 abbrev pub Lacks : List ℕ → List ℕ → Type 0
 Lacks bytes end = (front : List ℕ) → bytes ≡ front ++ end → ⊥
 
-pub no_a : (bytes before first : List ℕ) → bytes ≡ before ++ 111 ∷ [] → before ≡ first ++ 103 ∷ [] → Lacks first (97 ∷ []) → Lacks bytes (codes "ago")
+pub no_a : (bytes before first : List ℕ) → bytes ≡ before ++ 111 ∷ [] → before ≡ first ++ 103 ∷ [] → Lacks first (97 ∷ [])
+    → Lacks bytes (codes "ago")
 no_a bytes before first o g lacks front e =
     let less = append_cancel_right before (front ++ (97 ∷ 103 ∷ [])) (111 ∷ []) (sym o ∙ e ∙ sym (append_assoc front (97 ∷ 103 ∷ []) (111 ∷ []))) in
     let least = append_cancel_right first (front ++ (97 ∷ [])) (103 ∷ []) (sym g ∙ less ∙ sym (append_assoc front (97 ∷ []) (103 ∷ []))) in
@@ -69,13 +73,17 @@ ends_ago : (front : List ℕ) → ends_solid (front ++ codes "ago") ≡ true
 ends_ago front = solid-append true front (codes "ago")
 
 -- no `ago` is at the end of a text whose last byte that isn't blank ends none
-pub none_at_end : (text : List ℕ) (last : ℕ) → AreBlanksBetween text last (length text) → ends_solid (take last text) ≡ true → Lacks (take last text) (codes "ago") → EndsInAgo text → ⊥
+pub none_at_end : (text : List ℕ) (last : ℕ) → AreBlanksBetween text last (length text) → ends_solid (take last text) ≡ true
+    → Lacks (take last text) (codes "ago") → EndsInAgo text
+    → ⊥
 none_at_end text last h solid lacks (front, after, blank, split) =
     let whole : take last text ++ h.blanks ≡ (front ++ codes "ago") ++ after =
     sym h.split ∙ take_all (length text) text (omega arith) ∙ split ∙ sym (append_assoc front (codes "ago") after) in
     lacks front (same_solid true true (take last text) (front ++ codes "ago") h.blanks after h.blank blank solid (ends_ago front) whole)
 
-pub ends_without : (text : List ℕ) (last : ℕ) → AreBlanksBetween text last (length text) → ends_solid (take last text) ≡ true → Lacks (take last text) (codes "ago") → IsEnding text last false
+pub ends_without : (text : List ℕ) (last : ℕ) → AreBlanksBetween text last (length text) → ends_solid (take last text) ≡ true
+    → Lacks (take last text) (codes "ago")
+    → IsEnding text last false
 ends_without text last h solid lacks = record {
   gap = [];
   after = h.blanks;

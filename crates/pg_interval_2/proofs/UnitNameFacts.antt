@@ -18,7 +18,8 @@ either_case : (x y : Bool) {P : Type 0} → (x || y) ≡ true → (x ≡ true �
 either_case true y h f g = f refl
 either_case false y h f g = g h
 
-one_of_names : (test : List ℕ → Bool) (names : List (List ℕ)) (word : List ℕ) → IsTrue (list_all test names) → is_one_of names word ≡ true → test word ≡ true
+one_of_names : (test : List ℕ → Bool) (names : List (List ℕ)) (word : List ℕ) → IsTrue (list_all test names) → is_one_of names word ≡ true
+    → test word ≡ true
 one_of_names test [] word all h = cc
 one_of_names test (name ∷ names) word all h =
     let split = and_parts (test name) (list_all test names) all in
@@ -26,13 +27,16 @@ one_of_names test (name ∷ names) word all h =
     (λ same. let equal : word ≡ name = (bytes_eq-Decides word name).0 same in ap test equal ∙ split.0)
     (λ below. one_of_names test names word split.1 below)
 
-pub chosen_unit : (t : Bool) (unit found : TimeUnit) (other : Option TimeUnit) {P : Type 0} → cond t (Some found) other ≡ Some unit → (t ≡ true → P) → (other ≡ Some unit → P) → P
+pub chosen_unit : (t : Bool) (unit found : TimeUnit) (other : Option TimeUnit) {P : Type 0} → cond t (Some found) other ≡ Some unit
+    → (t ≡ true → P) → (other ≡ Some unit → P)
+    → P
 chosen_unit true unit found other h f g = f refl
 chosen_unit false unit found other h f g = g h
 
 -- a test that all names of a set pass is passed by each word that names a unit
-pub named_passes : (names : Names) (test : List ℕ → Bool) → ((unit : TimeUnit) → IsTrue (list_all test (names unit))) → (word : List ℕ) (unit : TimeUnit)
-    → unit_named names word ≡ Some unit → test word ≡ true
+pub named_passes : (names : Names) (test : List ℕ → Bool) → ((unit : TimeUnit) → IsTrue (list_all test (names unit)))
+    → (word : List ℕ) (unit : TimeUnit) → unit_named names word ≡ Some unit
+    → test word ≡ true
 unfolding unit_named
 named_passes names test all word unit h =
     chosen_unit (is_one_of (names Year) word) unit Year _ h (one_of_names test (names Year) word (all Year)) (λ h.

@@ -43,7 +43,8 @@ longer xs (y ∷ ys) all more less =
     let power = pow-le-pow_right {n = 256} (omega arith) {i = length xs} {j = length ys} (omega arith) in
     omega (arith, above, below, some, power)
 
-same_packed : (m n : ℕ) (xs ys : List ℕ) → length xs ≡ length ys → AreLetters xs → AreLetters ys → packed_behind m xs ≡ packed_behind n ys → (m ≡ n) × (xs ≡ ys)
+same_packed : (m n : ℕ) (xs ys : List ℕ) → length xs ≡ length ys → AreLetters xs → AreLetters ys → packed_behind m xs ≡ packed_behind n ys
+    → (m ≡ n) × (xs ≡ ys)
 same_packed m n [] [] long all more h = (h, refl)
 same_packed m n [] (y ∷ ys) long all more h = absurd (omega arith)
 same_packed m n (x ∷ xs) [] long all more h = absurd (omega arith)
@@ -81,7 +82,8 @@ same_tests false true f g = g refl
 same_tests false false f g = refl
 
 -- a short name is told by the packed number
-named_so : (letters name : List ℕ) (value : ℕ) → AreLetters letters → is_short name ≡ true → Knows (2 ^ 56) value (packed letters) → (value == packed name) ≡ bytes_eq letters name
+named_so : (letters name : List ℕ) (value : ℕ) → AreLetters letters → is_short name ≡ true → Knows (2 ^ 56) value (packed letters)
+    → (value == packed name) ≡ bytes_eq letters name
 named_so letters name value all short (inl known) =
     let split = and_parts (list_all is_ascii_alphabetic name) (nat_lt (packed name) (2 ^ 56)) short in
     same_tests (value == packed name) (bytes_eq letters name)
@@ -94,7 +96,9 @@ named_so letters name value all short (inr great) =
     (λ h. absurd (let same = eqb-true value (packed name) h in omega (arith, great.0, small, same)))
     (λ h. absurd (let same = ap packed ((bytes_eq-Decides letters name).0 h) in omega (arith, great.1, small, same)))
 
-one_of_so : (names : List (List ℕ)) (letters : List ℕ) (value : ℕ) → AreLetters letters → list_all is_short names ≡ true → Knows (2 ^ 56) value (packed letters) → is_packed value names ≡ is_one_of names letters
+one_of_so : (names : List (List ℕ)) (letters : List ℕ) (value : ℕ) → AreLetters letters → list_all is_short names ≡ true
+    → Knows (2 ^ 56) value (packed letters)
+    → is_packed value names ≡ is_one_of names letters
 one_of_so [] letters value all short known = refl
 one_of_so (name ∷ names) letters value all short known =
     let split = and_parts (is_short name) (list_all is_short names) short in
@@ -118,7 +122,8 @@ shorts Verbose Minute = refl
 shorts Verbose Second = refl
 
 -- the unit that a word names is told by its packed number
-pub unit_so : (names : NameSet) (letters : List ℕ) (value : ℕ) → AreLetters letters → Knows (2 ^ 56) value (packed letters) → unit_packed (names_in names) value ≡ unit_named (names_in names) letters
+pub unit_so : (names : NameSet) (letters : List ℕ) (value : ℕ) → AreLetters letters → Knows (2 ^ 56) value (packed letters)
+    → unit_packed (names_in names) value ≡ unit_named (names_in names) letters
 unfolding unit_packed unit_named
 unit_so names letters value all known =
     let year = one_of_so (names_in names Year) letters value all (shorts names Year) known in

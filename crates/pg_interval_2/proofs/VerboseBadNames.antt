@@ -23,7 +23,8 @@ ends_still [] (m ∷ ms) ends blank = first_blank m ms blank
 ends_still (c ∷ cs) more ends blank = ends
 
 -- with blanks behind
-pub bad_after : (names : Names) (body more : List ℕ) (start end : ℕ) → AreBlanks more → IsBadName names body start end → IsBadName names (body ++ more) start end
+pub bad_after : (names : Names) (body more : List ℕ) (start end : ℕ) → AreBlanks more → IsBadName names body start end
+    → IsBadName names (body ++ more) start end
 bad_after names body more start end blank h = record {
   lead = h.lead;
   number = h.number;
@@ -82,12 +83,15 @@ bad_before names front body start end blank h =
 
 -- ---- whole texts
 
-whole_bad : (ago : Bool) (body after : List ℕ) (from to : ℕ) → AreBlanks after → IsBadName verbose_names body from to → IsBadName verbose_names (whole_body ago body after) from to
+whole_bad : (ago : Bool) (body after : List ℕ) (from to : ℕ) → AreBlanks after → IsBadName verbose_names body from to
+    → IsBadName verbose_names (whole_body ago body after) from to
 whole_bad true body after from to blank h = h
 whole_bad false body after from to blank h = bad_after verbose_names body after from to blank h
 
 -- the words of a bad body spell no counts
-body_at_bad : (bytes body : List ℕ) (from to : ℕ) (counts : List Count) → IsBadName verbose_names bytes from to → words bytes ≡ words body → IsBody body counts → ⊥
+body_at_bad : (bytes body : List ℕ) (from to : ℕ) (counts : List Count) → IsBadName verbose_names bytes from to → words bytes ≡ words body
+    → IsBody body counts
+    → ⊥
 body_at_bad bytes body from to counts bad same (inl zero) =
     let clash : BadLetters (total_length (words bad.lead) + length bad.number) bad.letters ≡ Unspelled =
     sym (bad_verdict verbose_names are_names bytes from to bad) ∙ ap (verdict verbose_names [] 0) (same ∙ zero.0) ∙ zero_verdict in cc

@@ -43,22 +43,27 @@ turned_if : (t turned : Bool) (c d : Count) → turned_count turned c ≡ d → 
 turned_if true turned c d same = refl
 turned_if false turned c d same = ap (λ (e : Count). e ∷ []) same
 
-turned_part : (turned negative : Bool) (n : ℕ) (unit : TimeUnit) → turned_counts turned (part_counts (turned_sign turned negative) n unit) ≡ part_counts negative n unit
+turned_part : (turned negative : Bool) (n : ℕ) (unit : TimeUnit)
+    → turned_counts turned (part_counts (turned_sign turned negative) n unit) ≡ part_counts negative n unit
 turned_part turned negative n unit = turned_if (n == 0) turned _ _ (turned_one turned negative (decimal n) [] unit)
 
-turned_choice : (t turned : Bool) (xs : List Count) (ys : List Count) (c d : Count) → turned_counts turned xs ≡ ys → turned_count turned c ≡ d
+turned_choice : (t turned : Bool) (xs : List Count) (ys : List Count) (c d : Count) → turned_counts turned xs ≡ ys
+    → turned_count turned c ≡ d
     → turned_counts turned (cond t xs (c ∷ [])) ≡ cond t ys (d ∷ [])
 turned_choice true turned xs ys c d all one = all
 turned_choice false turned xs ys c d all one = ap (λ (e : Count). e ∷ []) one
 
-turned_seconds : (turned negative : Bool) (seconds micros : ℕ) → turned_counts turned (second_counts (turned_sign turned negative) seconds micros) ≡ second_counts negative seconds micros
+turned_seconds : (turned negative : Bool) (seconds micros : ℕ)
+    → turned_counts turned (second_counts (turned_sign turned negative) seconds micros) ≡ second_counts negative seconds micros
 turned_seconds turned negative seconds micros =
     turned_choice (micros == 0) turned _ _ _ _ (turned_part turned negative seconds Second) (turned_one turned negative (decimal seconds) (micros_behind micros) Second)
 
-turned_two : (turned : Bool) (xs ys us vs : List Count) → turned_counts turned xs ≡ us → turned_counts turned ys ≡ vs → turned_counts turned (xs ++ ys) ≡ us ++ vs
+turned_two : (turned : Bool) (xs ys us vs : List Count) → turned_counts turned xs ≡ us → turned_counts turned ys ≡ vs
+    → turned_counts turned (xs ++ ys) ≡ us ++ vs
 turned_two turned xs ys us vs h k = turned-append turned xs ys ∙ ap₂ (λ (a b : List Count). a ++ b) h k
 
-turned_all : (ago : Bool) (months days micros : ℤ) → turned_counts ago (verbose_counts ago months days micros) ≡ verbose_counts false months days micros
+turned_all : (ago : Bool) (months days micros : ℤ)
+    → turned_counts ago (verbose_counts ago months days micros) ≡ verbose_counts false months days micros
 turned_all ago months days micros =
     turned_two ago _ _ _ _ (turned_part ago (is_negative months) (years_of months) Year)
     (turned_two ago _ _ _ _ (turned_part ago (is_negative months) (months_of months) Month)
@@ -68,14 +73,16 @@ turned_all ago months days micros =
 
 -- ---- the sums
 
-second_counts-sum : (part : Part) (negative : Bool) (seconds micros : ℕ) → seconds < 2 ^ 64 → micros < 1_000_000 → IsTrue (fits_type part (signed negative (magnitude part Second seconds micros)))
+second_counts-sum : (part : Part) (negative : Bool) (seconds micros : ℕ) → seconds < 2 ^ 64 → micros < 1_000_000
+    → IsTrue (fits_type part (signed negative (magnitude part Second seconds micros)))
     → AddsUp part (second_counts negative seconds micros) (signed negative (magnitude part Second seconds micros))
 second_counts-sum part negative seconds micros small below fits =
     cond_both (micros == 0) _ _ (λ counts. AddsUp part counts (signed negative (magnitude part Second seconds micros)))
     (λ zero_is. let none : micros ≡ 0 = eqb-true micros 0 zero_is in rw none (part_counts-sum part negative seconds Second small (rw none at fits)))
     (λ _. AddsUp-one part _ seconds micros (number_of-decimal seconds small) (rounded-trimmed 1_000_000 (padded 6 micros) ∙ rounded-padded micros below) fits)
 
-has_seconds : (micros : ℤ) → unsigned_abs micros ≤ 2 ^ 63 → HasSeconds micros (second_counts (is_negative micros) (seconds_of micros) (subsecond_of micros))
+has_seconds : (micros : ℤ) → unsigned_abs micros ≤ 2 ^ 63
+    → HasSeconds micros (second_counts (is_negative micros) (seconds_of micros) (subsecond_of micros))
 has_seconds micros small part = second_counts-sum part (is_negative micros) (seconds_of micros) (subsecond_of micros) (omega arith) (omega arith)
 
 counts-sum : (t : Interval) → IsInRange t → SumsTo (verbose_counts false t.months t.days t.microseconds) t
@@ -92,7 +99,8 @@ sums t range =
     SumsTo-nil t (int_eq-zero t.months outer.0) (int_eq-zero t.days inner.0) (int_eq-zero t.microseconds inner.1))
     (λ _. rw (turned_all (has_ago t.months t.days t.microseconds) t.months t.days t.microseconds) (counts-sum t range))
 
-spelled : (t : Interval) → IsInRange t → IsVerbose (verbose_text t.months t.days t.microseconds) (written_counts t.months t.days t.microseconds)
+spelled : (t : Interval) → IsInRange t
+    → IsVerbose (verbose_text t.months t.days t.microseconds) (written_counts t.months t.days t.microseconds)
 spelled t range = verbose_spelled t.months t.days t.microseconds (abs_fits Months t.months (fits_32 t.months range.months)) (abs_fits Days t.days (fits_32 t.days range.days)) (abs_fits Micros t.microseconds (fits_64 t.microseconds range.microseconds))
 
 pub verbose_denotes : (t : Interval) → IsInRange t → Denotes IsVerbose (verbose_text t.months t.days t.microseconds) t

@@ -55,7 +55,9 @@ one_word : (b : ℕ) → is_blank b ≡ false → words (b ∷ []) ≡ codes "0"
 one_word b solid h = let first : words (b ∷ []) ≡ (b ∷ []) ∷ [] = rw solid refl in let same = sym first ∙ h in cc
 
 -- bytes without blanks at their ends whose one word is `0`
-only_zero : (t : Bool) (bytes : List ℕ) → ((b : ℕ) (bs : List ℕ) → bytes ≡ b ∷ bs → is_blank b ≡ false) → solid_behind t bytes ≡ true → words bytes ≡ codes "0" ∷ [] → bytes ≡ codes "0"
+only_zero : (t : Bool) (bytes : List ℕ) → ((b : ℕ) (bs : List ℕ) → bytes ≡ b ∷ bs → is_blank b ≡ false) → solid_behind t bytes ≡ true
+    → words bytes ≡ codes "0" ∷ []
+    → bytes ≡ codes "0"
 only_zero t [] solid ends h = cc
 only_zero t (b ∷ bs) solid ends h =
     let first = solid b bs refl in
@@ -76,8 +78,9 @@ pub record Passed (front bytes : List ℕ) (at : ℕ) : Type 0 where
   pub place : at ≡ length before + 1 + length gap
   pub solid : (b : ℕ) (bs : List ℕ) → bytes ≡ b ∷ bs → is_blank b ≡ false
 
-pub passed : (front : List ℕ) (s0 s1 s2 s3 : Place) → s0 ≡ record { text = front; at = 0 } → Passes (leading is_blank (ahead s0)) s0 s1 → Passes (64 ∷ []) s1 s2
-    → Passes (leading is_blank (ahead s2)) s2 s3 → ahead s3 ≡ after_blanks (ahead s2) → Passed front (ahead s3) s3.at
+pub passed : (front : List ℕ) (s0 s1 s2 s3 : Place) → s0 ≡ record { text = front; at = 0 } → Passes (leading is_blank (ahead s0)) s0 s1
+    → Passes (64 ∷ []) s1 s2 → Passes (leading is_blank (ahead s2)) s2 s3 → ahead s3 ≡ after_blanks (ahead s2)
+    → Passed front (ahead s3) s3.at
 passed front s0 s1 s2 s3 first a b c rest =
     let start : s0.at ≡ 0 = ap (λ (p : Place). p.at) first in
     let one = a.at in
@@ -108,29 +111,36 @@ no_at front rest is other before bytes at =
     let found : rest ≡ 64 ∷ bytes = is ∙ ap after_blanks at.split ∙ behind_skips is_blank before (64 ∷ bytes) at.blank in
     absurd (other (ap front_byte found))
 
-pub zero_tally : (front bytes : List ℕ) (at : ℕ) (ago : Bool) (tally : Tally) → Passed front bytes at → bytes ≡ codes "0" → Tallies tally [] → IsFrontTally front ago tally
+pub zero_tally : (front bytes : List ℕ) (at : ℕ) (ago : Bool) (tally : Tally) → Passed front bytes at → bytes ≡ codes "0" → Tallies tally []
+    → IsFrontTally front ago tally
 zero_tally front bytes at ago tally p zero tallies =
     (p.before, p.gap ++ bytes, [], front_at front bytes at p, inl (words-blanks p.gap bytes p.blank_gap ∙ ap words zero, refl), tallies)
 
-pub items_tally : (front bytes : List ℕ) (at : ℕ) (ago : Bool) (read : Result Tally Misread) → Passed front bytes at → IfOk read (IsItemsTally verbose_names ago bytes) → IfOk read (IsFrontTally front ago)
+pub items_tally : (front bytes : List ℕ) (at : ℕ) (ago : Bool) (read : Result Tally Misread) → Passed front bytes at
+    → IfOk read (IsItemsTally verbose_names ago bytes)
+    → IfOk read (IsFrontTally front ago)
 items_tally front bytes at ago (Ok tally) p (counts, items, tallies) =
     (p.before, p.gap ++ bytes, counts, front_at front bytes at p, inr (subst (λ (all : List (List ℕ)). AreItems verbose_names all counts) (sym (words-blanks p.gap bytes p.blank_gap)) items), tallies)
 items_tally front bytes at ago (Err e) p h = tt
 
 -- the bytes behind the `@` are these
-same_bytes : (front bytes : List ℕ) (at : ℕ) (p : Passed front bytes at) (before more : List ℕ) → IsBehindAt front before more → words more ≡ words bytes
+same_bytes : (front bytes : List ℕ) (at : ℕ) (p : Passed front bytes at) (before more : List ℕ) → IsBehindAt front before more
+    → words more ≡ words bytes
 same_bytes front bytes at p before more h =
     let e = sym p.split ∙ h.split in
     let one = same_before p.before before (p.gap ++ bytes) more p.blank_before h.blank e in
     ap words (sym (same_behind p.before before (p.gap ++ bytes) more one e)) ∙ words-blanks p.gap bytes p.blank_gap
 
-not_zero : (front bytes : List ℕ) (at : ℕ) → Passed front bytes at → ends_solid front ≡ true → (bytes ≡ codes "0" → ⊥) → words bytes ≡ codes "0" ∷ [] → ⊥
+not_zero : (front bytes : List ℕ) (at : ℕ) → Passed front bytes at → ends_solid front ≡ true → (bytes ≡ codes "0" → ⊥)
+    → words bytes ≡ codes "0" ∷ []
+    → ⊥
 not_zero front bytes at p ends other h =
     let whole : front ≡ (p.before ++ (64 ∷ p.gap)) ++ bytes = p.split ∙ sym (append_assoc p.before (64 ∷ p.gap) bytes) in
     let solid = sym (solid-append true (p.before ++ (64 ∷ p.gap)) bytes) ∙ ap ends_solid (sym whole) ∙ ends in
     other (only_zero (solid_behind true (p.before ++ (64 ∷ p.gap))) bytes p.solid solid h)
 
-pub misread : (front bytes : List ℕ) (at : ℕ) (read : Result Tally Misread) → Passed front bytes at → ends_solid front ≡ true → (bytes ≡ codes "0" → ⊥) → IfErr read (IsMisread verbose_names at bytes)
+pub misread : (front bytes : List ℕ) (at : ℕ) (read : Result Tally Misread) → Passed front bytes at → ends_solid front ≡ true
+    → (bytes ≡ codes "0" → ⊥) → IfErr read (IsMisread verbose_names at bytes)
     → IfErr read (IsFrontMisread front)
 misread front bytes at (Ok tally) p ends other h = tt
 misread front bytes at (Err NoItems) p ends other h = λ before more is.
@@ -150,7 +160,9 @@ misread front bytes at (Err (BadName start end)) p ends other (s, e, bad, starts
 
 -- ---- the whole text
 
-abbrev frame : (text : List ℕ) (end : ℕ) (ago : Bool) (e : IsEnding text end ago) (before bytes : List ℕ) → IsBehindAt (take end text) before bytes → IsFramed text before (bytes ++ e.gap) ago
+abbrev frame : (text : List ℕ) (end : ℕ) (ago : Bool) (e : IsEnding text end ago) (before bytes : List ℕ)
+    → IsBehindAt (take end text) before bytes
+    → IsFramed text before (bytes ++ e.gap) ago
 frame text end ago e before bytes at =
     let tail = e.gap ++ (ago_or_none ago ++ e.after) in
     record {
@@ -165,7 +177,8 @@ body_gap : (bytes gap : List ℕ) (counts : List Count) → AreBlanks gap → Is
 body_gap bytes gap counts blank (inl zero) = inl (words_before bytes gap blank ∙ zero.0, zero.1)
 body_gap bytes gap counts blank (inr items) = inr (subst (λ (all : List (List ℕ)). AreItems verbose_names all counts) (sym (words_before bytes gap blank)) items)
 
-pub spelled : (text : List ℕ) (end : ℕ) (ago : Bool) (tally : Tally) → IsEnding text end ago → IsFrontTally (take end text) ago tally → (counts : List Count) × IsVerbose text counts × Tallies tally counts
+pub spelled : (text : List ℕ) (end : ℕ) (ago : Bool) (tally : Tally) → IsEnding text end ago → IsFrontTally (take end text) ago tally
+    → (counts : List Count) × IsVerbose text counts × Tallies tally counts
 spelled text end ago tally e (before, bytes, counts, at, body, tallies) = (
   turned_counts ago counts,
   record {
@@ -180,7 +193,9 @@ spelled text end ago tally e (before, bytes, counts, at, body, tallies) = (
   tallies,
 )
 
-pub bad_name : (text : List ℕ) (end : ℕ) (ago : Bool) (start stop : ℕ) → IsEnding text end ago → IsFrontMisread (take end text) (BadName start stop) → IsVerboseBadName text start stop
+pub bad_name : (text : List ℕ) (end : ℕ) (ago : Bool) (start stop : ℕ) → IsEnding text end ago
+    → IsFrontMisread (take end text) (BadName start stop)
+    → IsVerboseBadName text start stop
 bad_name text end ago start stop e (before, bytes, from, to, at, bad, starts, stops) = record {
   before = before;
   body = bytes ++ e.gap;
@@ -203,7 +218,8 @@ at_within : (before rest : List ℕ) → lacks_at (before ++ (64 ∷ rest)) ≡ 
 at_within [] rest h = cc
 at_within (b ∷ bs) rest h = at_within bs rest (and_parts (not (b == 64)) (lacks_at (bs ++ (64 ∷ rest))) h).1
 
-split_at : (front tail before rest : List ℕ) → lacks_at tail ≡ true → front ++ tail ≡ before ++ (64 ∷ rest) → (bytes : List ℕ) × (front ≡ before ++ (64 ∷ bytes))
+split_at : (front tail before rest : List ℕ) → lacks_at tail ≡ true → front ++ tail ≡ before ++ (64 ∷ rest)
+    → (bytes : List ℕ) × (front ≡ before ++ (64 ∷ bytes))
 split_at [] tail before rest none e = absurd (at_within before rest (ap lacks_at (sym e) ∙ none))
 split_at (f ∷ fs) tail [] rest none e = let heads : f ≡ 64 = cc in (fs, ap (λ (b : ℕ). b ∷ fs) heads)
 split_at (f ∷ fs) tail (b ∷ bs) rest none e =
@@ -231,7 +247,9 @@ tail_lacks text end ago e =
     blanks_lack e.gap _ e.blank_gap (ago_lacks ago e.after (ap lacks_at (sym (append-nil e.after)) ∙ blanks_lack e.after [] e.blank_after refl))
 
 -- a frame of the text has its `@` before the end of the body, and its words behind it
-framed_words : (text : List ℕ) (end : ℕ) (ago : Bool) (e : IsEnding text end ago) (before body : List ℕ) (turned : Bool) (f : IsFramed text before body turned) → (turned ≡ false → EndsInAgo text → ⊥)
+framed_words :
+    (text : List ℕ) (end : ℕ) (ago : Bool) (e : IsEnding text end ago) (before body : List ℕ) (turned : Bool)
+    (f : IsFramed text before body turned) → (turned ≡ false → EndsInAgo text → ⊥)
     → (bytes : List ℕ) × IsBehindAt (take end text) before bytes × (words body ≡ words bytes)
 framed_words text end ago e before body turned f whole =
     let found = split_at (take end text) (e.gap ++ (ago_or_none ago ++ e.after)) before (body ++ (ago_or_none turned ++ f.after)) (tail_lacks text end ago e) (sym e.split ∙ f.joined) in
@@ -239,7 +257,9 @@ framed_words text end ago e before body turned f whole =
     let same = one_frame text before before body (found.0 ++ e.gap) turned ago f (frame text end ago e before found.0 at) whole e.whole in
     (found.0, at, sym (whole_words turned body f.after f.blank_after) ∙ ap words same.whole ∙ whole_words ago (found.0 ++ e.gap) e.after e.blank_after ∙ words_before found.0 e.gap e.blank_gap)
 
-no_body : (body bytes : List ℕ) (counts : List Count) → words body ≡ words bytes → verdict verbose_names [] 0 (words bytes) ≡ Unspelled → (words bytes ≡ codes "0" ∷ [] → ⊥) → IsBody body counts → ⊥
+no_body : (body bytes : List ℕ) (counts : List Count) → words body ≡ words bytes → verdict verbose_names [] 0 (words bytes) ≡ Unspelled
+    → (words bytes ≡ codes "0" ∷ [] → ⊥) → IsBody body counts
+    → ⊥
 no_body body bytes counts same judged other (inl zero) = other (sym same ∙ zero.0)
 no_body body bytes counts same judged other (inr items) =
     let clash : Unspelled ≡ Spelled counts = sym judged ∙ ap (verdict verbose_names [] 0) (sym same) ∙ items_verdict verbose_names are_names (words body) counts items in cc

@@ -32,7 +32,8 @@ use Rattle.pg_interval_2.proofs.ItemWords.{no_blanks-append, digits_no_blanks}
 
 -- ---- the words
 
-unit_are_words : (negative : Bool) (n : ℕ) (name : List ℕ) → n < 2 ^ 64 → 0 < length name → NoBlanks name → AreWords (unit_words negative n name)
+unit_are_words : (negative : Bool) (n : ℕ) (name : List ℕ) → n < 2 ^ 64 → 0 < length name → NoBlanks name
+    → AreWords (unit_words negative n name)
 unit_are_words negative n name small some clear = AreWords-number_words negative n (counted_name false n name) small (counted_name_is false n name some clear)
 
 -- the digits of microseconds behind the point
@@ -50,7 +51,8 @@ unfolding second_digits
 some-second negative seconds micros small =
     omega (arith, length-append (minus negative) (decimal seconds ++ (codes "." ++ micros_behind micros)), length-append (decimal seconds) (codes "." ++ micros_behind micros), decimal_nonempty seconds small)
 
-second_are_words : (negative : Bool) (seconds micros : ℕ) → seconds < 2 ^ 64 → micros < 2 ^ 64 → AreWords (second_words negative seconds micros)
+second_are_words : (negative : Bool) (seconds micros : ℕ) → seconds < 2 ^ 64 → micros < 2 ^ 64
+    → AreWords (second_words negative seconds micros)
 unfolding second_words
 second_are_words negative seconds micros small below =
     cond_both (micros == 0) _ _ AreWords
@@ -63,7 +65,8 @@ second_are_words negative seconds micros small below =
 
 -- ---- the items
 
-unit_join : (negative : Bool) (n : ℕ) (name : List ℕ) (unit : TimeUnit) → n < 2 ^ 64 → (unit_named verbose_names name ≡ Some unit) × (unit_named verbose_names (name ++ codes "s") ≡ Some unit)
+unit_join : (negative : Bool) (n : ℕ) (name : List ℕ) (unit : TimeUnit) → n < 2 ^ 64
+    → (unit_named verbose_names name ≡ Some unit) × (unit_named verbose_names (name ++ codes "s") ≡ Some unit)
     → IsJoin (IsItem verbose_names) (unit_words negative n name) (part_items negative n unit)
 unit_join negative n name unit small names =
     number_join verbose_names negative n (counted_name false n name) unit small (counted_unit verbose_names false n name unit names.0 names.1)
@@ -105,7 +108,8 @@ positive : (n : ℕ) → (n == 0) ≡ false → 0 < n
 positive n h = grind (arith)
 
 second_named : (negative : Bool) (seconds micros : ℕ) → seconds < 2 ^ 64 → micros < 2 ^ 64 → (micros == 0) ≡ false
-    → IsNamed verbose_names ((minus negative ++ second_digits seconds micros) ∷ codes "secs" ∷ []) (count_of negative (decimal seconds) (micros_behind micros) Second)
+    → IsNamed verbose_names ((minus negative ++ second_digits seconds micros) ∷ codes "secs" ∷ [])
+    (count_of negative (decimal seconds) (micros_behind micros) Second)
 unfolding second_digits
 second_named negative seconds micros small below some = record {
   number = minus negative ++ second_digits seconds micros;
@@ -122,7 +126,8 @@ second_join negative seconds micros small below =
     cond_two (micros == 0) (IsJoin (IsItem verbose_names)) _ _ _ _ (λ _. unit_join negative seconds (codes "sec") Second small second_names)
     (λ some. IsJoin-one (IsItem verbose_names) _ _ (inl (count_of negative (decimal seconds) (micros_behind micros) Second, second_named negative seconds micros small below some, refl)))
 
-all_counts-second : (negative : Bool) (seconds micros : ℕ) → all_counts (second_items negative seconds micros) ≡ second_counts negative seconds micros
+all_counts-second : (negative : Bool) (seconds micros : ℕ)
+    → all_counts (second_items negative seconds micros) ≡ second_counts negative seconds micros
 all_counts-second negative seconds micros =
     cond_two (micros == 0) (λ (items : List (List Count)) (counts : List Count). all_counts items ≡ counts) _ _ _ _ (λ _. all_counts-part negative seconds Second) (λ _. refl)
 
@@ -145,7 +150,8 @@ six_pieces a b c d e f rest =
     rw (behind_spaces-append a (b ++ (c ++ (d ++ (e ++ f)))), behind_spaces-append b (c ++ (d ++ (e ++ f))), behind_spaces-append c (d ++ (e ++ f)), behind_spaces-append d (e ++ f), behind_spaces-append e f)
     (simp append_assoc)
 
-pieces : (ago : Bool) (months days micros : ℤ) (rest : List ℕ) → verbose_date ago months days ++ (verbose_time ago micros ++ rest) ≡ behind_spaces (verbose_words ago months days micros) ++ rest
+pieces : (ago : Bool) (months days micros : ℤ) (rest : List ℕ)
+    → verbose_date ago months days ++ (verbose_time ago micros ++ rest) ≡ behind_spaces (verbose_words ago months days micros) ++ rest
 unfolding verbose_date verbose_time
 pieces ago months days micros rest =
     six_pieces (unit_words (turned_sign ago (is_negative months)) (years_of months) (codes "year")) (unit_words (turned_sign ago (is_negative months)) (months_of months) (codes "mon"))
@@ -188,7 +194,8 @@ spells-append xs ys cs ds h k = record {
 }
 
 unit_spells : (negative : Bool) (n : ℕ) (name : List ℕ) (unit : TimeUnit) → n < 2 ^ 64 → 0 < length name → NoBlanks name
-    → (unit_named verbose_names name ≡ Some unit) × (unit_named verbose_names (name ++ codes "s") ≡ Some unit) → Spells (unit_words negative n name) (part_counts negative n unit)
+    → (unit_named verbose_names name ≡ Some unit) × (unit_named verbose_names (name ++ codes "s") ≡ Some unit)
+    → Spells (unit_words negative n name) (part_counts negative n unit)
 unit_spells negative n name unit small some clear names = record {
   words = unit_are_words negative n name small some clear;
   items = part_items negative n unit;
@@ -196,7 +203,8 @@ unit_spells negative n name unit small some clear names = record {
   counted = all_counts-part negative n unit;
 }
 
-second_spells : (negative : Bool) (seconds micros : ℕ) → seconds < 2 ^ 64 → micros < 2 ^ 64 → Spells (second_words negative seconds micros) (second_counts negative seconds micros)
+second_spells : (negative : Bool) (seconds micros : ℕ) → seconds < 2 ^ 64 → micros < 2 ^ 64
+    → Spells (second_words negative seconds micros) (second_counts negative seconds micros)
 second_spells negative seconds micros small below = record {
   words = second_are_words negative seconds micros small below;
   items = second_items negative seconds micros;
@@ -204,7 +212,8 @@ second_spells negative seconds micros small below = record {
   counted = all_counts-second negative seconds micros;
 }
 
-words_spell : (ago : Bool) (months days micros : ℤ) → unsigned_abs months ≤ 2 ^ 63 → unsigned_abs days ≤ 2 ^ 63 → unsigned_abs micros ≤ 2 ^ 63
+words_spell : (ago : Bool) (months days micros : ℤ) → unsigned_abs months ≤ 2 ^ 63 → unsigned_abs days ≤ 2 ^ 63
+    → unsigned_abs micros ≤ 2 ^ 63
     → Spells (verbose_words ago months days micros) (verbose_counts ago months days micros)
 words_spell ago months days micros small_months small_days small_micros =
     spells-append _ _ _ _ (unit_spells _ (years_of months) (codes "year") Year (omega arith) (omega arith) (refl, (refl, (refl, (refl, tt)))) year_names)
@@ -216,7 +225,8 @@ words_spell ago months days micros small_months small_days small_micros =
 
 -- the words as a body, behind which `ago` and nothing else stands, or nothing
 ago_joined : (ago : Bool) (spaces : List ℕ)
-    → codes "@" ++ (spaces ++ cond ago (codes " ago") []) ≡ codes "@" ++ ((spaces ++ cond {A = List ℕ} ago (codes " ") []) ++ (cond ago (codes "ago") [] ++ []))
+    → codes "@" ++ (spaces ++ cond ago (codes " ago") [])
+    ≡ codes "@" ++ ((spaces ++ cond {A = List ℕ} ago (codes " ") []) ++ (cond ago (codes "ago") [] ++ []))
 ago_joined true spaces = ap (λ (l : List ℕ). 64 ∷ l) (sym (append_assoc spaces (codes " ") (codes "ago")))
 ago_joined false spaces = ap (λ (l : List ℕ). 64 ∷ l) (sym (append-nil (spaces ++ [])))
 
@@ -224,7 +234,8 @@ ago_words : (ago : Bool) (all : List (List ℕ)) → AreWords all → words (beh
 ago_words true all are = words-spaces all (codes " ") are refl ∙ append-nil all
 ago_words false all are = words-spaces all [] are tt ∙ append-nil all
 
-words_spelled : (ago : Bool) (months days micros : ℤ) → unsigned_abs months ≤ 2 ^ 63 → unsigned_abs days ≤ 2 ^ 63 → unsigned_abs micros ≤ 2 ^ 63
+words_spelled : (ago : Bool) (months days micros : ℤ) → unsigned_abs months ≤ 2 ^ 63 → unsigned_abs days ≤ 2 ^ 63
+    → unsigned_abs micros ≤ 2 ^ 63
     → IsVerbose (parts_text ago months days micros) (turned_counts ago (verbose_counts ago months days micros))
 unfolding parts_text
 words_spelled ago months days micros small_months small_days small_micros =

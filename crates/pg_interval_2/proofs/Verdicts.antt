@@ -27,11 +27,13 @@ abbrev pub AreNames : Names → Type 0
 AreNames names = (word : List ℕ) (unit : TimeUnit) → unit_named names word ≡ Some unit → (0 < length word) × AreLetters word
 
 pub clock_kind : (word : List ℕ) (counts : List Count) (h : IsClock word counts)
-    → word_kind word ≡ ClockWord (record { negative = h.negative; hours = h.hours; minutes = h.minutes; seconds = h.seconds; fraction = h.fraction })
+    → word_kind word
+    ≡ ClockWord (record { negative = h.negative; hours = h.hours; minutes = h.minutes; seconds = h.seconds; fraction = h.fraction })
 unfolding word_kind
 clock_kind word counts h = let read = ap read_item (sym (append-nil word)) ∙ clock_read word [] counts h tt in rw read refl
 
-pub glued_kind : (negative : Bool) (whole fraction number letters : List ℕ) → IsNumber true negative whole fraction number → 0 < length letters → AreLetters letters
+pub glued_kind : (negative : Bool) (whole fraction number letters : List ℕ) → IsNumber true negative whole fraction number
+    → 0 < length letters → AreLetters letters
     → word_kind (number ++ letters) ≡ GluedWord (record { negative = negative; whole = whole; fraction = fraction }) letters
 unfolding word_kind
 glued_kind negative whole fraction number letters h some l =
@@ -54,7 +56,8 @@ pub same_both : (a b : ℕ) → (a == b) ≡ false → (b == a) ≡ false
 same_both a b h = grind (arith, nat_tests)
 
 -- the first of counts of which no unit is in two
-first_alone : (x : Count) (xs : List Count) → has_distinct_units (x ∷ xs) ≡ true → (counts_unit x.unit xs ≡ false) × (has_distinct_units xs ≡ true)
+first_alone : (x : Count) (xs : List Count) → has_distinct_units (x ∷ xs) ≡ true
+    → (counts_unit x.unit xs ≡ false) × (has_distinct_units xs ≡ true)
 first_alone x xs h = let split = and_parts (not (counts_unit x.unit xs)) (has_distinct_units xs) h in (not-true _ split.0, split.1)
 
 -- counts of which no unit is in two, with more of them behind
@@ -67,7 +70,8 @@ distinct_front (x ∷ xs) ys h =
     rw (alone, below) refl
 
 -- the unit of a count behind is in none before
-pub fresh_behind : (xs : List Count) (c : Count) (ys : List Count) → has_distinct_units (xs ++ (c ∷ ys)) ≡ true → counts_unit c.unit xs ≡ false
+pub fresh_behind : (xs : List Count) (c : Count) (ys : List Count) → has_distinct_units (xs ++ (c ∷ ys)) ≡ true
+    → counts_unit c.unit xs ≡ false
 fresh_behind [] c ys h = refl
 fresh_behind (x ∷ xs) c ys h =
     let split = first_alone x (xs ++ (c ∷ ys)) h in
@@ -76,12 +80,14 @@ fresh_behind (x ∷ xs) c ys h =
     let below = fresh_behind xs c ys split.1 in
     rw (other, below) refl
 
-one_more_apart : (x c : Count) (xs : List Count) → counts_unit x.unit xs ≡ false → (place_of x.unit == place_of c.unit) ≡ false → counts_unit x.unit (xs ++ c ∷ []) ≡ false
+one_more_apart : (x c : Count) (xs : List Count) → counts_unit x.unit xs ≡ false → (place_of x.unit == place_of c.unit) ≡ false
+    → counts_unit x.unit (xs ++ c ∷ []) ≡ false
 one_more_apart x c xs alone other =
     let back = same_both (place_of x.unit) (place_of c.unit) other in counts_unit-append x.unit xs (c ∷ []) ∙ rw (alone, back) refl
 
 -- one more count of a unit that was in none
-pub distinct_push : (xs : List Count) (c : Count) → has_distinct_units xs ≡ true → counts_unit c.unit xs ≡ false → has_distinct_units (xs ++ c ∷ []) ≡ true
+pub distinct_push : (xs : List Count) (c : Count) → has_distinct_units xs ≡ true → counts_unit c.unit xs ≡ false
+    → has_distinct_units (xs ++ c ∷ []) ≡ true
 distinct_push [] c h fresh = refl
 distinct_push (x ∷ xs) c h fresh =
     let split = first_alone x xs h in
@@ -101,18 +107,21 @@ judge_pair names counts ink length_of (name ∷ more) n =
 -- a word and what follows it
 pub verdict-word : (names : Names) (counts : List Count) (ink : ℕ) (word : List ℕ) (more : List (List ℕ))
     → verdict names counts ink (word ∷ more)
-    ≡ judge_word names counts ink (length word) (word_kind word) (λ cs. verdict names (counts ++ cs) (ink + length word) more) (judge_pair names counts ink (length word) more)
+    ≡ judge_word names counts ink (length word) (word_kind word) (λ cs. verdict names (counts ++ cs) (ink + length word) more)
+    (judge_pair names counts ink (length word) more)
 verdict-word names counts ink word [] = refl
 verdict-word names counts ink word (name ∷ more) = refl
 
 -- as far as a sum is written another way
-elsewhere : (names : Names) (counts : List Count) (m n : ℕ) (more : List (List ℕ)) → m ≡ n → verdict names counts m more ≡ verdict names counts n more
+elsewhere : (names : Names) (counts : List Count) (m n : ℕ) (more : List (List ℕ)) → m ≡ n
+    → verdict names counts m more ≡ verdict names counts n more
 elsewhere names counts m n more h = ap (λ (k : ℕ). verdict names counts k more) h
 
 pub is_name_of : (letters : List ℕ) → 0 < length letters → AreLetters letters → is_name letters ≡ true
 is_name_of letters some l = let first = lt-ltb 0 (length letters) some in rw (first, l) refl
 
-clock_item : (names : Names) (word : List ℕ) (more : List (List ℕ)) (cs counts : List Count) (ink : ℕ) → IsClock word cs → has_distinct_units (counts ++ cs) ≡ true
+clock_item : (names : Names) (word : List ℕ) (more : List (List ℕ)) (cs counts : List Count) (ink : ℕ) → IsClock word cs
+    → has_distinct_units (counts ++ cs) ≡ true
     → verdict names counts ink (word ∷ more) ≡ verdict names (counts ++ cs) (ink + length word) more
 clock_item names word more cs counts ink h distinct =
     let kind = clock_kind word cs h in
@@ -120,15 +129,17 @@ clock_item names word more cs counts ink h distinct =
     let distinct' : has_distinct_units (counts ++ clock_counts h.negative h.hours h.minutes h.seconds h.fraction) ≡ true = ap (λ (l : List Count). has_distinct_units (counts ++ l)) (sym counted) ∙ distinct in
     verdict-word names counts ink word more ∙ rw (kind, distinct', counted) refl
 
-glued_item : (names : Names) (c : Count) (number name : List ℕ) (more : List (List ℕ)) (counts : List Count) (ink : ℕ) → IsNumber true c.negative c.whole c.fraction number
-    → unit_named names name ≡ Some c.unit → 0 < length name → AreLetters name → counts_unit c.unit counts ≡ false
+glued_item : (names : Names) (c : Count) (number name : List ℕ) (more : List (List ℕ)) (counts : List Count) (ink : ℕ)
+    → IsNumber true c.negative c.whole c.fraction number → unit_named names name ≡ Some c.unit → 0 < length name → AreLetters name
+    → counts_unit c.unit counts ≡ false
     → verdict names counts ink ((number ++ name) ∷ more) ≡ verdict names (counts ++ c ∷ []) (ink + length (number ++ name)) more
 glued_item names c number name more counts ink h unit some l fresh =
     let kind = glued_kind c.negative c.whole c.fraction number name h some l in
     verdict-word names counts ink (number ++ name) more ∙ rw (kind, unit, fresh) refl
 
-named_pair : (names : Names) (c : Count) (number name : List ℕ) (more : List (List ℕ)) (counts : List Count) (ink : ℕ) → IsNumber true c.negative c.whole c.fraction number
-    → unit_named names name ≡ Some c.unit → 0 < length name → AreLetters name → counts_unit c.unit counts ≡ false
+named_pair : (names : Names) (c : Count) (number name : List ℕ) (more : List (List ℕ)) (counts : List Count) (ink : ℕ)
+    → IsNumber true c.negative c.whole c.fraction number → unit_named names name ≡ Some c.unit → 0 < length name → AreLetters name
+    → counts_unit c.unit counts ≡ false
     → verdict names counts ink (number ∷ name ∷ more) ≡ verdict names (counts ++ c ∷ []) (ink + length number + length name) more
 named_pair names c number name more counts ink h unit some l fresh =
     let kind = number_kind c.negative c.whole c.fraction number h in
@@ -137,7 +148,8 @@ named_pair names c number name more counts ink h unit some l fresh =
 
 -- an item in front of words is gone over
 advance_item : (names : Names) → AreNames names → (item more : List (List ℕ)) (cs counts rest : List Count) (ink : ℕ) → IsItem names item cs
-    → has_distinct_units (counts ++ (cs ++ rest)) ≡ true → verdict names counts ink (item ++ more) ≡ verdict names (counts ++ cs) (ink + total_length item) more
+    → has_distinct_units (counts ++ (cs ++ rest)) ≡ true
+    → verdict names counts ink (item ++ more) ≡ verdict names (counts ++ cs) (ink + total_length item) more
 advance_item names letters item more cs counts rest ink (inl (c, named, one)) distinct =
     let both_distinct : has_distinct_units (counts ++ (c ∷ rest)) ≡ true = ap (λ (l : List Count). has_distinct_units (counts ++ (l ++ rest))) (sym one) ∙ distinct in
     let fresh = fresh_behind counts c rest both_distinct in
@@ -150,8 +162,9 @@ advance_item names letters item more cs counts rest ink (inr (word, clock, one))
     let front = distinct_front (counts ++ cs) rest (ap has_distinct_units (append_assoc counts cs rest) ∙ distinct) in
     rw one (clock_item names word more cs counts ink clock front ∙ elsewhere names (counts ++ cs) _ _ more (omega arith))
 
-pub advance : (names : Names) → AreNames names → (front more : List (List ℕ)) (items : List (List Count)) (counts : List Count) (ink : ℕ) → IsJoin (IsItem names) front items
-    → has_distinct_units (counts ++ all_counts items) ≡ true → verdict names counts ink (front ++ more) ≡ verdict names (counts ++ all_counts items) (ink + total_length front) more
+pub advance : (names : Names) → AreNames names → (front more : List (List ℕ)) (items : List (List Count)) (counts : List Count) (ink : ℕ)
+    → IsJoin (IsItem names) front items → has_distinct_units (counts ++ all_counts items) ≡ true
+    → verdict names counts ink (front ++ more) ≡ verdict names (counts ++ all_counts items) (ink + total_length front) more
 advance names letters front more [] counts ink h distinct =
     rw h (ap (λ (l : List Count). verdict names l ink more) (sym (append-nil counts)) ∙ elsewhere names (counts ++ []) ink (ink + 0) more (omega arith))
 advance names letters front more (cs ∷ items) counts ink h distinct =

@@ -50,7 +50,9 @@ magnitude-zero Micros Minute = refl
 magnitude-zero Micros Second = refl
 magnitude-zero Micros _ = refl
 
-pub part_counts-sum : (part : Part) (negative : Bool) (n : ℕ) (unit : TimeUnit) → n < 2 ^ 64 → IsTrue (fits_type part (signed negative (magnitude part unit n 0))) → AddsUp part (part_counts negative n unit) (signed negative (magnitude part unit n 0))
+pub part_counts-sum : (part : Part) (negative : Bool) (n : ℕ) (unit : TimeUnit) → n < 2 ^ 64
+    → IsTrue (fits_type part (signed negative (magnitude part unit n 0)))
+    → AddsUp part (part_counts negative n unit) (signed negative (magnitude part unit n 0))
 part_counts-sum part negative n unit small fits =
     cond_both (n == 0) _ _ (λ counts. AddsUp part counts (signed negative (magnitude part unit n 0)))
     (λ zero_is. AddsUp-same part [] (pos 0) _ (AddsUp-nil part) (sym (rw (eqb-true n 0 zero_is, magnitude-zero) (signed-zero negative))))
@@ -62,7 +64,9 @@ unfolding nonzero_digits
 whole_seconds n small =
     cond_both (n == 0) _ _ (λ digits. number_of digits ≡ n) (λ zero_is. sym (eqb-true n 0 zero_is)) (λ _. number_of-decimal n small)
 
-pub seconds_counts-sum : (part : Part) (negative : Bool) (seconds micros : ℕ) → seconds < 2 ^ 64 → micros < 1_000_000 → IsTrue (fits_type part (signed negative (magnitude part Second seconds micros))) → AddsUp part (seconds_counts negative seconds micros) (signed negative (magnitude part Second seconds micros))
+pub seconds_counts-sum : (part : Part) (negative : Bool) (seconds micros : ℕ) → seconds < 2 ^ 64 → micros < 1_000_000
+    → IsTrue (fits_type part (signed negative (magnitude part Second seconds micros)))
+    → AddsUp part (seconds_counts negative seconds micros) (signed negative (magnitude part Second seconds micros))
 seconds_counts-sum part negative seconds micros small below fits =
     cond_both (micros == 0) _ _ (λ counts. AddsUp part counts (signed negative (magnitude part Second seconds micros)))
     (λ zero_is. let none : micros ≡ 0 = eqb-true micros 0 zero_is in rw none (part_counts-sum part negative seconds Second small (rw none at fits)))
@@ -82,15 +86,19 @@ abbrev pub time_counts : ℤ → List Count
 time_counts micros = time_with micros (seconds_counts (is_negative micros) (seconds_of micros) (subsecond_of micros))
 
 -- the count of a number that is part of z
-counted : (part : Part) (z : ℤ) (n : ℕ) (unit : TimeUnit) → n < 2 ^ 64 → magnitude part unit n 0 ≤ unsigned_abs z → IsTrue (fits_type part z) → AddsUp part (part_counts (is_negative z) n unit) (signed (is_negative z) (magnitude part unit n 0))
+counted : (part : Part) (z : ℤ) (n : ℕ) (unit : TimeUnit) → n < 2 ^ 64 → magnitude part unit n 0 ≤ unsigned_abs z
+    → IsTrue (fits_type part z)
+    → AddsUp part (part_counts (is_negative z) n unit) (signed (is_negative z) (magnitude part unit n 0))
 counted part z n unit small below fits = part_counts-sum part (is_negative z) n unit small (fits_type-smaller part z _ below fits)
 
 -- a count that has nothing of this part
-uncounted : (part : Part) (negative : Bool) (n : ℕ) (unit : TimeUnit) → n < 2 ^ 64 → magnitude part unit n 0 ≡ 0 → AddsUp part (part_counts negative n unit) (pos 0)
+uncounted : (part : Part) (negative : Bool) (n : ℕ) (unit : TimeUnit) → n < 2 ^ 64 → magnitude part unit n 0 ≡ 0
+    → AddsUp part (part_counts negative n unit) (pos 0)
 uncounted part negative n unit small none =
     AddsUp-same part _ _ _ (part_counts-sum part negative n unit small (rw none (fits_type-signed_zero part negative))) (rw none (signed-zero negative))
 
-date_counts-months : (months days : ℤ) → IsTrue (fits_type Months months) → IsTrue (fits_type Days days) → AddsUp Months (date_counts months days) months
+date_counts-months : (months days : ℤ) → IsTrue (fits_type Months months) → IsTrue (fits_type Days days)
+    → AddsUp Months (date_counts months days) months
 date_counts-months months days fit_months fit_days =
     let small : unsigned_abs months ≤ 2 ^ 63 = abs_fits Months months fit_months in
     AddsUp-same Months _ _ _
@@ -99,7 +107,8 @@ date_counts-months months days fit_months fit_days =
     (uncounted Months (is_negative days) (unsigned_abs days) Day (omega (arith, abs_fits Days days fit_days)) refl)))
     (omega (arith, ints, signed_two months (12 * years_of months + 0) (months_of months) (omega arith)))
 
-date_counts-days : (months days : ℤ) → IsTrue (fits_type Months months) → IsTrue (fits_type Days days) → AddsUp Days (date_counts months days) days
+date_counts-days : (months days : ℤ) → IsTrue (fits_type Months months) → IsTrue (fits_type Days days)
+    → AddsUp Days (date_counts months days) days
 date_counts-days months days fit_months fit_days =
     let small : unsigned_abs months ≤ 2 ^ 63 = abs_fits Months months fit_months in
     AddsUp-same Days _ _ _
@@ -108,7 +117,8 @@ date_counts-days months days fit_months fit_days =
     (counted Days days (unsigned_abs days) Day (omega (arith, abs_fits Days days fit_days)) (omega arith) fit_days)))
     (omega (arith, ints, signed-abs days))
 
-date_counts-micros : (months days : ℤ) → IsTrue (fits_type Months months) → IsTrue (fits_type Days days) → AddsUp Micros (date_counts months days) (pos 0)
+date_counts-micros : (months days : ℤ) → IsTrue (fits_type Months months) → IsTrue (fits_type Days days)
+    → AddsUp Micros (date_counts months days) (pos 0)
 date_counts-micros months days fit_months fit_days =
     let small : unsigned_abs months ≤ 2 ^ 63 = abs_fits Months months fit_months in
     AddsUp-append Micros _ _ _ _ (uncounted Micros (is_negative months) (years_of months) Year (omega arith) refl)
@@ -116,7 +126,9 @@ date_counts-micros months days fit_months fit_days =
     (uncounted Micros (is_negative days) (unsigned_abs days) Day (omega (arith, abs_fits Days days fit_days)) refl))
 
 -- the hours, minutes and seconds in microseconds
-pub time_parts : (micros : ℤ) → hours_of micros * 3_600_000_000 + (minutes_of micros * 60_000_000 + (seconds_of micros * 1_000_000 + subsecond_of micros)) ≡ unsigned_abs micros
+pub time_parts : (micros : ℤ)
+    → hours_of micros * 3_600_000_000 + (minutes_of micros * 60_000_000 + (seconds_of micros * 1_000_000 + subsecond_of micros))
+    ≡ unsigned_abs micros
 time_parts micros = omega arith
 
 -- one part of the seconds of a number of microseconds, by their counts
@@ -125,7 +137,8 @@ HasSeconds micros seconds =
     (part : Part) → IsTrue (fits_type part (signed (is_negative micros) (magnitude part Second (seconds_of micros) (subsecond_of micros))))
     → AddsUp part seconds (signed (is_negative micros) (magnitude part Second (seconds_of micros) (subsecond_of micros)))
 
-time_with-micros : (micros : ℤ) (seconds : List Count) → HasSeconds micros seconds → IsTrue (fits_type Micros micros) → AddsUp Micros (time_with micros seconds) micros
+time_with-micros : (micros : ℤ) (seconds : List Count) → HasSeconds micros seconds → IsTrue (fits_type Micros micros)
+    → AddsUp Micros (time_with micros seconds) micros
 time_with-micros micros seconds sum fits =
     let small : unsigned_abs micros ≤ 2 ^ 63 = abs_fits Micros micros fits in
     AddsUp-same Micros _ _ _
@@ -134,14 +147,16 @@ time_with-micros micros seconds sum fits =
     (sum Micros (fits_type-smaller Micros micros _ (omega arith) fits))))
     (signed_three (is_negative micros) micros _ _ _ (signed-abs micros) (omega (arith, time_parts micros)))
 
-time_with-months : (micros : ℤ) (seconds : List Count) → HasSeconds micros seconds → IsTrue (fits_type Micros micros) → AddsUp Months (time_with micros seconds) (pos 0)
+time_with-months : (micros : ℤ) (seconds : List Count) → HasSeconds micros seconds → IsTrue (fits_type Micros micros)
+    → AddsUp Months (time_with micros seconds) (pos 0)
 time_with-months micros seconds sum fits =
     let small : unsigned_abs micros ≤ 2 ^ 63 = abs_fits Micros micros fits in
     AddsUp-append Months _ _ _ _ (uncounted Months (is_negative micros) (hours_of micros) Hour (omega arith) refl)
     (AddsUp-append Months _ _ _ _ (uncounted Months (is_negative micros) (minutes_of micros) Minute (omega arith) refl)
     (AddsUp-same Months _ _ _ (sum Months (fits_type-signed_zero Months (is_negative micros))) (signed-zero (is_negative micros))))
 
-time_with-days : (micros : ℤ) (seconds : List Count) → HasSeconds micros seconds → IsTrue (fits_type Micros micros) → AddsUp Days (time_with micros seconds) (pos 0)
+time_with-days : (micros : ℤ) (seconds : List Count) → HasSeconds micros seconds → IsTrue (fits_type Micros micros)
+    → AddsUp Days (time_with micros seconds) (pos 0)
 time_with-days micros seconds sum fits =
     let small : unsigned_abs micros ≤ 2 ^ 63 = abs_fits Micros micros fits in
     AddsUp-append Days _ _ _ _ (uncounted Days (is_negative micros) (hours_of micros) Hour (omega arith) refl)
@@ -154,7 +169,8 @@ date_counts-sum t range =
     let days : IsTrue (fits_type Days t.days) = fits_32 t.days range.days in
     record { months = date_counts-months t.months t.days months days; days = date_counts-days t.months t.days months days; micros = date_counts-micros t.months t.days months days }
 
-pub time_with-sum : (t : Interval) (seconds : List Count) → IsInRange t → HasSeconds t.microseconds seconds → SumsTo (time_with t.microseconds seconds) (time_of t)
+pub time_with-sum : (t : Interval) (seconds : List Count) → IsInRange t → HasSeconds t.microseconds seconds
+    → SumsTo (time_with t.microseconds seconds) (time_of t)
 time_with-sum t seconds range sum =
     let fits : IsTrue (fits_type Micros t.microseconds) = fits_64 t.microseconds range.microseconds in
     record {

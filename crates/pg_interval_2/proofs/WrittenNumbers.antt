@@ -5,7 +5,8 @@ use Rattle.scan_core.specs.Number.{IsSign, IsNumber}
 use Rattle.pg_interval_2.specs.Parts.{minus}
 
 -- where one test chooses two values, each choice has what both values have together
-pub cond_two : {A B : Type 0} (b : Bool) (P : A → B → Type 0) (x y : A) (u v : B) → (b ≡ true → P x u) → (b ≡ false → P y v) → P (cond b x y) (cond b u v)
+pub cond_two : {A B : Type 0} (b : Bool) (P : A → B → Type 0) (x y : A) (u v : B) → (b ≡ true → P x u) → (b ≡ false → P y v)
+    → P (cond b x y) (cond b u v)
 cond_two true P x y u v h k = h refl
 cond_two false P x y u v h k = k refl
 
@@ -14,7 +15,8 @@ IsSign-minus plus true = refl
 IsSign-minus plus false = inl refl
 
 -- digits without a point
-pub IsNumber-whole : (plus negative : Bool) (whole : List ℕ) → AreDigits whole → 0 < length whole → IsNumber plus negative whole [] (minus negative ++ (whole ++ []))
+pub IsNumber-whole : (plus negative : Bool) (whole : List ℕ) → AreDigits whole → 0 < length whole
+    → IsNumber plus negative whole [] (minus negative ++ (whole ++ []))
 IsNumber-whole plus negative whole are some = record {
   sign = minus negative;
   tail = [];
@@ -26,7 +28,8 @@ IsNumber-whole plus negative whole are some = record {
 }
 
 -- digits, a point and digits
-pub IsNumber-point : (plus negative : Bool) (whole fraction : List ℕ) → AreDigits whole → AreDigits fraction → 0 < length fraction → IsNumber plus negative whole fraction (minus negative ++ (whole ++ (codes "." ++ fraction)))
+pub IsNumber-point : (plus negative : Bool) (whole fraction : List ℕ) → AreDigits whole → AreDigits fraction → 0 < length fraction
+    → IsNumber plus negative whole fraction (minus negative ++ (whole ++ (codes "." ++ fraction)))
 IsNumber-point plus negative whole fraction are behind some = record {
   sign = minus negative;
   tail = codes "." ++ fraction;

@@ -21,7 +21,8 @@ digit_is_alone d h = digit_value_digit d (digit_from_value d h)
 
 -- ---- the number of some of the digits
 
-pub number_of_more : (ds : List ℕ) (i : ℕ) → AreDigits ds → i < length ds → number_of (take (i + 1) ds) + 48 ≡ number_of (take i ds) * 10 + get_or ds i 0
+pub number_of_more : (ds : List ℕ) (i : ℕ) → AreDigits ds → i < length ds
+    → number_of (take (i + 1) ds) + 48 ≡ number_of (take i ds) * 10 + get_or ds i 0
 number_of_more ds i all h = omega (arith, digits_value_more 10 ds i h, digit_is ds i all h)
 
 pub number_of-take-le : (ds : List ℕ) (i : ℕ) → number_of (take i ds) ≤ number_of ds

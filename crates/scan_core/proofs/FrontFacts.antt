@@ -10,7 +10,8 @@ use Rattle.scan_core.proofs.DigitFacts.{digits_from_all, all_from_digits}
 -- ---- any test
 
 -- bytes that pass, behind which none does, are the front
-pub leading_of : (test : ℕ → Bool) (front rest : List ℕ) → list_all test front ≡ true → BeginsWithout test rest → leading test (front ++ rest) ≡ front
+pub leading_of : (test : ℕ → Bool) (front rest : List ℕ) → list_all test front ≡ true → BeginsWithout test rest
+    → leading test (front ++ rest) ≡ front
 leading_of test [] [] all n = refl
 leading_of test [] (b ∷ bs) all n = rw n refl
 leading_of test (c ∷ cs) rest all n = let p = and_parts (test c) (list_all test cs) all in rw p.0 (ap (λ (l : List ℕ). c ∷ l) (leading_of test cs rest p.1 n))
@@ -23,10 +24,12 @@ behind_none : (test : ℕ → Bool) (rest : List ℕ) → BeginsWithout test res
 behind_none test [] n = refl
 behind_none test (b ∷ bs) n = rw n refl
 
-pub behind_of : (test : ℕ → Bool) (front rest : List ℕ) → list_all test front ≡ true → BeginsWithout test rest → behind test (front ++ rest) ≡ rest
+pub behind_of : (test : ℕ → Bool) (front rest : List ℕ) → list_all test front ≡ true → BeginsWithout test rest
+    → behind test (front ++ rest) ≡ rest
 behind_of test front rest all n = behind_skips test front rest all ∙ behind_none test rest n
 
-all_if : (test : ℕ → Bool) (t : Bool) (b : ℕ) (bs : List ℕ) → test b ≡ t → list_all test bs ≡ true → list_all test (cond t (b ∷ bs) []) ≡ true
+all_if : (test : ℕ → Bool) (t : Bool) (b : ℕ) (bs : List ℕ) → test b ≡ t → list_all test bs ≡ true
+    → list_all test (cond t (b ∷ bs) []) ≡ true
 all_if test true b bs e h = rw (e, h) refl
 all_if test false b bs e h = refl
 
@@ -50,13 +53,16 @@ pub length-behind : (test : ℕ → Bool) (bytes : List ℕ) → length (behind 
 length-behind test [] = omega arith
 length-behind test (b ∷ bs) = shorter_if (test b) b bs (behind test bs) (length-behind test bs)
 
-behind_if : (test : ℕ → Bool) (t : Bool) (b n : ℕ) (bs rest : List ℕ) → test b ≡ t → b ∷ bs ≡ take (suc n) (cond t (b ∷ leading test bs) []) ++ rest
-    → ((more : List ℕ) → bs ≡ take n (leading test bs) ++ more → behind test more ≡ behind test bs) → behind test rest ≡ cond t (behind test bs) (b ∷ bs)
+behind_if : (test : ℕ → Bool) (t : Bool) (b n : ℕ) (bs rest : List ℕ) → test b ≡ t
+    → b ∷ bs ≡ take (suc n) (cond t (b ∷ leading test bs) []) ++ rest
+    → ((more : List ℕ) → bs ≡ take n (leading test bs) ++ more → behind test more ≡ behind test bs)
+    → behind test rest ≡ cond t (behind test bs) (b ∷ bs)
 behind_if test true b n bs rest is split below = below rest cc
 behind_if test false b n bs rest is split below = ap (behind test) (sym split) ∙ rw is refl
 
 -- behind some of the front stands what stands behind all of it
-pub behind_some : (test : ℕ → Bool) (n : ℕ) (bytes rest : List ℕ) → bytes ≡ take n (leading test bytes) ++ rest → behind test rest ≡ behind test bytes
+pub behind_some : (test : ℕ → Bool) (n : ℕ) (bytes rest : List ℕ) → bytes ≡ take n (leading test bytes) ++ rest
+    → behind test rest ≡ behind test bytes
 behind_some test zero bytes rest split = ap (behind test) (sym split)
 behind_some test (suc n) [] rest split = ap (behind test) (sym split)
 behind_some test (suc n) (b ∷ bs) rest split = behind_if test (test b) b n bs rest refl split (λ more. behind_some test n bs more)

@@ -46,7 +46,9 @@ pub join_values : {A C : Type 0} (IsPiece : List A → C → Type 0) (read : Lis
 join_values IsPiece read finds none x cs ds hx hy = (join_same IsPiece read finds x x [] [] cs ds hx hy refl none none).0
 
 -- two joins in a row are one
-pub IsJoin-append : {A C : Type 0} (IsPiece : List A → C → Type 0) (a b : List A) (xs ys : List C) → IsJoin IsPiece a xs → IsJoin IsPiece b ys → IsJoin IsPiece (a ++ b) (xs ++ ys)
+pub IsJoin-append : {A C : Type 0} (IsPiece : List A → C → Type 0) (a b : List A) (xs ys : List C) → IsJoin IsPiece a xs
+    → IsJoin IsPiece b ys
+    → IsJoin IsPiece (a ++ b) (xs ++ ys)
 IsJoin-append IsPiece a b [] ys h k = rw h k
 IsJoin-append IsPiece a b (x ∷ xs) ys h k =
     (h.0, h.1 ++ b, h.2, IsJoin-append IsPiece h.1 b xs ys h.3 k, ap (λ (all : List _). all ++ b) h.4 ∙ append_assoc h.0 h.1 b)
@@ -56,5 +58,7 @@ pub IsJoin-one : {A C : Type 0} (IsPiece : List A → C → Type 0) (piece : Lis
 IsJoin-one IsPiece piece x h = (piece, [], h, refl, sym (append-nil piece))
 
 -- one more piece at the end
-pub join_push : {A C : Type 0} (IsPiece : List A → C → Type 0) (x piece : List A) (cs : List C) (c : C) → IsJoin IsPiece x cs → IsPiece piece c → IsJoin IsPiece (x ++ piece) (cs ++ c ∷ [])
+pub join_push : {A C : Type 0} (IsPiece : List A → C → Type 0) (x piece : List A) (cs : List C) (c : C) → IsJoin IsPiece x cs
+    → IsPiece piece c
+    → IsJoin IsPiece (x ++ piece) (cs ++ c ∷ [])
 join_push IsPiece x piece cs c hx h = IsJoin-append IsPiece x piece cs (c ∷ []) hx (IsJoin-one IsPiece piece c h)

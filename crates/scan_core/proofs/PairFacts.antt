@@ -135,13 +135,15 @@ four_behind width n more fits =
     pair_behind width n each.0 fits
     ∙ ap (λ (l : List ℕ). l ++ padded 2 (n % 100)) (pair_behind (width - 2) (n / 100) each.1 (omega (arith, fits)) ∙ rw (less, front) refl)
 
-pub length-pair_behind : (width n : ℕ) → HasMore 100 3 width n → n < 2 ^ 64 → length (padded width n) ≡ length (padded (width - 2) (n / 100)) + 2
+pub length-pair_behind : (width n : ℕ) → HasMore 100 3 width n → n < 2 ^ 64
+    → length (padded width n) ≡ length (padded (width - 2) (n / 100)) + 2
 length-pair_behind width n more fits =
     ap length (pair_behind width n more fits)
     ∙ length-append (padded (width - 2) (n / 100)) (padded 2 (n % 100))
     ∙ ap (λ (k : ℕ). length (padded (width - 2) (n / 100)) + k) (length-two (n % 100) (omega arith))
 
-pub length-four_behind : (width n : ℕ) → HasMore 10000 5 width n → n < 2 ^ 64 → length (padded width n) ≡ length (padded (width - 4) (n / 10000)) + 4
+pub length-four_behind : (width n : ℕ) → HasMore 10000 5 width n → n < 2 ^ 64
+    → length (padded width n) ≡ length (padded (width - 4) (n / 10000)) + 4
 length-four_behind width n more fits =
     let split = ap length (four_behind width n more fits) ∙ length-append (padded (width - 4) (n / 10000) ++ padded 2 (n / 100 % 100)) (padded 2 (n % 100)) in
     let front = length-append (padded (width - 4) (n / 10000)) (padded 2 (n / 100 % 100)) in

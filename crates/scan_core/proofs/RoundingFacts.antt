@@ -18,7 +18,8 @@ tenth d q p h =
     ∙ ap (λ (x : ℕ). x / 10) (add-mul-div_right q d h ∙ omega arith)
 
 -- the fraction below its digits in the next smaller unit, cut
-pub cut-cons : (scale d : ℕ) (ds : List ℕ) → number_of (d ∷ ds) * scale / 10 ^ length (d ∷ ds) ≡ (digit_value d * scale + number_of ds * scale / 10 ^ length ds) / 10
+pub cut-cons : (scale d : ℕ) (ds : List ℕ)
+    → number_of (d ∷ ds) * scale / 10 ^ length (d ∷ ds) ≡ (digit_value d * scale + number_of ds * scale / 10 ^ length ds) / 10
 cut-cons scale d ds =
     let v = digit_value d in
     let p = 10 ^ length ds in
@@ -47,7 +48,8 @@ half_up v k n p h =
     ∙ ap (λ (x : ℕ). x / 10) (omega arith)
 
 -- the same fraction, rounded
-pub rounded-cons : (scale d : ℕ) (ds : List ℕ) → rounded scale (d ∷ ds) ≡ (digit_value d * scale + number_of ds * scale / 10 ^ length ds + 5) / 10
+pub rounded-cons : (scale d : ℕ) (ds : List ℕ)
+    → rounded scale (d ∷ ds) ≡ (digit_value d * scale + number_of ds * scale / 10 ^ length ds + 5) / 10
 unfolding rounded
 rounded-cons scale d ds =
     ap₂ (λ (n p : ℕ). (2 * n * scale + p) / (2 * p)) (number_of-cons d ds) (pow-suc 10 (length ds))
@@ -58,7 +60,8 @@ unfolding rounded
 rounded-nil scale = let none : 0 * scale ≡ 0 = omega arith in ap (λ (x : ℕ). (x + 1) / 2) none
 
 -- the same from the number of the digits and how many they are
-pub rounded_is : (scale : ℕ) (ds : List ℕ) (number digits : ℕ) → number_of ds ≡ number → length ds ≡ digits → (2 * number * scale + 10 ^ digits) / (2 * 10 ^ digits) ≡ rounded scale ds
+pub rounded_is : (scale : ℕ) (ds : List ℕ) (number digits : ℕ) → number_of ds ≡ number → length ds ≡ digits
+    → (2 * number * scale + 10 ^ digits) / (2 * 10 ^ digits) ≡ rounded scale ds
 unfolding rounded
 rounded_is scale ds number digits n d = rw (← n, ← d) refl
 

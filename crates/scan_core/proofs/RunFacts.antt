@@ -28,8 +28,9 @@ pub packed_push : (ls : List ℕ) (l : ℕ) → packed (ls ++ l ∷ []) ≡ pack
 packed_push ls l = packed_after 0 ls l
 
 -- what was passed is a run
-pub run_passed : (bytes : List ℕ) (old new : Place) (value : ℕ) → Passes bytes old new → new.at ≤ length new.text → list_all is_ascii_digit bytes ≡ true
-    → Knows (10 ^ 18) value (number_of bytes) → IsRun new.text (record { start = old.at; end = new.at; value = value })
+pub run_passed : (bytes : List ℕ) (old new : Place) (value : ℕ) → Passes bytes old new → new.at ≤ length new.text
+    → list_all is_ascii_digit bytes ≡ true → Knows (10 ^ 18) value (number_of bytes)
+    → IsRun new.text (record { start = old.at; end = new.at; value = value })
 run_passed bytes old new value p within all known =
     let here = between_passed bytes old new p in record {
       order = omega (arith, p.at);
@@ -39,8 +40,9 @@ run_passed bytes old new value p within all known =
     }
 
 -- or a word
-pub word_passed : (bytes : List ℕ) (old new : Place) (value : ℕ) → Passes bytes old new → new.at ≤ length new.text → list_all is_ascii_alphabetic bytes ≡ true
-    → Knows (2 ^ 56) value (packed bytes) → IsWord new.text (record { start = old.at; end = new.at; value = value })
+pub word_passed : (bytes : List ℕ) (old new : Place) (value : ℕ) → Passes bytes old new → new.at ≤ length new.text
+    → list_all is_ascii_alphabetic bytes ≡ true → Knows (2 ^ 56) value (packed bytes)
+    → IsWord new.text (record { start = old.at; end = new.at; value = value })
 word_passed bytes old new value p within all known =
     let here = between_passed bytes old new p in record {
       order = omega (arith, p.at);
@@ -62,7 +64,8 @@ power_grows : (n : ℕ) → n ≤ 12 → 10 ^ n ≤ 10 ^ 12
 power_grows n h = pow-le-pow_right {n = 10} (omega arith) {i = n} {j = 12} h
 
 -- of at most twelve digits the number is known
-pub run_exact : (text : List ℕ) (run : Run) → IsRun text run → run.end - run.start ≤ 12 → (run.value ≡ number_of (digits_of text run)) × (run.value < 10 ^ 12)
+pub run_exact : (text : List ℕ) (run : Run) → IsRun text run → run.end - run.start ≤ 12
+    → (run.value ≡ number_of (digits_of text run)) × (run.value < 10 ^ 12)
 run_exact text run is few =
     let long = run_length text run is in
     let below = number_of-lt (digits_of text run) is.digits in

@@ -18,7 +18,8 @@ passes_more xs ys old mid new p q = record {
 }
 
 -- the byte that was in front was passed
-pub front_passed : (b : ℕ) (passed : Option ℕ) (old new : Place) → passed ≡ front_byte (ahead old) → front_byte (ahead old) ≡ Some b → IfSome passed (λ byte. Passes (byte ∷ []) old new)
+pub front_passed : (b : ℕ) (passed : Option ℕ) (old new : Place) → passed ≡ front_byte (ahead old) → front_byte (ahead old) ≡ Some b
+    → IfSome passed (λ byte. Passes (byte ∷ []) old new)
     → Passes (b ∷ []) old new
 front_passed b passed old new is front passes = subst (λ (o : Option ℕ). IfSome o (λ byte. Passes (byte ∷ []) old new)) (is ∙ front) passes
 
@@ -46,14 +47,18 @@ among_none test place = record { all = refl; passed = passes_none place; front =
 both : (a b : Bool) → a ≡ true → b ≡ true → (a && (b && true)) ≡ true
 both a b p q = rw (p, q) refl
 
-leading_cons : (test : ℕ → Bool) (b : ℕ) (bytes rest : List ℕ) → test b ≡ true → bytes ≡ (b ∷ []) ++ rest → leading test bytes ≡ b ∷ leading test rest
+leading_cons : (test : ℕ → Bool) (b : ℕ) (bytes rest : List ℕ) → test b ≡ true → bytes ≡ (b ∷ []) ++ rest
+    → leading test bytes ≡ b ∷ leading test rest
 leading_cons test b bytes rest h e = rw e (rw h refl)
 
-behind_cons : (test : ℕ → Bool) (b : ℕ) (bytes rest : List ℕ) → test b ≡ true → bytes ≡ (b ∷ []) ++ rest → behind test bytes ≡ behind test rest
+behind_cons : (test : ℕ → Bool) (b : ℕ) (bytes rest : List ℕ) → test b ≡ true → bytes ≡ (b ∷ []) ++ rest
+    → behind test bytes ≡ behind test rest
 behind_cons test b bytes rest h e = rw e (rw h refl)
 
 -- one more byte of the class
-pub among_more : (test : ℕ → Bool) (bytes : List ℕ) (old mid new : Place) (b : ℕ) → IsAmong test bytes old mid → test b ≡ true → Passes (b ∷ []) mid new → IsAmong test (bytes ++ b ∷ []) old new
+pub among_more : (test : ℕ → Bool) (bytes : List ℕ) (old mid new : Place) (b : ℕ) → IsAmong test bytes old mid → test b ≡ true
+    → Passes (b ∷ []) mid new
+    → IsAmong test (bytes ++ b ∷ []) old new
 among_more test bytes old mid new b m h p = record {
   all = list_all-append test bytes (b ∷ []) ∙ both (list_all test bytes) (test b) m.all h;
   passed = passes_more bytes (b ∷ []) old mid new m.passed p;
@@ -62,7 +67,8 @@ among_more test bytes old mid new b m h p = record {
 }
 
 -- where none of the class is left, all were passed
-among_all : (test : ℕ → Bool) (bytes : List ℕ) (old new : Place) → IsAmong test bytes old new → leading test (ahead new) ≡ [] → leading test (ahead old) ≡ bytes
+among_all : (test : ℕ → Bool) (bytes : List ℕ) (old new : Place) → IsAmong test bytes old new → leading test (ahead new) ≡ []
+    → leading test (ahead old) ≡ bytes
 among_all test bytes old new m none = m.front ∙ ap (λ (l : List ℕ). bytes ++ l) none ∙ append-nil bytes
 
 pub record IsAll (test : ℕ → Bool) (bytes : List ℕ) (old new : Place) : Type 0 where
@@ -71,7 +77,8 @@ pub record IsAll (test : ℕ → Bool) (bytes : List ℕ) (old new : Place) : Ty
   pub all : list_all test bytes ≡ true
   pub passed : Passes bytes old new
 
-pub all_passed : (test : ℕ → Bool) (bytes : List ℕ) (old new : Place) → IsAmong test bytes old new → leading test (ahead new) ≡ [] → IsAll test bytes old new
+pub all_passed : (test : ℕ → Bool) (bytes : List ℕ) (old new : Place) → IsAmong test bytes old new → leading test (ahead new) ≡ []
+    → IsAll test bytes old new
 all_passed test bytes old new m none = record {
   front = among_all test bytes old new m none;
   rest = sym (leading_and_behind test (ahead new)) ∙ ap (λ (l : List ℕ). l ++ behind test (ahead new)) none ∙ sym m.rest;

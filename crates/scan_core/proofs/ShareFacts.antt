@@ -24,7 +24,8 @@ small_64 true (suc n) h = grind (arith, nat_tests)
 
 -- ---- the parts beside the main one
 
-main_or_fits : (part : Part) (unit : TimeUnit) (negative : Bool) (w r : ℕ) → r ≤ scale_of unit → (part ≡ main_part unit) ⊎ (fits_type part (signed negative (magnitude part unit w r)) ≡ true)
+main_or_fits : (part : Part) (unit : TimeUnit) (negative : Bool) (w r : ℕ) → r ≤ scale_of unit
+    → (part ≡ main_part unit) ⊎ (fits_type part (signed negative (magnitude part unit w r)) ≡ true)
 main_or_fits Months Year negative w r h = inl refl
 main_or_fits Months Month negative w r h = inl refl
 main_or_fits Months Week negative w r h = inr (small_32 negative 0 (omega arith))
@@ -60,7 +61,8 @@ other_part_fits part c digits other =
     ]
 
 -- each part fits where the main one does
-pub each_part_fits : (part : Part) (c : Count) → AreDigits c.fraction → fits_type (main_part c.unit) (share (main_part c.unit) c) ≡ true → fits_type part (share part c) ≡ true
+pub each_part_fits : (part : Part) (c : Count) → AreDigits c.fraction → fits_type (main_part c.unit) (share (main_part c.unit) c) ≡ true
+    → fits_type part (share part c) ≡ true
 each_part_fits part c digits main =
     elim (main_or_part_fits part c digits) [
       | inl same ↦ subst (λ (p : Part). fits_type p (share p c) ≡ true) (sym same) main

@@ -27,22 +27,26 @@ abbrev pub Serves : Bool → ℤ → Type 0
 Serves negative z = signed negative (unsigned_abs z) ≡ z
 
 -- a number of smaller magnitude and the same sign is within the same type
-is_within-le : (bits : ℕ) (negative : Bool) (m n : ℕ) → m ≤ n → IsTrue (is_within bits (signed negative n)) → IsTrue (is_within bits (signed negative m))
+is_within-le : (bits : ℕ) (negative : Bool) (m n : ℕ) → m ≤ n → IsTrue (is_within bits (signed negative n))
+    → IsTrue (is_within bits (signed negative m))
 is_within-le bits false m n below within = lt-ltb _ _ (omega (arith, ltb-true _ _ within))
 is_within-le bits true zero zero below within = within
 is_within-le bits true zero (suc n) below within = lt-ltb _ _ (omega (arith, ltb-true _ _ within))
 is_within-le bits true (suc m) zero below within = absurd (omega arith)
 is_within-le bits true (suc m) (suc n) below within = lt-ltb _ _ (omega (arith, ltb-true _ _ within))
 
-fits_type-le : (part : Part) (negative : Bool) (m n : ℕ) → m ≤ n → IsTrue (fits_type part (signed negative n)) → IsTrue (fits_type part (signed negative m))
+fits_type-le : (part : Part) (negative : Bool) (m n : ℕ) → m ≤ n → IsTrue (fits_type part (signed negative n))
+    → IsTrue (fits_type part (signed negative m))
 fits_type-le Months negative m n below within = is_within-le 32 negative m n below within
 fits_type-le Days negative m n below within = is_within-le 32 negative m n below within
 fits_type-le Micros negative m n below within = is_within-le 64 negative m n below within
 
-pub fits_type-serves : (part : Part) (negative : Bool) (z : ℤ) (m : ℕ) → Serves negative z → m ≤ unsigned_abs z → IsTrue (fits_type part z) → IsTrue (fits_type part (signed negative m))
+pub fits_type-serves : (part : Part) (negative : Bool) (z : ℤ) (m : ℕ) → Serves negative z → m ≤ unsigned_abs z → IsTrue (fits_type part z)
+    → IsTrue (fits_type part (signed negative m))
 fits_type-serves part negative z m serves below within = fits_type-le part negative m (unsigned_abs z) below (rw serves within)
 
-pub fits_type-smaller : (part : Part) (z : ℤ) (m : ℕ) → m ≤ unsigned_abs z → IsTrue (fits_type part z) → IsTrue (fits_type part (signed (is_negative z) m))
+pub fits_type-smaller : (part : Part) (z : ℤ) (m : ℕ) → m ≤ unsigned_abs z → IsTrue (fits_type part z)
+    → IsTrue (fits_type part (signed (is_negative z) m))
 fits_type-smaller part z m below within = fits_type-serves part (is_negative z) z m (signed-abs z) below within
 
 pub fits_type-zero : (part : Part) → IsTrue (fits_type part (pos 0))
@@ -67,7 +71,8 @@ abs_fits Micros z within = abs_within 64 z within
 pub signed_two : (z : ℤ) (m n : ℕ) → m + n ≡ unsigned_abs z → signed (is_negative z) m +ℤ signed (is_negative z) n ≡ z
 signed_two z m n whole = rw (signed-add (is_negative z) m n, whole) (signed-abs z)
 
-pub signed_three : (negative : Bool) (z : ℤ) (k m n : ℕ) → Serves negative z → k + (m + n) ≡ unsigned_abs z → signed negative k +ℤ (signed negative m +ℤ signed negative n) ≡ z
+pub signed_three : (negative : Bool) (z : ℤ) (k m n : ℕ) → Serves negative z → k + (m + n) ≡ unsigned_abs z
+    → signed negative k +ℤ (signed negative m +ℤ signed negative n) ≡ z
 signed_three negative z k m n serves whole = rw (signed-add negative m n, signed-add negative k (m + n), whole) serves
 
 pub int_eq-zero : (z : ℤ) → int_eq z (pos 0) ≡ true → z ≡ pos 0

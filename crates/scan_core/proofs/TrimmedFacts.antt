@@ -35,7 +35,8 @@ not_zero d h = grind (arith, nat_tests)
 
 -- a zero is dropped from the end
 pub zero_dropped : (width n : ℕ) → 0 < n → n < 2 ^ 64 → n % 10 ≡ 0
-    → (trimmed (padded width n) ≡ trimmed (padded (width - 1) (n / 10))) × (length (padded width n) ≡ length (padded (width - 1) (n / 10)) + 1)
+    → (trimmed (padded width n) ≡ trimmed (padded (width - 1) (n / 10)))
+    × (length (padded width n) ≡ length (padded (width - 1) (n / 10)) + 1)
 zero_dropped width n some fits none =
     let split = padded_more width n (omega (arith, some, none)) fits in
     let last = rw none at split in

@@ -53,7 +53,8 @@ last_length : (t : Bool) (b : ℕ) → cond t 0 1 + 0 ≡ total_length (cond t [
 last_length true b = refl
 last_length false b = refl
 
-first_length : (t u : Bool) (b n : ℕ) (ws : List (List ℕ)) → n ≡ total_length ws → cond t 0 1 + n ≡ total_length (cond t ws (cond u ((b ∷ []) ∷ ws) (onto_first b ws)))
+first_length : (t u : Bool) (b n : ℕ) (ws : List (List ℕ)) → n ≡ total_length ws
+    → cond t 0 1 + n ≡ total_length (cond t ws (cond u ((b ∷ []) ∷ ws) (onto_first b ws)))
 first_length true u b n ws h = omega (arith, h)
 first_length false true b n ws h = omega (arith, h)
 first_length false false b n ws h = let longer = onto_length b ws in omega (arith, h, longer)
@@ -67,7 +68,8 @@ inked : (b : ℕ) → is_blank b ≡ false → weight b ≡ 1
 inked b h = rw h refl
 
 -- the place of a byte that isn't blank is known by how many such bytes stand before it
-pub same_place : (xs ys s t : List ℕ) (b c : ℕ) → is_blank b ≡ false → is_blank c ≡ false → ink xs ≡ ink ys → xs ++ (b ∷ s) ≡ ys ++ (c ∷ t) → xs ≡ ys
+pub same_place : (xs ys s t : List ℕ) (b c : ℕ) → is_blank b ≡ false → is_blank c ≡ false → ink xs ≡ ink ys → xs ++ (b ∷ s) ≡ ys ++ (c ∷ t)
+    → xs ≡ ys
 same_place [] [] s t b c hb hc count e = refl
 same_place [] (y ∷ ys) s t b c hb hc count e =
     let heads : b ≡ y = cc in
@@ -90,7 +92,8 @@ onto_some : (b : ℕ) (ws : List (List ℕ)) → (w : List ℕ) × (more : List 
 onto_some b [] = (b ∷ [], [], refl)
 onto_some b (w ∷ more) = (b ∷ w, more, refl)
 
-begins_if : (t : Bool) (b : ℕ) (ws : List (List ℕ)) → (w : List ℕ) × (more : List (List ℕ)) × (cond t ((b ∷ []) ∷ ws) (onto_first b ws) ≡ w ∷ more)
+begins_if : (t : Bool) (b : ℕ) (ws : List (List ℕ))
+    → (w : List ℕ) × (more : List (List ℕ)) × (cond t ((b ∷ []) ∷ ws) (onto_first b ws) ≡ w ∷ more)
 begins_if true b ws = (b ∷ [], ws, refl)
 begins_if false b ws = onto_some b ws
 
@@ -106,7 +109,8 @@ behind_one : (t : Bool) (x : ℕ) (all rest : List (List ℕ)) → all ≡ rest 
 behind_one true x all rest h = h
 behind_one false x all rest h = ap (λ (l : List (List ℕ)). (x ∷ []) ∷ l) h
 
-behind_two : (t u : Bool) (x : ℕ) (all front rest : List (List ℕ)) → all ≡ front ++ rest → (u ≡ false → onto_first x (front ++ rest) ≡ onto_first x front ++ rest)
+behind_two : (t u : Bool) (x : ℕ) (all front rest : List (List ℕ)) → all ≡ front ++ rest
+    → (u ≡ false → onto_first x (front ++ rest) ≡ onto_first x front ++ rest)
     → cond t all (cond u ((x ∷ []) ∷ all) (onto_first x all)) ≡ cond t front (cond u ((x ∷ []) ∷ front) (onto_first x front)) ++ rest
 behind_two true u x all front rest h onto = h
 behind_two false true x all front rest h onto = ap (λ (l : List (List ℕ)). (x ∷ []) ∷ l) h
