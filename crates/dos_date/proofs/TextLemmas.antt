@@ -1,15 +1,11 @@
--- Numbers below 100 in two digits.
-use Rattle.std.proofs.Common.{◌≡◌, ℕ, ◌-◌, ◌/◌, ◌%◌, ◌^◌, ◌<◌, false, [], arith, ⊎_elim}
-use Rattle.std.proofs.lemmas.Bool.{cases_lt}
-use Rattle.std.proofs.lemmas.Fmt.{decimal_digit, decimal_step}
+-- Numbers in two digits.
+use Rattle.std.proofs.Common.{◌≡◌, ℕ, ◌-◌, ◌^◌, false, List, [], ◌++◌, length, replicate, append-nil, ap, ◌∙◌, arith}
 use Rattle.std.specs.Fmt.{padded_integral, format_spec, decimal, char_count}
-use Rattle.dos_date.specs.Text.{two_digits}
+use Rattle.scan_core.specs.Padded.{padded}
 
--- what `{:02}` writes of a number below 100
-pub padded_two : (n : ℕ) → n < 100
-    → padded_integral (format_spec 32 0 4 2 (2 ^ 64 - 1)) false [] (decimal n) ≡ two_digits n
+-- what `{:02}` writes of a number
+pub padded_two : (n : ℕ) → padded_integral (format_spec 32 0 4 2 (2 ^ 64 - 1)) false [] (decimal n) ≡ padded 2 n
 unfolding padded_integral char_count
-padded_two n small = ⊎_elim
-    (λ one. let high : n / 10 ≡ 0 = omega arith in let low : n % 10 ≡ n = omega arith in rw (decimal_digit n one, high, low))
-    (λ two. rw (decimal_step n two (omega arith), decimal_digit (n / 10) (omega arith)))
-    (cases_lt n 10)
+padded_two n =
+    let bare : 2 - length (decimal n) - 0 - 0 ≡ 2 - length (decimal n) = omega arith in
+    ap (λ (zeros : ℕ). replicate zeros 48 ++ (decimal n ++ [])) bare ∙ ap (λ (digits : List ℕ). replicate (2 - length (decimal n)) 48 ++ digits) (append-nil (decimal n))

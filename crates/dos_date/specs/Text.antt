@@ -1,19 +1,16 @@
 -- The written text of a DOS date-time: `YYYY-MM-DD HH:MM:SS`.
-use Rattle.std.specs.Prelude.{ℕ, ◌+◌, ◌*◌, ◌/◌, ◌%◌, List, [], ◌∷◌, ◌++◌, codes, decimal}
+use Rattle.std.specs.Prelude.{ℕ, ◌+◌, ◌*◌, List, ◌++◌, codes, decimal}
+use Rattle.scan_core.specs.Padded.{padded}
 use Rattle.dos_date.specs.Bits.{bits}
-
--- a number below 100 in two decimal digits
-abbrev pub two_digits : ℕ → List ℕ
-two_digits n = (48 + n / 10) ∷ (48 + n % 10) ∷ []
 
 -- a year of four digits, a month and a day
 abbrev pub day_text : ℕ → ℕ → ℕ → List ℕ
-day_text year month day = decimal year ++ codes "-" ++ two_digits month ++ codes "-" ++ two_digits day
+day_text year month day = decimal year ++ codes "-" ++ padded 2 month ++ codes "-" ++ padded 2 day
 
 -- an hour, a minute and a second
 abbrev pub clock_text : ℕ → ℕ → ℕ → List ℕ
 clock_text hour minute second =
-    two_digits hour ++ codes ":" ++ two_digits minute ++ codes ":" ++ two_digits second
+    padded 2 hour ++ codes ":" ++ padded 2 minute ++ codes ":" ++ padded 2 second
 
 -- the text of a date word and of a time word
 abbrev pub date_text : ℕ → List ℕ

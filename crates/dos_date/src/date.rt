@@ -82,7 +82,6 @@ impl Date {
 impl Display for Date {
     ghost output = { λ d. Some (date_text d) };
 
-    #[tactic(auto, using(crate::proofs::TextLemmas::padded_two))]
     fn fmt<W: fmt::Write>(&self, f: &mut fmt::Formatter<W>) -> fmt::Result {
         let (years, month, day) = fields(self.word);
         write!(f, "{}-{month:02}-{day:02}", 1980 + years)

@@ -81,7 +81,6 @@ impl Time {
 impl Display for Time {
     ghost output = { λ t. Some (time_text t) };
 
-    #[tactic(auto, using(crate::proofs::TextLemmas::padded_two))]
     fn fmt<W: fmt::Write>(&self, f: &mut fmt::Formatter<W>) -> fmt::Result {
         let (hour, minute, halved) = fields(self.word);
         write!(f, "{hour:02}:{minute:02}:{:02}", 2 * halved)

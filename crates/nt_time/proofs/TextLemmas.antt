@@ -1,28 +1,32 @@
 -- Numbers in decimal digits, and what a text that may begin with a plus reads as.
-use Rattle.std.proofs.Common.{◌≡◌, ℕ, ◌^◌, ◌<◌, ◌≤◌, ◌&&◌, true, List, [], ◌∷◌, Ok, Err, ◌⊎◌, ⊎_elim, inl, inr, refl, sym, ap, ◌∙◌, arith}
+use Rattle.std.proofs.Common.{◌≡◌, ℕ, ◌^◌, ◌<◌, ◌≤◌, List, [], ◌∷◌, ◌++◌, length, Ok, Err, ◌⊎◌, ⊎_elim, inl, inr, append-nil, refl, sym, ap, subst, ◌∙◌, ◌↔◌, arith}
 use Rattle.std.proofs.lemmas.Bool.{cases_eq}
-use Rattle.std.proofs.lemmas.Str.Parse.{IsNumeralModel, numerals_by_value, tells_all_ascii_digits, tells_digits, without_leading_plus_none, without_leading_plus_plus, not_in_digits}
-use Rattle.std.specs.Char.{is_ascii_digit}
-use Rattle.std.specs.List.{list_all}
-use Rattle.std.specs.Str.{all_ascii_digits}
+use Rattle.std.proofs.lemmas.List.{nil_from_length}
+use Rattle.std.proofs.lemmas.Str.Parse.{IsNumeralModel, numerals_by_value, tells_digits, without_leading_plus_none, without_leading_plus_plus, not_in_digits}
 use Rattle.std.specs.Str.Parse.{AllDigits, IsNumeral, digits_value, without_leading_plus}
 use Rattle.nt_time.specs.declared.error.ParseFileTimeCause.TheVariants.{Overflow}
+use Rattle.scan_core.specs.Fronts.{front_digits, after_digits}
+use Rattle.scan_core.proofs.FrontFacts.{front_of, after_of, front_are_digits, front_and_after}
 use Rattle.nt_time.specs.Text.{IsTextOf, IsReadFrom}
 
--- ---- digits
+-- ---- digits, and nothing behind them
 
-list_all-digits : (ds : List ℕ) → list_all is_ascii_digit ds ≡ all_ascii_digits ds
-list_all-digits [] = refl
-list_all-digits (d ∷ ds) = ap (λ rest. is_ascii_digit d && rest) (list_all-digits ds)
+numeral_of_front : (text : List ℕ) → 0 < length (front_digits text) → after_digits text ≡ [] → IsNumeral 10 text
+numeral_of_front text some none =
+    let whole : front_digits text ≡ text = sym (append-nil (front_digits text)) ∙ ap (λ (l : List ℕ). front_digits text ++ l) (sym none) ∙ front_and_after text in
+    subst (IsNumeral 10) whole (some, front_are_digits text)
 
-tested : IsNumeralModel (λ ds. all_ascii_digits ds ≡ true) (digits_value 10)
-tested = numerals_by_value _ tells_all_ascii_digits
+-- where digits stand in front, the text is a numeral exactly where nothing follows them
+pub some_digits : (text : List ℕ) → 0 < length (front_digits text) → (length (after_digits text) ≡ 0) ↔ IsNumeral 10 text
+some_digits text some = (
+  λ none. numeral_of_front text some (nil_from_length (after_digits text) none),
+  λ has. ap length (ap after_digits (sym (append-nil text)) ∙ after_of text [] has.1 tt),
+)
 
-pub AllDigits-from_test : (ds : List ℕ) → list_all is_ascii_digit ds ≡ true → AllDigits 10 ds
-AllDigits-from_test ds h = tested.to ds (sym (list_all-digits ds) ∙ h)
-
-pub test-from_AllDigits : (ds : List ℕ) → AllDigits 10 ds → list_all is_ascii_digit ds ≡ true
-test-from_AllDigits ds h = list_all-digits ds ∙ tested.from ds h
+pub no_digits : (text : List ℕ) → length (front_digits text) ≡ 0 → ¬ IsNumeral 10 text
+no_digits text none has =
+    let whole : length (front_digits text) ≡ length text = ap length (ap front_digits (sym (append-nil text)) ∙ front_of text [] has.1 tt) in
+    omega (arith, none, whole, has.0)
 
 -- ---- the text of a number is a numeral behind its plus
 

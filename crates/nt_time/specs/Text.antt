@@ -1,13 +1,13 @@
 -- The text of a file time: its raw count in decimal digits.
-use Rattle.std.specs.Prelude.{◌≡◌, ◌≢◌, ℕ, ◌^◌, ◌<◌, ◌≤◌, ◌⊎◌, ◌↔◌, List, [], ◌++◌, codes, Result, Ok, IfOk, IsErrOf}
-use Rattle.std.specs.Str.Parse.{IsNumeral, digits_value}
+use Rattle.std.specs.Prelude.{◌≡◌, ◌≢◌, ℕ, ◌^◌, ◌<◌, ◌≤◌, ◌⊎◌, ◌↔◌, List, [], ◌++◌, length, codes, Result, Ok, IfOk, IsErrOf}
+use Rattle.scan_core.specs.Digits.{AreDigits, number_of}
 use Rattle.nt_time.specs.declared.error.ParseFileTimeCause.{ParseFileTimeCause}
 use Rattle.nt_time.specs.declared.error.ParseFileTimeCause.TheVariants.{Empty, InvalidDigit, Overflow}
 
 -- the text is one decimal digit or more, with a plus before them or without, and they write n
 abbrev pub IsTextOf : List ℕ → ℕ → Type 0
 IsTextOf text n =
-    (digits : List ℕ) × IsNumeral 10 digits × (n ≡ digits_value 10 digits)
+    (digits : List ℕ) × ((0 < length digits) × AreDigits digits) × (n ≡ number_of digits)
     × ((text ≡ digits) ⊎ (text ≡ codes "+" ++ digits))
 
 -- the raw count that the text writes, or why there is none: the grammar comes before the size

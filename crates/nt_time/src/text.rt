@@ -1,12 +1,11 @@
 //! File times as texts: the raw count in decimal.
 ghost use Rattle.std.specs.Prelude.{◌≡◌, ◌↔◌, Some, decimal, IsTrue};
-ghost use Rattle.std.specs.Char.{is_ascii_digit};
-ghost use Rattle.std.specs.List.{list_all};
 ghost use Rattle.std.specs.Str.Parse.{IsNumeral, without_leading_plus};
 ghost use Rattle.nt_time.specs.Text.{IsReadFrom};
 
 use crate::FileTime;
 use crate::error::{ParseFileTimeCause, ParseFileTimeError};
+use scan_core::split_digits;
 use std::fmt;
 use std::fmt::Display;
 use std::str::FromStr;
@@ -48,15 +47,8 @@ impl FromStr for FileTime {
 fn is_number(text: &[u8]) -> bool
     ensures { IsTrue result ↔ IsNumeral 10 (without_leading_plus text.now) }
 {
-    let digits = without_plus(text);
-    !digits.is_empty() && are_digits(digits)
-}
-
-/// Whether each byte is an ASCII digit.
-fn are_digits(bytes: &[u8]) -> bool
-    ensures { result ≡ list_all is_ascii_digit bytes.now }
-{
-    bytes.iter().all(|byte| byte.is_ascii_digit())
+    let (digits, rest) = split_digits(without_plus(text));
+    !digits.is_empty() && rest.is_empty()
 }
 
 /// A text without the plus at its front.
