@@ -2,15 +2,13 @@
 use Rattle.std.proofs.Common.{◌≡◌, ◌&&◌, Bool, true, false, Option, Some, None, refl, ap}
 use Rattle.std.specs.Prelude.{◌↔◌, IsTrue}
 use Rattle.std.specs.Option.{option_eq}
-
-some_is : {A : Type 0} (a b : A) → Some a ≡ Some b → a ≡ b
-some_is a b h = cc
+use Rattle.std.proofs.lemmas.Option.{same_Some}
 
 pub option_is : {A : Type 0} (eq : A → A → Bool) → ((a b : A) → IsTrue (eq a b) ↔ (a ≡ b)) → (x y : Option A) → IsTrue (option_eq eq x y) ↔ (x ≡ y)
 option_is eq own None None = (λ h. refl, λ h. refl)
 option_is eq own None (Some b) = (λ h. absurd (cc), λ h. absurd (cc))
 option_is eq own (Some a) None = (λ h. absurd (cc), λ h. absurd (cc))
-option_is {A} eq own (Some a) (Some b) = (λ h. ap (λ (v : A). Some v) ((own a b).0 h), λ h. (own a b).1 (some_is a b h))
+option_is {A} eq own (Some a) (Some b) = (λ h. ap (λ (v : A). Some v) ((own a b).0 h), λ h. (own a b).1 (same_Some a b h))
 
 all_true : (x y z : Bool) → IsTrue (x && (y && z)) → IsTrue x × IsTrue y × IsTrue z
 all_true true true true h = (refl, refl, refl)

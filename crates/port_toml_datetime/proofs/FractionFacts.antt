@@ -2,7 +2,6 @@
 use Rattle.std.proofs.Common.{◌≡◌, ℕ, ◌+◌, ◌-◌, ◌*◌, ◌^◌, ◌<◌, ◌≤◌, inl, inr, min, true, List, [], ◌∷◌, ◌++◌, length, get_or, take, drop, replicate, codes, append-nil, append_assoc, refl, sym, ap, subst, ◌∙◌, arith, length-append}
 use Rattle.std.proofs.lemmas.Bool.{cases_lt}
 use Rattle.std.proofs.lemmas.List.{length-replicate, length-take-le, take-append-le, take-replicate, take_all, take_more, drop_more}
-use Rattle.std.proofs.lemmas.Bool.Decides.{nat_tests}
 use Rattle.std.proofs.Math.Nat.{pow-le-pow_right}
 use Rattle.std.proofs.Math.Seq.{take-append-add}
 use Rattle.std.specs.Char.{digit_value, is_ascii_digit}
@@ -11,6 +10,7 @@ use Rattle.scan_core.specs.Fronts.{front_digits, after_digits}
 use Rattle.scan_core.proofs.DigitFacts.{digit_is_alone, digits-append, digits-take, digits-zeros, digits_left, number_of-append, number_of-cons, number_of-lt, number_of-zeros}
 use Rattle.scan_core.proofs.FrontFacts.{front_are_digits}
 use Rattle.port_toml_datetime.specs.Times.{nanoseconds}
+use Rattle.port_toml_datetime.proofs.TokenFacts.{digit_is}
 
 abbrev pub nine : List ℕ → List ℕ
 nine ds = take 9 (ds ++ codes "000000000")
@@ -50,9 +50,6 @@ pub scaled : (ds : List ℕ) (len : ℕ) → len ≡ min (length ds) 9 → numbe
 unfolding nanoseconds
 scaled ds len e = sym (ap number_of (nine_split ds len e) ∙ number_filled (take len ds) (9 - len))
 
-value_of_digit : (b : ℕ) → is_ascii_digit b ≡ true → digit_value b < 10
-value_of_digit b h = grind (arith, nat_tests)
-
 -- one digit more of at most nine in front
 pub record IsOneMore (bytes : List ℕ) (len v d : ℕ) : Type 0 where
   pub front : front_digits bytes ≡ take (len + 1) bytes ++ front_digits (drop (len + 1) bytes)
@@ -64,7 +61,7 @@ pub one_more : (bytes : List ℕ) (len v d : ℕ) → front_digits bytes ≡ tak
     → v ≡ number_of (take len bytes) → d ≡ get_or bytes len 0 - 48 → IsOneMore bytes len v d
 one_more bytes len v d front within few is e f =
     let b : ℕ = get_or bytes len 0 in
-    let digit = value_of_digit b is in
+    let digit = digit_is b is in
     let here = digit_is_alone b digit in
     let split = drop_more bytes len 0 within in
     let more_front : front_digits (drop len bytes) ≡ (b ∷ []) ++ front_digits (drop (len + 1) bytes) = ap front_digits split ∙ rw is refl in

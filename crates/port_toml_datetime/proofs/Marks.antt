@@ -5,10 +5,6 @@ use Rattle.std.proofs.lemmas.Bool.Decides.{nat_tests}
 use Rattle.scan_core.specs.Fronts.{front_digits}
 use Rattle.port_toml_datetime.specs.Tokens.{first_token, after_token, is_of, is_mark, is_one_of, is_end}
 
-pub either : (b : Bool) → (b ≡ true) ⊎ (b ≡ false)
-either true = inl refl
-either false = inr refl
-
 of_if : (digit mark : Bool) (marks : List ℕ) (b : ℕ) (bs front : List ℕ) → is_of marks (cond digit (b ∷ front) (cond mark (b ∷ []) (b ∷ bs))) ≡ is_one_of marks b
 of_if true mark marks b bs front = refl
 of_if false true marks b bs front = refl
@@ -47,7 +43,7 @@ pub end_sound : (text : List ℕ) → is_end text ≡ true → text ≡ []
 end_sound [] h = refl
 end_sound (b ∷ bs) h = absurd (let no : false ≡ true = h in cc)
 
-delimiter_is : (b : ℕ) → is_one_of (codes "Tt ") b ≡ true → (b ≡ 84) ⊎ ((b ≡ 116) ⊎ (b ≡ 32))
+pub delimiter_is : (b : ℕ) → is_one_of (codes "Tt ") b ≡ true → (b ≡ 84) ⊎ ((b ≡ 116) ⊎ (b ≡ 32))
 delimiter_is b h = grind (arith, nat_tests)
 
 pub record IsMarkFirst (marks text rest : List ℕ) : Type 0 where

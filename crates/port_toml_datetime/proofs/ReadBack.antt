@@ -1,10 +1,11 @@
 -- The text of a well-formed date-time is in the grammar, with its value.
-use Rattle.std.proofs.Common.{◌≡◌, ℕ, zero, suc, ◌+◌, ◌-◌, ◌*◌, ◌/◌, ◌%◌, ◌^◌, ◌<◌, ◌≤◌, ◌==◌, ◌||◌, Bool, true, false, cond, ℤ, pos, negsuc, neg_ℤ, List, [], ◌∷◌, ◌++◌, length, take, replicate, decimal, Option, Some, None, append-nil, append_assoc, length-append, codes, refl, sym, ◌∙◌, ap, subst, arith, inl, inr}
+use Rattle.std.proofs.Common.{◌≡◌, ℕ, zero, suc, ◌+◌, ◌-◌, ◌*◌, ◌/◌, ◌%◌, ◌^◌, ◌<◌, ◌≤◌, ◌==◌, ◌||◌, Bool, true, false, cond, ℤ, pos, negsuc, neg_ℤ, List, [], ◌∷◌, ◌++◌, length, take, replicate, Option, Some, None, append-nil, append_assoc, length-append, codes, refl, sym, ◌∙◌, ap, subst, arith, inl, inr}
 use Rattle.std.proofs.lemmas.Fmt.{length-decimal-le}
 use Rattle.std.proofs.lemmas.List.{take_at, length-replicate, replicate-append-replicate}
 use Rattle.scan_core.specs.Digits.{AreDigits, number_of}
 use Rattle.scan_core.specs.Padded.{padded, trimmed}
-use Rattle.scan_core.proofs.DigitFacts.{digits-append, digits-zeros, digits_left, digits_decimal, number_of-zeros, number_of-decimal}
+use Rattle.scan_core.proofs.DigitFacts.{digits_left}
+use Rattle.scan_core.proofs.PaddedFacts.{length-padded, digits-padded, number_of-padded}
 use Rattle.port_toml_datetime.specs.declared.date.Date.{Date}
 use Rattle.port_toml_datetime.specs.declared.time.Time.{Time}
 use Rattle.port_toml_datetime.specs.declared.offset.Offset.{Offset}
@@ -23,13 +24,10 @@ use Rattle.port_toml_datetime.specs.WellFormed.{IsRealDay, AreRealSeconds, IsRea
 
 padded_field : (count lo hi n : ℕ) → 0 < count → n < 10 ^ count → n < 2 ^ 64 → lo ≤ n → n ≤ hi → IsField count lo hi (padded count n) n
 padded_field count lo hi n some small fits least most =
-    let short = length-decimal-le count n some small fits in
-    let zeros = length-replicate {A = ℕ} (count - length (decimal n)) 48 in
-    let all : length (padded count n) ≡ length {A = ℕ} (replicate (count - length (decimal n)) 48) + length (decimal n) = rw length-append refl in
     record {
-      long = omega (arith, all, zeros, short);
-      digits = digits-append (replicate (count - length (decimal n)) 48) (decimal n) (digits-zeros _) (digits_decimal n fits);
-      number = sym (number_of-zeros (count - length (decimal n)) (decimal n) ∙ number_of-decimal n fits);
+      long = omega (arith, length-padded count n, length-decimal-le count n some small fits);
+      digits = digits-padded count n fits;
+      number = sym (number_of-padded count n fits);
       least = least;
       most = most;
     }

@@ -1,9 +1,8 @@
 -- No check fails exactly for the texts of the grammar.
-use Rattle.std.proofs.Common.{◌≡◌, ℕ, ◌⊎◌, Bool, true, false, cond, List, [], ◌∷◌, ◌++◌, Option, Some, None, append-nil, append_assoc, codes, refl, sym, ◌∙◌, ap, subst, arith, inl, inr}
+use Rattle.std.proofs.Common.{◌≡◌, ℕ, Bool, true, false, cond, List, [], ◌∷◌, ◌++◌, Option, Some, None, append-nil, append_assoc, codes, refl, sym, ◌∙◌, ap, subst, arith, inl, inr}
 use Rattle.std.specs.Prelude.{Result, Ok, Err, IfOk, IfErr}
 use Rattle.port_toml_datetime.specs.declared.error.DatetimeParseError.{DatetimeParseError}
 use Rattle.port_toml_datetime.specs.Faults.{fault_of}
-use Rattle.std.proofs.lemmas.Bool.Decides.{nat_tests}
 use Rattle.port_toml_datetime.specs.declared.date.Date.{Date}
 use Rattle.port_toml_datetime.specs.declared.time.Time.{Time}
 use Rattle.port_toml_datetime.specs.declared.offset.Offset.{Offset}
@@ -17,7 +16,7 @@ use Rattle.port_toml_datetime.specs.Checks.{Row, first_failing, time_rows, after
 use Rattle.port_toml_datetime.specs.inside.Values.{time_of, date_of, offset_of, date_time_of, tail_of, value_of}
 use Rattle.scan_core.specs.Fronts.{NoDigitFirst}
 use Rattle.port_toml_datetime.proofs.TokenFacts.{IsFront, run_sound}
-use Rattle.port_toml_datetime.proofs.Marks.{mark_sound, either_sound, end_sound, of_first}
+use Rattle.port_toml_datetime.proofs.Marks.{mark_sound, either_sound, end_sound, of_first, delimiter_is}
 use Rattle.port_toml_datetime.proofs.Rows.{none_if, all_hold, none_in_both, failing_behind}
 use Rattle.port_toml_datetime.proofs.FieldFacts.{field_run}
 use Rattle.port_toml_datetime.proofs.DateTable.{date_sound, date_exact}
@@ -54,9 +53,6 @@ full_time_sound date date_text delimiter text is delimits h =
       joined = ap (λ (l : List ℕ). date_text ++ (delimiter ++ l)) split;
       made = refl;
     }
-
-delimiter_is : (b : ℕ) → is_one_of (codes "Tt ") b ≡ true → (b ≡ 84) ⊎ ((b ≡ 116) ⊎ (b ≡ 32))
-delimiter_is b h = grind (arith, nat_tests)
 
 tail_sound : (date : Date) (date_text text : List ℕ) → IsDate date_text date → first_failing (tail_rows text) ≡ None → IsDatetime (date_text ++ text) (tail_of date text)
 unfolding tail_rows tail_of

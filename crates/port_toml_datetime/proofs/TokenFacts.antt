@@ -2,16 +2,13 @@
 use Rattle.std.proofs.Common.{◌≡◌, ℕ, ◌<◌, ◌==◌, Bool, true, false, cond, List, [], ◌∷◌, ◌++◌, length, refl, sym, ◌∙◌, ap, arith}
 use Rattle.std.specs.Char.{is_ascii_digit, digit_value}
 use Rattle.std.proofs.lemmas.Bool.Decides.{nat_tests}
-use Rattle.std.proofs.lemmas.Str.Parse.{digit_from_value}
 use Rattle.scan_core.specs.Digits.{AreDigits}
 use Rattle.scan_core.specs.Fronts.{front_digits, after_digits, NoDigitFirst}
+use Rattle.scan_core.proofs.DigitFacts.{test_from_digit}
 use Rattle.scan_core.proofs.FrontFacts.{front_of, after_of, front_are_digits, front_and_after}
 use Rattle.port_toml_datetime.specs.Tokens.{first_token, after_token, is_digits, is_mark}
 
-is_digit : (c : ℕ) → digit_value c < 10 → is_ascii_digit c ≡ true
-is_digit c h = let r = digit_from_value c h in grind (arith, nat_tests)
-
-digit_is : (c : ℕ) → is_ascii_digit c ≡ true → digit_value c < 10
+pub digit_is : (c : ℕ) → is_ascii_digit c ≡ true → digit_value c < 10
 digit_is c h = grind (arith, nat_tests)
 
 -- ---- digits in front are a token
@@ -24,7 +21,7 @@ pub record IsRun (digits text rest : List ℕ) : Type 0 where
 pub run_exact : (digits rest : List ℕ) → 0 < length digits → AreDigits digits → NoDigitFirst rest → IsRun digits (digits ++ rest) rest
 run_exact [] rest some d n = absurd (omega arith)
 run_exact (c ∷ cs) rest some d n =
-    let yes = is_digit c d.0 in
+    let yes = test_from_digit c d.0 in
     record { is = rw (yes, yes) refl; first = rw yes (ap (λ (ds : List ℕ). c ∷ ds) (front_of cs rest d.1 n)); follows = rw yes (after_of cs rest d.1 n) }
 
 -- what a token of digits is
