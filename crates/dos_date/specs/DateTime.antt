@@ -23,7 +23,8 @@ IsAt year month day hour minute second civil =
     × (civil.time.subsec_nanosecond ≡ 0)
 
 -- the words of a civil moment, or the bound that it passes: the years are 1980 to 2107
-pub record IsFromCivil (civil : CivilDateTime) (result : Result Words DosRangeErrorKind) : Type 0 where
+pub record IsFromCivil (civil : CivilDateTime) (result : Result Words DosRangeErrorKind)
+    : Type 0 where
   pub ok : IfOk result (IsCutTo civil)
   pub negative : IsErrOf result Negative ↔ (civil.date.year <ℤ pos 1980)
   pub overflow : IsErrOf result Overflow ↔ (pos 2107 <ℤ civil.date.year)

@@ -1,5 +1,5 @@
--- The time word of MS-DOS, as Microsoft's "MS-DOS Date and Time" lays it out: the second divided by 2
--- in bits 0 to 4, the minute in bits 5 to 10, the hour in bits 11 to 15.
+-- The time word of MS-DOS, as Microsoft's "MS-DOS Date and Time" lays it out: the second divided by
+-- 2 in bits 0 to 4, the minute in bits 5 to 10, the hour in bits 11 to 15.
 use Rattle.std.specs.Prelude.{◌≡◌, ℕ, ◌+◌, ◌*◌, ◌^◌, ◌<◌, ◌≤◌}
 use Rattle.jiff.specs.Types.{Time}
 use Rattle.dos_date.specs.Bits.{bits}

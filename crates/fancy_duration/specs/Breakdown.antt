@@ -1,5 +1,5 @@
--- The breakdown of a length: how many years there are in it, then how many months in what is left, and so on
--- down to nanoseconds.
+-- The breakdown of a length: how many years there are in it, then how many months in what is left,
+-- and so on down to nanoseconds.
 use Rattle.std.specs.Prelude.{ℕ, ◌+◌, ◌*◌, ◌/◌, ◌%◌, ◌==◌, List, [], ◌∷◌, take, filter, if◌then◌else◌}
 use Rattle.std.specs.List.{list_any}
 use Rattle.fancy_duration.specs.declared.part.DurationPart.{DurationPart}
@@ -35,7 +35,8 @@ abbrev pub from_first : List PartCount → List PartCount
 from_first [] = []
 from_first (c ∷ counts) = if c.count == 0 then from_first counts else c ∷ counts
 
--- the length that is left where, from the first count above 0 on, `limit` counts stay and all later ones are 0
+-- the length that is left where, from the first count above 0 on, `limit` counts stay and all later
+-- ones are 0
 unfoldable pub truncated : ℕ → ℕ → ℕ
 truncated limit nanos = nanos_in (take limit (from_first (breakdown nanos)))
 

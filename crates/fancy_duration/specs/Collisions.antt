@@ -1,9 +1,11 @@
--- Where the written texts are ambiguous: `m` is months and minutes, and what it is read as hangs on what follows it.
+-- Where the written texts are ambiguous: `m` is months and minutes, and what it is read as hangs on
+-- what follows it.
 use Rattle.std.specs.Prelude.{◌≡◌, ℕ, ◌<◌, ◌≤◌, ◌⊎◌}
 use Rattle.fancy_duration.specs.declared.part.DurationPart.TheVariants.{Years, Months, Weeks, Days, Hours, Minutes, Seconds, Milliseconds, Microseconds, Nanoseconds}
 use Rattle.fancy_duration.specs.Breakdown.{count_of}
 
--- a length has months, and no weeks, days, hours or minutes, so that its written `m` is read as minutes
+-- a length has months, and no weeks, days, hours or minutes, so that its written `m` is read as
+-- minutes
 pub record MonthsStandAlone (nanos : ℕ) : Type 0 where
   pub months : 0 < count_of Months nanos
   pub weeks : count_of Weeks nanos ≡ 0
@@ -11,7 +13,8 @@ pub record MonthsStandAlone (nanos : ℕ) : Type 0 where
   pub hours : count_of Hours nanos ≡ 0
   pub minutes : count_of Minutes nanos ≡ 0
 
--- one length has k months and no minutes, the other k minutes and no months, nothing stands between, and all else is equal
+-- one length has k months and no minutes, the other k minutes and no months, nothing stands
+-- between, and all else is equal
 pub record Swaps (k : ℕ) (first second : ℕ) : Type 0 where
   pub some : 1 ≤ k
   pub within : k ≤ 11

@@ -8,8 +8,9 @@ use Rattle.fancy_duration.specs.Times.{nanos_of, times_of}
 abbrev pub duration_times : Duration → ℕ × ℕ
 duration_times d = times_of (as_nanos d)
 
--- A pair that a duration can be made of: its nanoseconds are in 32 bits and the whole seconds in 64. The second case
--- is the condition that each type has, which the first covers for every duration that there is.
+-- A pair that a duration can be made of: its nanoseconds are in 32 bits and the whole seconds in
+-- 64. The second case is the condition that each type has, which the first covers for every
+-- duration that there is.
 abbrev pub CanMake : Duration → ℕ → ℕ → Type 0
 CanMake from secs nanos =
     ((nanos < 2 ^ 32) × (secs + nanos / 1_000_000_000 < 2 ^ 64))

@@ -1,5 +1,6 @@
--- The items of a text: each maximal run of ASCII digits that an ASCII letter follows, with its unit, which is
--- that letter, and the next byte with it where that is a letter too. All other bytes are passed over.
+-- The items of a text: each maximal run of ASCII digits that an ASCII letter follows, with its
+-- unit, which is that letter, and the next byte with it where that is a letter too. All other bytes
+-- are passed over.
 use Rattle.std.specs.Prelude.{◌≡◌, ℕ, ◌<◌, Bool, true, false, not, ◌&&◌, List, [], ◌∷◌, ◌++◌, length, IsTrue}
 use Rattle.std.specs.Char.{is_ascii_digit as is_digit, is_ascii_alphabetic as is_letter}
 use Rattle.scan_core.specs.Digits.{AreDigits}

@@ -23,8 +23,10 @@ pub record IsNotHeld (holds : ℕ → ℕ → Type 0) (text : List ℕ) : Type 0
   pub denoted : Denotes text times
   pub refused : ¬ (holds times.0 times.1)
 
--- what a parser of a type answers, where the type's values have these times and it holds these pairs
-pub record Parses {T : Type 0} (times : T → ℕ × ℕ) (holds : ℕ → ℕ → Type 0) (text : List ℕ) (result : Result T FancyError) : Type 0 where
+-- what a parser of a type answers, where the type's values have these times and it holds these
+-- pairs
+pub record Parses {T : Type 0} (times : T → ℕ × ℕ) (holds : ℕ → ℕ → Type 0) (text : List ℕ)
+    (result : Result T FancyError) : Type 0 where
   pub ok : IfOk result (λ d. Denotes text (times d))
   pub held : IfOk result (λ d. holds (times d).0 (times d).1)
   pub too_big : IsErrOf result TooBig ↔ IsTooBig text

@@ -1,11 +1,14 @@
--- The ten parts of a duration, as the crate `fancy-duration` reckons them: a year is 360 days and a month 30.
+-- The ten parts of a duration, as the crate `fancy-duration` reckons them: a year is 360 days and a
+-- month 30.
 use Rattle.std.specs.Prelude.{ℕ, ◌*◌, Bool, ◌==◌, List, [], ◌∷◌, codes}
 use Rattle.fancy_duration.specs.declared.part.DurationPart.{DurationPart}
 use Rattle.fancy_duration.specs.declared.part.DurationPart.TheVariants.{Years, Months, Weeks, Days, Hours, Minutes, Seconds, Milliseconds, Microseconds, Nanoseconds}
 
 -- from the greatest to the least
 abbrev pub all_parts : List DurationPart
-all_parts = Years ∷ Months ∷ Weeks ∷ Days ∷ Hours ∷ Minutes ∷ Seconds ∷ Milliseconds ∷ Microseconds ∷ Nanoseconds ∷ []
+all_parts =
+    Years ∷ Months ∷ Weeks ∷ Days ∷ Hours ∷ Minutes ∷ Seconds
+    ∷ Milliseconds ∷ Microseconds ∷ Nanoseconds ∷ []
 
 -- nanoseconds in one of the part
 abbrev pub weight_of : DurationPart → ℕ

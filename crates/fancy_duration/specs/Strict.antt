@@ -1,5 +1,6 @@
--- The strict texts, which are nothing but counts: `0`, or one or more of digits, a unit, and any number of blanks.
--- Behind a unit stands a digit, a blank or the end, so the letters of a unit are a maximal run.
+-- The strict texts, which are nothing but counts: `0`, or one or more of digits, a unit, and any
+-- number of blanks. Behind a unit stands a digit, a blank or the end, so the letters of a unit are
+-- a maximal run.
 use Rattle.std.specs.Prelude.{◌≡◌, ℕ, ◌<◌, ◌⊎◌, List, ◌++◌, length, codes, IsTrue}
 use Rattle.std.specs.List.{list_all}
 use Rattle.scan_core.specs.Digits.{AreDigits}

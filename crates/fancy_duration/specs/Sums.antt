@@ -1,5 +1,6 @@
--- What a text of counts and units adds up to, in nanoseconds. The documentation of the Rust crate `fancy-duration`
--- calls the rule for `m` an order: months "must appear before" minutes and the units from hours to years.
+-- What a text of counts and units adds up to, in nanoseconds. The documentation of the Rust crate
+-- `fancy-duration` calls the rule for `m` an order: months "must appear before" minutes and the
+-- units from hours to years.
 use Rattle.std.specs.Prelude.{◌≡◌, ℕ, ◌+◌, ◌*◌, Bool, true, not, ◌&&◌, List, [], ◌∷◌, codes, find, bytes_eq, Option}
 use Rattle.std.specs.List.{list_any}
 use Rattle.std.specs.Option.{option_map_or}
@@ -17,7 +18,8 @@ is_long unit =
 abbrev pub long_follows : List Item → Bool
 long_follows later = list_any (λ item. is_long item.unit) later
 
--- of the two parts that `m` names, months are meant exactly where a long unit follows later, and minutes elsewhere
+-- of the two parts that `m` names, months are meant exactly where a long unit follows later, and
+-- minutes elsewhere
 abbrev pub can_be : DurationPart → Bool → Bool
 can_be Months long = long
 can_be Minutes long = not long

@@ -12,7 +12,8 @@ piece c = decimal c.count ++ unit_of c.part
 abbrev pub above_zero : List PartCount → List PartCount
 above_zero counts = filter (λ c. nat_lt 0 c.count) counts
 
--- `0` for no length, and else the counts above 0 with their units, from the greatest part on, one space between
+-- `0` for no length, and else the counts above 0 with their units, from the greatest part on, one
+-- space between
 unfoldable pub written : ℕ → List ℕ
 written nanos =
     if nanos == 0

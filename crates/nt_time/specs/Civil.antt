@@ -28,11 +28,12 @@ pub record IsTimestampFrom (ticks : ℕ) (result : Result Timestamp OutOfCivil) 
   pub ok : IfOk result (λ instant. instant.nanosecond ≡ unix_nanos ticks)
   pub out : IsErr result ↔ (pos 253_402_207_200_999_999_999 <ℤ unix_nanos ticks)
 
--- the DOS date-time of a tick: that of its civil date-time in UTC, and too late after the year 9999.
--- The years 1980 to 2107 are those from tick 119_600_064_000_000_000 on and before tick
+-- the DOS date-time of a tick: that of its civil date-time in UTC, and too late after the year
+-- 9999. The years 1980 to 2107 are those from tick 119_600_064_000_000_000 on and before tick
 -- 159_992_928_000_000_000.
 pub record IsDosFrom (ticks : ℕ) (result : Result Words DosRangeErrorKind) : Type 0 where
-  pub civil : ticks < past_civil → (civil : DateTime) × IsUtcOf ticks civil × IsFromCivil civil result
+  pub civil : ticks < past_civil
+      → (civil : DateTime) × IsUtcOf ticks civil × IsFromCivil civil result
   pub beyond : past_civil ≤ ticks → IsErrOf result Overflow
   pub negative : IsErrOf result Negative ↔ (ticks < 119_600_064_000_000_000)
   pub overflow : IsErrOf result Overflow ↔ (159_992_928_000_000_000 ≤ ticks)

@@ -18,7 +18,8 @@ CanAddTicks ticks nanos = 100 * ticks + nanos < 100 * 2 ^ 64
 abbrev pub CanSubTicks : ℕ → ℕ → Type 0
 CanSubTicks ticks nanos = nanos < 100 * (ticks + 1)
 
--- `to` lies the whole ticks of a signed length after `from`, or before it where the length is negative
+-- `to` lies the whole ticks of a signed length after `from`, or before it where the length is
+-- negative
 abbrev pub IsMovedBy : ℤ → ℕ → ℕ → Type 0
 IsMovedBy (pos nanos) from to = IsAfterBy nanos from to
 IsMovedBy (negsuc n) from to = IsAfterBy (suc n) to from

@@ -1,6 +1,7 @@
--- The table of checks, one line each: what must hold, which part is wrong where it doesn't, and what was expected. They stand in the
--- order in which they are made, and the first that fails decides. TOML has no such table: order and words are those of the Rust crate.
--- A check is total in the text. Behind one that fails, later checks may mean nothing; nobody looks at them.
+-- The table of checks, one line each: what must hold, which part is wrong where it doesn't, and
+-- what was expected. They stand in the order in which they are made, and the first that fails
+-- decides. TOML has no such table: order and words are those of the Rust crate. A check is total in
+-- the text. Behind one that fails, later checks may mean nothing; nobody looks at them.
 use Rattle.std.specs.Prelude.{ℕ, Bool, true, ◌||◌, ◌&&◌, ◌==◌, nat_le, List, [], ◌∷◌, ◌++◌, length, codes, Option, Some, None, option_map, is_some, if◌then◌else◌}
 use Rattle.scan_core.specs.Digits.{number_of}
 use Rattle.port_toml_datetime.specs.Dates.{days_in_month}
@@ -64,7 +65,7 @@ date_rows year text =
 abbrev pub after_date : List ℕ → List ℕ
 after_date text = after 3 text
 
--- ---- a time, from behind the `:` that follows the hour: that the hour is digits and the colon is there was checked before
+-- ---- a time, from behind the `:` that follows the hour; that both are there was checked before
 
 -- what stands behind a mark, where the mark is there, and what follows both
 abbrev pub marked : List ℕ → List ℕ → Option (List ℕ)
@@ -93,11 +94,14 @@ time_rows hour text =
     ∷ row (where_there (has_length 2) second) (codes "time") (codes "a two-digit second (SS)")
     ∷ row (nat_le (number_of hour) 23) (codes "time") (codes "hour between 00 and 23")
     ∷ row (nat_le (number_of minute) 59) (codes "time") (codes "minute between 00 and 59")
-    ∷ row (where_there (λ n. nat_le n 60) (option_map number_of second)) (codes "time") (codes "second between 00 and 60")
+    ∷ row (where_there (λ n. nat_le n 60) (option_map number_of second))
+    (codes "time") (codes "second between 00 and 60")
     ∷ []
 
 unfoldable pub after_time : List ℕ → List ℕ
-after_time text = after_fraction (is_some (marked (codes ":") (after 1 text))) (after_marked (codes ":") (after 1 text))
+after_time text =
+    after_fraction (is_some (marked (codes ":") (after 1 text)))
+    (after_marked (codes ":") (after 1 text))
 
 -- ---- behind a date
 
@@ -123,8 +127,10 @@ numeric_offset_rows text =
 -- the end, `Z`, or a signed offset
 unfoldable pub offset_rows : List ℕ → List Row
 offset_rows text =
-    row (is_end text || is_of (codes "Zz+-") (token 0 text)) (codes "offset") (codes "`Z`, +OFFSET, -OFFSET")
-    ∷ (if is_of (codes "+-") (token 0 text) then numeric_offset_rows (after 1 text) else end_row (after 1 text) ∷ [])
+    row (is_end text || is_of (codes "Zz+-") (token 0 text))
+    (codes "offset") (codes "`Z`, +OFFSET, -OFFSET")
+    ∷ (if is_of (codes "+-") (token 0 text) then numeric_offset_rows (after 1 text)
+    else end_row (after 1 text) ∷ [])
 
 -- a time from its start, and perhaps an offset
 unfoldable pub full_time_rows : List ℕ → List Row
@@ -136,7 +142,8 @@ full_time_rows text =
 -- the end, or a delimiter and a time
 unfoldable pub tail_rows : List ℕ → List Row
 tail_rows text =
-    row (is_end text || is_of (codes "Tt ") (token 0 text)) (codes "date-time") (codes "`T` between date and time")
+    row (is_end text || is_of (codes "Tt ") (token 0 text))
+    (codes "date-time") (codes "`T` between date and time")
     ∷ (if is_end text then [] else full_time_rows (after 1 text))
 
 -- ---- the whole table
@@ -152,4 +159,5 @@ unfoldable pub checks : List ℕ → List Row
 checks text =
     bare_row (is_digits (token 0 text)) (Some (codes "year or hour"))
     ∷ bare_row (is_of (codes "-:") (token 1 text)) (Some (codes "`-` (YYYY-MM) or `:` (HH:MM)"))
-    ∷ (if is_of (codes ":") (token 1 text) then local_time_rows (token 0 text) (after 2 text) else dated_rows (token 0 text) (after 2 text))
+    ∷ (if is_of (codes ":") (token 1 text) then local_time_rows (token 0 text) (after 2 text)
+    else dated_rows (token 0 text) (after 2 text))

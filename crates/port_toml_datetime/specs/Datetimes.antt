@@ -1,5 +1,6 @@
--- Date-times, by the TOML specification 1.1: sections "Offset Date-Time", "Local Date-Time", "Local Date" and "Local Time". A text is a
--- date, a time, or both with an offset or without. None of these goes before another.
+-- Date-times, by the TOML specification 1.1: sections "Offset Date-Time", "Local Date-Time", "Local
+-- Date" and "Local Time". A text is a date, a time, or both with an offset or without. None of
+-- these goes before another.
 use Rattle.std.specs.Prelude.{◌≡◌, ◌⊎◌, ℕ, List, [], ◌++◌, codes, Option, Some, None}
 use Rattle.port_toml_datetime.specs.Dates.{IsDate}
 use Rattle.port_toml_datetime.specs.Times.{IsTime}
@@ -18,9 +19,11 @@ datetime_of d t o = record { date = d; time = t; offset = o }
 
 -- an offset, or nothing
 abbrev pub IsPerhapsOffset : List ℕ → Option Offset → Type 0
-IsPerhapsOffset text offset = ((text ≡ []) × (offset ≡ None)) ⊎ ((o : Offset) × IsOffset text o × (offset ≡ Some o))
+IsPerhapsOffset text offset =
+    ((text ≡ []) × (offset ≡ None)) ⊎ ((o : Offset) × IsOffset text o × (offset ≡ Some o))
 
--- an offset date-time or a local date-time: a date, a delimiter and a time, with an offset or without
+-- an offset date-time or a local date-time: a date, a delimiter and a time, with an offset or
+-- without
 pub record IsDateAndTime (text : List ℕ) (value : Datetime) : Type 0 where
   pub date_text : List ℕ
   pub delimiter : List ℕ
@@ -37,10 +40,12 @@ pub record IsDateAndTime (text : List ℕ) (value : Datetime) : Type 0 where
   pub made : value ≡ datetime_of (Some date) (Some time) offset
 
 abbrev pub IsLocalDate : List ℕ → Datetime → Type 0
-IsLocalDate text value = (date : Date) × IsDate text date × (value ≡ datetime_of (Some date) None None)
+IsLocalDate text value =
+    (date : Date) × IsDate text date × (value ≡ datetime_of (Some date) None None)
 
 abbrev pub IsLocalTime : List ℕ → Datetime → Type 0
-IsLocalTime text value = (time : Time) × IsTime text time × (value ≡ datetime_of None (Some time) None)
+IsLocalTime text value =
+    (time : Time) × IsTime text time × (value ≡ datetime_of None (Some time) None)
 
 -- the text is a date-time
 abbrev pub IsDatetime : List ℕ → Datetime → Type 0

@@ -1,4 +1,5 @@
--- Offsets, by the TOML specification 1.1, section "Offset Date-Time", and `time-offset` of its grammar.
+-- Offsets, by the TOML specification 1.1, section "Offset Date-Time", and `time-offset` of its
+-- grammar.
 use Rattle.std.specs.Prelude.{◌≡◌, ℕ, ◌+◌, ◌*◌, ◌⊎◌, Bool, List, ◌++◌, codes}
 use Rattle.scan_core.specs.Fields.{IsField}
 use Rattle.scan_core.specs.Number.{sign_text}
@@ -20,4 +21,5 @@ pub record IsNumericOffset (text : List ℕ) (offset : Offset) : Type 0 where
 
 -- `Z`, `z`, or a sign and `HH:MM`
 abbrev pub IsOffset : List ℕ → Offset → Type 0
-IsOffset text offset = (((text ≡ codes "Z") ⊎ (text ≡ codes "z")) × (offset ≡ Z)) ⊎ IsNumericOffset text offset
+IsOffset text offset =
+    (((text ≡ codes "Z") ⊎ (text ≡ codes "z")) × (offset ≡ Z)) ⊎ IsNumericOffset text offset

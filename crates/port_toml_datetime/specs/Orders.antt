@@ -16,13 +16,16 @@ none_first cmp (Some a) None = Greater
 none_first cmp (Some a) (Some b) = cmp a b
 
 abbrev pub date_cmp : Date → Date → Ordering
-date_cmp a b = ordering_then (nat_cmp a.year b.year) (ordering_then (nat_cmp a.month b.month) (nat_cmp a.day b.day))
+date_cmp a b =
+    ordering_then (nat_cmp a.year b.year)
+    (ordering_then (nat_cmp a.month b.month) (nat_cmp a.day b.day))
 
 abbrev pub time_cmp : Time → Time → Ordering
 time_cmp a b =
     ordering_then (nat_cmp a.hour b.hour)
     (ordering_then (nat_cmp a.minute b.minute)
-    (ordering_then (none_first nat_cmp a.second b.second) (none_first nat_cmp a.nanosecond b.nanosecond)))
+    (ordering_then (none_first nat_cmp a.second b.second)
+    (none_first nat_cmp a.nanosecond b.nanosecond)))
 
 -- UTC comes before each offset of minutes
 abbrev pub offset_cmp : Offset → Offset → Ordering

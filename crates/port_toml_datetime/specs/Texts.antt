@@ -1,5 +1,5 @@
--- Written texts, by the same sections of the TOML specification 1.1: `1979-05-27T07:32:00.5-07:00`. Each width is a least width: a number
--- with more digits is written whole.
+-- Written texts, by the same sections of the TOML specification 1.1: `1979-05-27T07:32:00.5-07:00`.
+-- Each width is a least width: a number with more digits is written whole.
 use Rattle.std.specs.Prelude.{ℕ, ◌+◌, ◌/◌, ◌%◌, true, false, ℤ, pos, negsuc, List, [], ◌∷◌, ◌++◌, codes, Option, Some, None}
 use Rattle.scan_core.specs.Padded.{padded, trimmed}
 use Rattle.scan_core.specs.Number.{sign_text}
@@ -28,7 +28,8 @@ second_text None (Some n) = codes ":" ++ (padded 2 0 ++ (codes "." ++ fraction_t
 second_text (Some s) (Some n) = codes ":" ++ (padded 2 s ++ (codes "." ++ fraction_text n))
 
 unfoldable pub time_text : Time → List ℕ
-time_text t = padded 2 t.hour ++ (codes ":" ++ (padded 2 t.minute ++ second_text t.second t.nanosecond))
+time_text t =
+    padded 2 t.hour ++ (codes ":" ++ (padded 2 t.minute ++ second_text t.second t.nanosecond))
 
 -- `HH:MM` of so many minutes
 abbrev pub minutes_text : ℕ → List ℕ
@@ -54,4 +55,6 @@ delimiter_text None t = []
 delimiter_text (Some d) None = []
 
 unfoldable pub text_of : Datetime → List ℕ
-text_of d = part_text date_text d.date ++ (delimiter_text d.date d.time ++ (part_text time_text d.time ++ part_text offset_text d.offset))
+text_of d =
+    part_text date_text d.date ++ (delimiter_text d.date d.time
+    ++ (part_text time_text d.time ++ part_text offset_text d.offset))

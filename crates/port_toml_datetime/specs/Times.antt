@@ -1,11 +1,13 @@
--- Times, by the TOML specification 1.1, section "Local Time", and `partial-time` of its grammar: hours and minutes, perhaps seconds,
--- and behind these perhaps a fraction. Seconds go to 60, for leap seconds; RFC 3339, section 5.7.
+-- Times, by the TOML specification 1.1, section "Local Time", and `partial-time` of its grammar:
+-- hours and minutes, perhaps seconds, and behind these perhaps a fraction. Seconds go to 60, for
+-- leap seconds; RFC 3339, section 5.7.
 use Rattle.std.specs.Prelude.{◌≡◌, ℕ, ◌<◌, ◌⊎◌, List, [], ◌++◌, length, take, codes, Option, Some, None}
 use Rattle.scan_core.specs.Digits.{AreDigits, number_of}
 use Rattle.scan_core.specs.Fields.{IsField}
 use Rattle.port_toml_datetime.specs.declared.time.Time.{Time}
 
--- the first nine digits of a fraction, filled with zeros on the right. The rest is cut: "truncated, not rounded", says the section
+-- the first nine digits of a fraction, filled with zeros on the right. The rest is cut: "truncated,
+-- not rounded", says the section
 unfoldable pub nanoseconds : List ℕ → ℕ
 nanoseconds digits = number_of (take 9 (digits ++ codes "000000000"))
 
@@ -19,7 +21,8 @@ pub record IsSecondFraction (text : List ℕ) (nanosecond : Option ℕ) : Type 0
 
 -- the same, or nothing
 abbrev pub IsPerhapsSecondFraction : List ℕ → Option ℕ → Type 0
-IsPerhapsSecondFraction text nanosecond = ((text ≡ []) × (nanosecond ≡ None)) ⊎ IsSecondFraction text nanosecond
+IsPerhapsSecondFraction text nanosecond =
+    ((text ≡ []) × (nanosecond ≡ None)) ⊎ IsSecondFraction text nanosecond
 
 -- a colon, two digits, and perhaps a fraction
 pub record IsSeconds (text : List ℕ) (second nanosecond : Option ℕ) : Type 0 where
@@ -33,7 +36,8 @@ pub record IsSeconds (text : List ℕ) (second nanosecond : Option ℕ) : Type 0
 
 -- the same, or nothing
 abbrev pub IsPerhapsSeconds : List ℕ → Option ℕ → Option ℕ → Type 0
-IsPerhapsSeconds text second nanosecond = ((text ≡ []) × (second ≡ None) × (nanosecond ≡ None)) ⊎ IsSeconds text second nanosecond
+IsPerhapsSeconds text second nanosecond =
+    ((text ≡ []) × (second ≡ None) × (nanosecond ≡ None)) ⊎ IsSeconds text second nanosecond
 
 -- `HH:MM`, and perhaps `:SS`, and perhaps a fraction behind that
 pub record IsTime (text : List ℕ) (time : Time) : Type 0 where

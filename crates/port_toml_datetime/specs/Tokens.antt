@@ -1,5 +1,6 @@
--- The tokens of a text, as the table of checks counts them: a run of digits, one mark, or, at any other byte, all that is left. A token
--- is its bytes, and the token at the end of the text is empty: it fails each check for a token.
+-- The tokens of a text, as the table of checks counts them: a run of digits, one mark, or, at any
+-- other byte, all that is left. A token is its bytes, and the token at the end of the text is
+-- empty: it fails each check for a token.
 use Rattle.std.specs.Prelude.{ℕ, zero, suc, Bool, true, false, ◌||◌, ◌==◌, List, [], ◌∷◌, codes, if◌then◌else◌}
 use Rattle.std.specs.Char.{is_ascii_digit}
 use Rattle.scan_core.specs.Fronts.{front_digits, after_digits}
@@ -16,7 +17,8 @@ is_mark b = is_one_of (codes "-:.+Tt Zz") b
 -- the token in front, which is empty at the end of the text
 abbrev pub first_token : List ℕ → List ℕ
 first_token [] = []
-first_token (b ∷ bs) = if is_ascii_digit b then (b ∷ front_digits bs) else if is_mark b then (b ∷ []) else (b ∷ bs)
+first_token (b ∷ bs) =
+    if is_ascii_digit b then (b ∷ front_digits bs) else if is_mark b then (b ∷ []) else (b ∷ bs)
 
 -- what follows it
 abbrev pub after_token : List ℕ → List ℕ

@@ -20,8 +20,8 @@ unit_behind bs = drop (length (unit_front bs)) bs
 abbrev pub item_at : List ℕ → Item
 item_at bs = record { digits = leading is_digit bs; unit = unit_front (behind is_digit bs) }
 
--- the items of a text that stands behind a digit or behind none: each begins at a digit behind no digit, and a
--- letter follows its digits
+-- the items of a text that stands behind a digit or behind none: each begins at a digit behind no
+-- digit, and a letter follows its digits
 abbrev pub items_behind : Bool → List ℕ → List Item
 items_behind digit [] = []
 items_behind digit (b ∷ bs) =
@@ -50,7 +50,8 @@ is_long_part Hours = true
 is_long_part Minutes = true
 is_long_part _ = false
 
--- what a sum comes to with a pending `m`, a later part that may be long, and the sum of all later items
+-- what a sum comes to with a pending `m`, a later part that may be long, and the sum of all later
+-- items
 abbrev pub sum_with : ℕ → ℕ → Bool → ℕ → ℕ
 sum_with nanos pending long later = nanos + pending * weight_if Minutes long + later
 
