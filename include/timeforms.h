@@ -6,7 +6,7 @@
  *
  * A text is a pointer and a length in bytes. It ends with no zero byte, and none is written. Where the length is 0 the pointer may be
  * null; all other pointers must be valid, and what a call fills must not overlap what it reads. Texts are UTF-8; what isn't is
- * answered by a code.
+ * answered by a code, and a line that isn't by `refused Line`.
  */
 #ifndef TIMEFORMS_H
 #define TIMEFORMS_H
@@ -114,7 +114,7 @@ int32_t timeforms_file_time_from_nanoseconds(int64_t nanoseconds, uint64_t *tick
 int32_t timeforms_file_time_to_unix_time(uint64_t ticks, int64_t *seconds, uint32_t *nanoseconds);
 
 /* The latest tick that is not after so many seconds and nanoseconds since 1970, where the nanoseconds may be a second and more: 0.
- * RANGE where the seconds are before 1601, or the sum is past the last tick, in the year 60056. */
+ * RANGE where the seconds are before 1601, or the whole ticks of the sum are past the last one, in the year 60056. */
 int32_t timeforms_file_time_from_unix_time(int64_t seconds, uint32_t nanoseconds, uint64_t *ticks);
 
 /* ---- Short durations, the form `Fancy` ---- */
