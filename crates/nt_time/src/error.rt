@@ -82,6 +82,7 @@ impl Model for ParseFileTimeError {
 }
 
 impl ParseFileTimeError {
+    /// The error of that cause.
     pub(crate) fn new(cause: ParseFileTimeCause) -> ParseFileTimeError
         ensures { result ≡ cause }
     {

@@ -98,6 +98,7 @@ pub struct DatetimeParseError {
 }
 
 impl DatetimeParseError {
+    /// The error of the check that failed.
     pub(crate) fn new(check: Check) -> DatetimeParseError
         ensures { fault_of result ≡ words_of check }
     {

@@ -32,6 +32,7 @@ fn read_full_time(date: Date, bytes: &[u8]) -> Result<Datetime, DatetimeParseErr
     })
 }
 
+/// Whether the byte may stand between a date and a time.
 fn is_delimiter(byte: u8) -> bool
     ensures { result ≡ is_one_of (codes "Tt ") byte }
 {
@@ -89,6 +90,7 @@ fn read_dated(year: &[u8], bytes: &[u8]) -> Result<Datetime, DatetimeParseError>
     read_tail(date, rest)
 }
 
+/// The date-time that the whole text is, or the error of the first check that fails.
 #[tactic(auto, unfolding(crate::specs::Checks::checks, crate::specs::inside::Values::value_of))]
 pub(crate) fn read(bytes: &[u8]) -> Result<Datetime, DatetimeParseError>
     ensures pass { IfOk result (λ r. first_failing (checks bytes.now) ≡ None) }

@@ -11,12 +11,14 @@ use crate::error::{Check, DatetimeParseError};
 use crate::numbers::four_digits;
 use crate::scan::{check, mark, read_field};
 
+/// Whether the year has a 29 February.
 fn is_leap_year(year: u16) -> bool
     ensures { result ≡ is_leap_year year }
 {
     year % 4 == 0 && (year % 100 != 0 || year % 400 == 0)
 }
 
+/// How many days the month has.
 #[tactic(auto, unfolding(crate::specs::Dates::days_in_month))]
 fn days_in_month(year: u16, month: u8) -> u8
     ensures { result ≡ days_in_month year month }

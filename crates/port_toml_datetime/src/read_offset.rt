@@ -9,6 +9,7 @@ use crate::Offset;
 use crate::error::{Check, DatetimeParseError};
 use crate::scan::{check, end, mark, read_field};
 
+/// The minutes with their sign.
 fn with_sign(negative: bool, minutes: u16) -> i16
     requires { minutes ≤ 1439 }
     ensures { result ≡ signed negative minutes }

@@ -67,6 +67,7 @@ fn is_two_digits(second: Option<Field>) -> bool
     }
 }
 
+/// The number of the second, where it is there.
 fn number_of_second(second: Option<Field>) -> Option<u8>
     ensures { result ≡ option_map (λ f. f.number) second }
 {
@@ -76,6 +77,7 @@ fn number_of_second(second: Option<Field>) -> Option<u8>
     }
 }
 
+/// Whether the second is at most 60, or isn't there.
 fn is_second(second: Option<u8>) -> bool
     ensures { result ≡ where_there (λ n. nat_le n 60) second }
 {

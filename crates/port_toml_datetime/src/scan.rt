@@ -35,6 +35,7 @@ pub(crate) struct Field {
     pub number: u8,
 }
 
+/// The field of these digits.
 fn field_of(digits: &[u8]) -> Field
     requires { AreDigits digits.now }
     ensures two { result.is_two ≡ has_length 2 digits.now }
@@ -53,6 +54,7 @@ fn field_of(digits: &[u8]) -> Field
     }
 }
 
+/// Whether a digit stands in front.
 pub(crate) fn begins_with_digit(bytes: &[u8]) -> bool
     ensures { result ≡ is_digits bytes.now }
 {

@@ -32,6 +32,7 @@ fn push_colon_two(out: &mut Short, value: u8)
     push_two(out, u16::from(value));
 }
 
+/// A point, and the digits of the nanoseconds.
 fn push_point_fraction(out: &mut Short, nanosecond: u32)
     requires { array_string_len out.old + 11 ≤ 128 }
     ensures bytes { out.new.bytes ≡ out.old.bytes ++ (codes "." ++ fraction_text nanosecond) }
@@ -41,6 +42,7 @@ fn push_point_fraction(out: &mut Short, nanosecond: u32)
     push_fraction(out, nanosecond);
 }
 
+/// The second and its fraction, where they are there.
 fn push_seconds(out: &mut Short, second: Option<u8>, nanosecond: Option<u32>)
     requires { array_string_len out.old + 15 ≤ 128 }
     ensures bytes { out.new.bytes ≡ out.old.bytes ++ second_text second nanosecond }
@@ -84,6 +86,7 @@ fn push_minutes(out: &mut Short, minutes: u16)
     push_two(out, minutes % 60);
 }
 
+/// A sign, and `HH:MM` of the magnitude.
 #[tactic(auto, using(crate::proofs::TextFacts::negative_text, crate::proofs::TextFacts::positive_text))]
 fn push_signed(out: &mut Short, minutes: i16)
     requires { array_string_len out.old + 8 ≤ 128 }
@@ -99,6 +102,7 @@ fn push_signed(out: &mut Short, minutes: i16)
     }
 }
 
+/// `Z`, or a sign and `HH:MM`.
 #[tactic(auto, unfolding(crate::specs::Texts::offset_text))]
 fn push_offset(out: &mut Short, offset: Offset)
     requires { array_string_len out.old + 8 ≤ 128 }
@@ -111,6 +115,7 @@ fn push_offset(out: &mut Short, offset: Offset)
     }
 }
 
+/// The date, where there is one.
 fn push_part_date(out: &mut Short, date: Option<Date>)
     requires { array_string_len out.old + 13 ≤ 128 }
     ensures bytes { out.new.bytes ≡ out.old.bytes ++ part_text date_text date }
@@ -121,6 +126,7 @@ fn push_part_date(out: &mut Short, date: Option<Date>)
     }
 }
 
+/// `T`, where there are a date and a time.
 fn push_delimiter(out: &mut Short, date: Option<Date>, time: Option<Time>)
     requires { array_string_len out.old + 1 ≤ 128 }
     ensures bytes { out.new.bytes ≡ out.old.bytes ++ delimiter_text date time }
@@ -133,6 +139,7 @@ fn push_delimiter(out: &mut Short, date: Option<Date>, time: Option<Time>)
     }
 }
 
+/// The time, where there is one.
 fn push_part_time(out: &mut Short, time: Option<Time>)
     requires { array_string_len out.old + 22 ≤ 128 }
     ensures bytes { out.new.bytes ≡ out.old.bytes ++ part_text time_text time }
@@ -143,6 +150,7 @@ fn push_part_time(out: &mut Short, time: Option<Time>)
     }
 }
 
+/// The offset, where there is one.
 fn push_part_offset(out: &mut Short, offset: Option<Offset>)
     requires { array_string_len out.old + 8 ≤ 128 }
     ensures bytes { out.new.bytes ≡ out.old.bytes ++ part_text offset_text offset }

@@ -16,6 +16,7 @@ pub struct Input<R> {
 }
 
 impl<R> Input<R> {
+    /// The reader, of which nothing was taken yet.
     pub fn new(reader: R) -> Self {
         Input {
             reader,
@@ -54,6 +55,7 @@ pub struct Output<W> {
 }
 
 impl<W> Output<W> {
+    /// The writer, none of whose writes failed yet.
     pub fn new(writer: W) -> Self {
         Output { writer, faults: 0 }
     }

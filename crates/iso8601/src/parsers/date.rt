@@ -51,6 +51,7 @@ fn split_day(year: i32, bytes: &[u8]) -> Option<(Date, &[u8])>
     split_ordinal_day(year, bytes)
 }
 
+/// The date in front, and what follows it.
 #[tactic(auto, unfolding(crate::specs::inside::Reading::read_date))]
 pub(crate) fn split_date(bytes: &[u8]) -> Option<(Date, &[u8])>
     ensures { option_map (λ r. (r.0, r.1.now)) result ≡ read_date bytes.now }

@@ -9,6 +9,7 @@ use super::front::strip;
 use super::time::split_time;
 use crate::types::{DateTime, ParseFailed};
 
+/// The date-time in front, and what follows it.
 #[tactic(auto, unfolding(crate::specs::inside::DateTimeReading::read_date_time))]
 fn split_date_time(bytes: &[u8]) -> Option<(DateTime, &[u8])>
     ensures { option_map (λ r. (r.0, r.1.now)) result ≡ read_date_time bytes.now }

@@ -167,6 +167,7 @@ fn split_body(bytes: &[u8]) -> Option<(Duration, &[u8])>
     split_dated(bytes)
 }
 
+/// The duration in front, and what follows it.
 #[tactic(auto, unfolding(crate::specs::inside::DurationReading::read_duration))]
 fn split_duration(bytes: &[u8]) -> Option<(Duration, &[u8])>
     ensures { option_map (λ r. (r.0, r.1.now)) result ≡ read_duration bytes.now }

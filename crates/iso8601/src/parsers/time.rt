@@ -87,6 +87,7 @@ fn split_offset(bytes: &[u8]) -> ((i32, i32), &[u8])
     }
 }
 
+/// The time in front, and what follows it.
 #[tactic(auto, unfolding(crate::specs::inside::TimeReading::read_time, crate::specs::inside::TimeReading::read_tail))]
 pub(crate) fn split_time(bytes: &[u8]) -> Option<(Time, &[u8])>
     ensures { option_map (λ r. (r.0, r.1.now)) result ≡ read_time bytes.now }
