@@ -31,7 +31,8 @@ fn main(rt: HostRuntime) -> io::Result<()> {
     tell(&rt, "format_compact", length.format_compact(alloc))?;
     tell_converted(&rt)?;
     tell_run(&rt)?;
-    tell_top(&rt)
+    tell_top(&rt, "top", "")?;
+    tell_top(&rt, "sample", "sample 10")
 }
 
 /// Prints the text of a call, or that there was no memory for it.
@@ -63,15 +64,15 @@ fn tell_run<R: Print + AllocGlobal>(rt: &R) -> io::Result<()> {
     }
 }
 
-/// The program over lines in memory.
-fn tell_top<R: Print + AllocGlobal>(rt: &R) -> io::Result<()> {
+/// The program with these words over lines in memory.
+fn tell_top<R: Print + AllocGlobal>(rt: &R, call: &str, words: &str) -> io::Result<()> {
     match ends(rt.alloc(), LINES) {
         Ok((mut source, mut sink)) => {
-            let status = top(rt.alloc(), "", &mut source, &mut sink);
+            let status = top(rt.alloc(), words, &mut source, &mut sink);
             let (left, held) = (source.left().len(), sink.held().len());
-            println!(rt; "top: status {status}, {left} bytes left, {held} bytes held")
+            println!(rt; "{call}: status {status}, {left} bytes left, {held} bytes held")
         }
-        Err(_) => println!(rt; "top: no memory"),
+        Err(_) => println!(rt; "{call}: no memory"),
     }
 }
 
