@@ -113,6 +113,8 @@ fn sentences_on_other_forms(rt: HostRuntime) -> Result<(), Fail> {
         ),
         ("IsoDate IsoDate 2015-0626\n", "2015-06-26\n"),
         ("IsoDate IsoDate 20151302\n", "refused Syntax\n"),
+        ("IsoDate IsoDate 2015-W45-1\n", "2015-11-02\n"),
+        ("IsoDate IsoDate 2015-W45-01\n", "refused Syntax\n"),
         (
             "IsoDuration IsoDuration P1Y99999999999M\n",
             "refused Syntax\n",
