@@ -11,12 +11,16 @@ use std::rt::Files;
 use std::{fs, io};
 
 /// The tables, in data/.
-const TABLES: [&str; 5] = [
+const TABLES: [&str; 9] = [
     "intervals.tsv",
     "weeks.tsv",
     "iso_strict.tsv",
     "postgres.tsv",
     "other_forms.tsv",
+    "rfc3339.tsv",
+    "iso8601.tsv",
+    "toml.tsv",
+    "microsoft.tsv",
 ];
 
 fn main(rt: HostRuntime) -> io::Result<()> {
