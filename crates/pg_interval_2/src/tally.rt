@@ -115,6 +115,16 @@ impl Tally {
     pub(crate) fn answer(&self) -> Result<Interval, ParseError>
         ensures { (counts : List Count) → Tallies self.now counts → Answers counts result }
     {
+        // nearly all texts fit: theirs are the only tests that they pay for
+        if self.months_fit && self.days_fit && self.micros_fit {
+            if let Some((months, days, microseconds)) = self.totals.fits() {
+                return Ok(Interval {
+                    months,
+                    days,
+                    microseconds,
+                });
+            }
+        }
         let out = self.totals.first_out();
         if !self.months_fit || out == Some(Part::Months) {
             return Err(ParseError::InvalidYearMonth(
@@ -124,14 +134,6 @@ impl Tally {
         if !self.days_fit || out == Some(Part::Days) {
             return Err(ParseError::InvalidDay("Invalid day interval overflow detected."));
         }
-        if !self.micros_fit || out == Some(Part::Micros) {
-            return Err(ParseError::InvalidTime("Invalid time interval overflow detected."));
-        }
-        let (months, days, microseconds) = self.totals.fits().unwrap();
-        Ok(Interval {
-            months,
-            days,
-            microseconds,
-        })
+        Err(ParseError::InvalidTime("Invalid time interval overflow detected."))
     }
 }
