@@ -6,7 +6,7 @@ ghost use Rattle.scan_core.specs.Blanks.{is_blank};
 pub fn is_blank(byte: u8) -> bool
     ensures { result ≡ is_blank byte }
 {
-    (9..=13).contains(&byte) || byte == b' '
+    byte == b' ' || (9..=13).contains(&byte)
 }
 
 #[cfg(test)]
