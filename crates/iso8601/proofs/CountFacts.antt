@@ -1,5 +1,5 @@
 -- The parts of a duration: counts, seconds, the clock.
-use Rattle.std.proofs.Common.{◌≡◌, ℕ, ◌<◌, ◌≤◌, ◌^◌, ◌==◌, ◌&&◌, nat_lt, Bool, true, false, cond, List, [], ◌∷◌, ◌++◌, length, take, Option, Some, None, refl, sym, ◌∙◌, ap, subst, append_assoc, arith, inl, inr, codes}
+use Rattle.std.proofs.Common.{◌≡◌, ℕ, ◌≤◌, ◌==◌, Bool, true, false, cond, List, [], ◌∷◌, ◌++◌, length, take, Option, Some, None, refl, sym, ◌∙◌, ap, subst, append_assoc, arith, inl, inr, codes}
 use Rattle.std.specs.Char.{is_ascii_digit}
 use Rattle.std.proofs.lemmas.Bool.Decides.{nat_tests}
 use Rattle.std.proofs.lemmas.Option.{cond_some, option_and_then_some, some_pair_parts}
@@ -8,11 +8,12 @@ use Rattle.iso8601.specs.Fields.{IsOrZero}
 use Rattle.iso8601.specs.Prefixes.{Begins}
 use Rattle.iso8601.specs.Times.{IsPoint, IsFraction}
 use Rattle.iso8601.specs.Durations.{IsNumber, IsCount, IsDecimal, IsSeconds, IsClock, IsPerhapsClock}
-use Rattle.iso8601.specs.inside.Reading.{read_mark}
+use Rattle.iso8601.specs.inside.Reading.{number_in, read_mark}
 use Rattle.scan_core.specs.Fronts.{front_digits, after_digits}
 use Rattle.iso8601.specs.inside.TimeReading.{millis_of, read_both}
 use Rattle.iso8601.specs.inside.DurationReading.{Peeked, with_letter, peek, read_count, read_perhaps, no_seconds, closed_by, read_closed, seconds_in, read_seconds, read_clock}
 use Rattle.iso8601.proofs.FieldFacts.{is_byte, letter_sound}
+use Rattle.iso8601.proofs.NumberFacts.{number_exact, number_sound}
 use Rattle.scan_core.proofs.FrontFacts.{front_of, after_of, front_are_digits, front_and_after}
 use Rattle.iso8601.proofs.Optional.{Optional, Marks, IsBoth, both_marks, both_optional, shrinks, zero_optional}
 
@@ -21,19 +22,12 @@ use Rattle.iso8601.proofs.Optional.{Optional, Marks, IsBoth, both_marks, both_op
 abbrev pub seen : ℕ → ℕ → List ℕ → Peeked
 seen number letter behind = record { number = number; letter = letter; behind = behind }
 
-both_tests : (a b : ℕ) → 0 < a → b < 2 ^ 32 → (nat_lt 0 a && nat_lt b (2 ^ 32)) ≡ true
-both_tests a b h k = grind (arith, nat_tests)
-
-from_tests : (a b : ℕ) → (nat_lt 0 a && nat_lt b (2 ^ 32)) ≡ true → (0 < a) × (b < 2 ^ 32)
-from_tests a b h = grind (arith, nat_tests)
-
 pub peek_exact : (digits rest : List ℕ) (letter value : ℕ) → IsNumber digits value → is_ascii_digit letter ≡ false → peek (digits ++ letter ∷ rest) ≡ Some (seen value letter rest)
 unfolding peek
 peek_exact digits rest letter value n h =
     let front : front_digits (digits ++ letter ∷ rest) ≡ digits = front_of digits (letter ∷ rest) n.all_digits h in
     let after : after_digits (digits ++ letter ∷ rest) ≡ letter ∷ rest = after_of digits (letter ∷ rest) n.all_digits h in
-    let fits : number_of digits < 2 ^ 32 = omega (arith, n.number, n.fits) in
-    rw (front, after, both_tests (length digits) (number_of digits) n.some fits, n.number) refl
+    rw (front, after, number_exact digits value n) refl
 
 abbrev IsSeen : ℕ → List ℕ → Option Peeked → Type 0
 IsSeen number bytes None = ⊥
@@ -45,20 +39,16 @@ letter_made number (b ∷ bs) p h =
     let P : Option Peeked → Type 0 = λ o. IsSeen number (b ∷ bs) o in
     subst P h (refl, refl)
 
-test_some : {A : Type 0} (t : Bool) (o : Option A) (x : A) → cond t o None ≡ Some x → (t ≡ true) × (o ≡ Some x)
-test_some true o x h = (refl, h)
-test_some false o x h = cc
-
 pub peek_sound : (bytes : List ℕ) (p : Peeked) → peek bytes ≡ Some p → (digits : List ℕ) × IsNumber digits p.number × (bytes ≡ digits ++ p.letter ∷ p.behind)
 unfolding peek
 peek_sound bytes p h =
-    let found = test_some (nat_lt 0 (length (front_digits bytes)) && nat_lt (number_of (front_digits bytes)) (2 ^ 32)) _ p h in
-    let tests = from_tests _ _ found.0 in
-    let parts = letter_made _ _ p found.1 in (
+    option_and_then_some _ _ _ h (λ number is made.
+    let parts = letter_made number (after_digits bytes) p made in
+    let n = number_sound (front_digits bytes) p.number (front_are_digits bytes) (is ∙ ap Some parts.0) in (
       front_digits bytes,
-      record { some = tests.0; all_digits = front_are_digits bytes; number = sym parts.0; fits = rw (← parts.0) tests.1 },
+      n,
       sym (front_and_after bytes) ∙ ap (λ (l : List ℕ). front_digits bytes ++ l) parts.1,
-    )
+    ))
 
 -- ---- counts
 
@@ -109,12 +99,12 @@ count_marks unit other h k text value (inl none) = inl none.0
 count_marks unit other h k text value (inr c) = inr (λ rest. other_unit other (text ++ rest) (seen value unit rest) (count_some unit text rest value h c) k)
 
 pub nothing_left : (unit : ℕ) (rest : List ℕ) → rest ≡ [] → NoCount unit rest
-unfolding read_count peek
+unfolding read_count peek number_in
 nothing_left unit rest end = rw end refl
 
 -- a text that begins with no digit has no count in front
 pub no_number : (unit b : ℕ) (bs : List ℕ) → is_ascii_digit b ≡ false → NoCount unit (b ∷ bs)
-unfolding read_count peek
+unfolding read_count peek number_in
 no_number unit b bs h = rw h refl
 
 -- ---- seconds
@@ -191,7 +181,7 @@ zeros : (value : ℕ × ℕ) → value.0 ≡ 0 → value.1 ≡ 0 → (0, 0) ≡ 
 zeros value a b = rw (a, b) refl
 
 no_more : read_seconds [] ≡ ((0, 0), [])
-unfolding read_seconds peek
+unfolding read_seconds peek number_in
 no_more = refl
 
 seconds_exact : (text rest : List ℕ) (value : ℕ × ℕ) → IsSeconds text value → rest ≡ [] → read_seconds (text ++ rest) ≡ (value, rest)

@@ -13,9 +13,9 @@ use Rattle.iso8601.specs.Durations.{IsDuration}
 use Rattle.iso8601.specs.declared.types.Duration.{Duration}
 use Rattle.iso8601.specs.declared.types.Duration.TheVariants.{Weeks}
 use Rattle.iso8601.specs.declared.types.Time.{Time}
-use Rattle.iso8601.specs.inside.CountedReading.{BeginsUnit, IsBehind, from_run, number_in}
+use Rattle.iso8601.specs.inside.CountedReading.{BeginsUnit, IsBehind, from_run}
 use Rattle.iso8601.specs.inside.DurationReading.{Peeked, dated_of, peek, read_body, read_clock, read_count, read_counted, read_counts, read_dated, read_weeks, with_letter}
-use Rattle.iso8601.specs.inside.Reading.{or_else, read_field, read_marked}
+use Rattle.iso8601.specs.inside.Reading.{number_in, or_else, read_field, read_marked}
 use Rattle.iso8601.specs.inside.TimeReading.{read_time}
 use Rattle.iso8601.proofs.CountedFacts.{none_passed, number_none, other_byte, peek_behind, peek_none, behind_number, some_passed}
 use Rattle.iso8601.proofs.DurationReading.{body_sound, body_whole, clock_missing, not_dated, not_less, perhaps_none, some_none}

@@ -1,5 +1,5 @@
 -- Runs of digits that a scan passed, as the readers on lists see them.
-use Rattle.std.proofs.Common.{◌≡◌, ◌≢◌, ℕ, pos, zero, suc, ◌-◌, ◌*◌, ◌^◌, ◌<◌, ◌≤◌, ◌⊎◌, ◌==◌, ◌&&◌, nat_lt, Bool, true, false, cond, List, [], ◌∷◌, ◌++◌, length, take, drop, Option, Some, None, refl, sym, ◌∙◌, ap, subst, arith, inl, inr, length-take, length-append}
+use Rattle.std.proofs.Common.{◌≡◌, ◌≢◌, ℕ, pos, zero, suc, ◌-◌, ◌*◌, ◌^◌, ◌<◌, ◌≤◌, ◌⊎◌, ◌==◌, Bool, true, false, List, [], ◌∷◌, ◌++◌, length, take, drop, Option, Some, None, refl, sym, ◌∙◌, ap, subst, arith, inl, inr, length-take, length-append}
 use Rattle.std.proofs.lemmas.Bool.Decides.{nat_tests}
 use Rattle.std.proofs.lemmas.List.{take_at, drop_at}
 use Rattle.std.proofs.lemmas.Option.{some_pair_parts}
@@ -14,12 +14,13 @@ use Rattle.scan_core.proofs.DigitFacts.{digits-take, number_of-lt}
 use Rattle.scan_core.proofs.FrontFacts.{front_are_digits, front_and_after}
 use Rattle.scan_core.proofs.RunFacts.{run_length}
 use Rattle.iso8601.specs.declared.types.Time.{Time}
-use Rattle.iso8601.specs.inside.CountedReading.{BeginsField, BeginsNoPoint, IsBehind, IsPointed, IsStuck, from_run, number_in}
+use Rattle.iso8601.specs.inside.CountedReading.{BeginsField, BeginsNoPoint, IsBehind, IsPointed, IsStuck, from_run}
 use Rattle.iso8601.specs.inside.DurationReading.{closed_by, with_letter, peek, read_count, read_perhaps, read_seconds}
-use Rattle.iso8601.specs.inside.Reading.{read_field, read_mark, read_marked}
+use Rattle.iso8601.specs.inside.Reading.{number_in, read_field, read_mark, read_marked}
 use Rattle.iso8601.specs.inside.TimeReading.{millis_of, read_fraction, read_later, read_offset, read_signed, read_tail, read_time, time_of}
 use Rattle.iso8601.proofs.FieldFacts.{field_some, field_none, is_byte}
 use Rattle.iso8601.proofs.Longest.{nothing}
+use Rattle.iso8601.proofs.NumberFacts.{number_exact, number_missing}
 use Rattle.iso8601.proofs.TimeParts.{is_digit, stops_later}
 
 -- ---- values of runs
@@ -39,25 +40,17 @@ at_least value n (inr great) h = omega (arith, great.1)
 
 -- ---- numbers of 32 bits
 
-some_test : (a b : ℕ) → 0 < a → b < 2 ^ 32 → (nat_lt 0 a && nat_lt b (2 ^ 32)) ≡ true
-some_test a b h k = grind (arith, nat_tests)
-
-none_test : (a b : ℕ) → (a ≡ 0) ⊎ (2 ^ 32 ≤ b) → (nat_lt 0 a && nat_lt b (2 ^ 32)) ≡ false
-none_test a b h = grind (arith, nat_tests)
-
 pub number_some : (text : List ℕ) (run : Run) → IsRun text run → run.start ≢ run.end → run.value < 2 ^ 32 → number_in (digits_of text run) ≡ Some run.value
-unfolding number_in
 number_some text run is apart fits =
     let same = known run.value (number_of (digits_of text run)) is.value (omega arith) in
     let long = run_length text run is in
-    rw (some_test (length (digits_of text run)) (number_of (digits_of text run)) (omega (arith, is.order)) (omega arith), sym same) refl
+    number_exact (digits_of text run) run.value (record { some = omega (arith, is.order); all_digits = is.digits; number = same; fits = fits })
 
 pub number_none : (text : List ℕ) (run : Run) → IsRun text run → (run.start ≡ run.end) ⊎ (2 ^ 32 ≤ run.value) → number_in (digits_of text run) ≡ None
-unfolding number_in
 number_none text run is (inl same) =
     let long = run_length text run is in
-    rw (none_test (length (digits_of text run)) (number_of (digits_of text run)) (inl (omega arith))) refl
-number_none text run is (inr great) = rw (none_test (length (digits_of text run)) (number_of (digits_of text run)) (inr (at_least run.value (number_of (digits_of text run)) is.value great))) refl
+    number_missing (digits_of text run) (inl (omega arith))
+number_none text run is (inr great) = number_missing (digits_of text run) (inr (at_least run.value (number_of (digits_of text run)) is.value great))
 
 -- ---- fields
 
@@ -126,21 +119,13 @@ millis_passed run old new s = millis_of_front (front_digits (ahead old)) (run.en
 
 -- ---- counts
 
-number_if : (t : Bool) (m n : ℕ) (rest : List ℕ) → cond {A = Option ℕ} t (Some m) None ≡ Some n → cond t (with_letter m rest) None ≡ with_letter n rest
-number_if true m n rest h = let same : m ≡ n = cc in rw same refl
-number_if false m n rest h = cc
-
-none_if : (t : Bool) (m : ℕ) (rest : List ℕ) → cond {A = Option ℕ} t (Some m) None ≡ None → cond t (with_letter m rest) None ≡ None
-none_if true m rest h = cc
-none_if false m rest h = refl
-
 pub peek_number : (bytes : List ℕ) (n : ℕ) → number_in (front_digits bytes) ≡ Some n → peek bytes ≡ with_letter n (after_digits bytes)
-unfolding peek number_in
-peek_number bytes n h = number_if (nat_lt 0 (length (front_digits bytes)) && nat_lt (number_of (front_digits bytes)) (2 ^ 32)) (number_of (front_digits bytes)) n (after_digits bytes) h
+unfolding peek
+peek_number bytes n h = rw h refl
 
 pub peek_none : (bytes : List ℕ) → number_in (front_digits bytes) ≡ None → peek bytes ≡ None
-unfolding peek number_in
-peek_none bytes h = none_if (nat_lt 0 (length (front_digits bytes)) && nat_lt (number_of (front_digits bytes)) (2 ^ 32)) (number_of (front_digits bytes)) (after_digits bytes) h
+unfolding peek
+peek_none bytes h = rw h refl
 
 same_byte : (b : ℕ) → (b == b) ≡ true
 same_byte b = grind (arith, nat_tests)

@@ -3,8 +3,9 @@
 ghost use Rattle.std.specs.Prelude.{◌≡◌, ◌≢◌, ◌+◌, ◌<◌, ◌≤◌, ◌↔◌, ℕ, List, [], Some, ◌*◌, ◌∷◌, IfSome, IfNone, IfOk, IfErr, IsTrue, length};
 ghost use Rattle.scan_core.specs.Runs.{IsRun, digits_of};
 ghost use Rattle.scan_core.specs.Scanning.{ahead, unseen};
-ghost use Rattle.iso8601.specs.inside.CountedReading.{BeginsUnit, IsBehind, from_run, number_in, read_clock_counts};
+ghost use Rattle.iso8601.specs.inside.CountedReading.{BeginsUnit, IsBehind, from_run, read_clock_counts};
 ghost use Rattle.iso8601.specs.inside.DurationReading.{read_body, read_clock, read_counted, read_dated, read_perhaps, read_seconds};
+ghost use Rattle.iso8601.specs.inside.Reading.{number_in};
 ghost use Rattle.iso8601.specs.declared.types.Duration.{Duration};
 ghost use Rattle.iso8601.specs.declared.types.Duration.TheVariants.{Weeks};
 ghost use Rattle.iso8601.specs.Durations.{IsDuration};

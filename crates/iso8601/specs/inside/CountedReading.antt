@@ -1,7 +1,6 @@
 -- What a scan knows that has passed digits whose unit isn't known yet. Cited by private contracts alone.
-use Rattle.std.specs.Prelude.{◌≡◌, ◌≢◌, ℕ, ◌^◌, ◌&&◌, nat_lt, List, [], drop, length, Option, Some, None, if◌then◌else◌, ◌⊎◌, ◌∷◌, true}
+use Rattle.std.specs.Prelude.{◌≡◌, ◌≢◌, ℕ, List, [], drop, None, ◌⊎◌, ◌∷◌, true}
 use Rattle.std.specs.Char.{is_ascii_digit}
-use Rattle.scan_core.specs.Digits.{number_of}
 use Rattle.scan_core.specs.Fronts.{front_digits, after_digits}
 use Rattle.scan_core.specs.Runs.{IsRun, digits_of}
 use Rattle.scan_core.specs.Scanning.{Place, ahead}
@@ -19,10 +18,6 @@ pub record IsBehind (run : Run) (place : Place) : Type 0 where
   pub is_run : IsRun place.text run
   pub digits : digits_of place.text run ≡ front_digits (from_run place.text run)
   pub rest : ahead place ≡ after_digits (from_run place.text run)
-
--- the number of 32 bits that digits are
-unfoldable pub number_in : List ℕ → Option ℕ
-number_in digits = if nat_lt 0 (length digits) && nat_lt (number_of digits) (2 ^ 32) then Some (number_of digits) else None
 
 -- a colon or a digit is in front, and no field up to hi stands there
 abbrev pub BeginsField : List ℕ → Type 0

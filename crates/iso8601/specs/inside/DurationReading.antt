@@ -1,11 +1,10 @@
 -- What the readers of durations answer, as functions on lists. Cited by private contracts alone.
-use Rattle.std.specs.Prelude.{ℕ, ◌^◌, ◌==◌, ◌&&◌, nat_lt, List, [], ◌∷◌, length, Option, Some, None, if◌then◌else◌, option_and_then}
-use Rattle.scan_core.specs.Digits.{number_of}
+use Rattle.std.specs.Prelude.{ℕ, ◌==◌, nat_lt, List, [], ◌∷◌, length, Option, Some, None, if◌then◌else◌, option_and_then}
 use Rattle.iso8601.specs.declared.parsers.duration.Next.{Next}
 use Rattle.iso8601.specs.declared.types.Time.{Time}
 use Rattle.iso8601.specs.declared.types.Duration.{Duration}
 use Rattle.iso8601.specs.declared.types.Duration.TheVariants.{YMDHMS, Weeks}
-use Rattle.iso8601.specs.inside.Reading.{read_mark, read_field, read_marked, or_else}
+use Rattle.iso8601.specs.inside.Reading.{number_in, read_mark, read_field, read_marked, or_else}
 use Rattle.scan_core.specs.Fronts.{front_digits, after_digits}
 use Rattle.iso8601.specs.inside.TimeReading.{or_zero, millis_of, read_both, read_time}
 
@@ -20,8 +19,7 @@ with_letter number [] = None
 with_letter number (b ∷ bs) = Some (record { number = number; letter = b; behind = bs })
 
 unfoldable pub peek : List ℕ → Option Peeked
-peek bytes =
-    if nat_lt 0 (length (front_digits bytes)) && nat_lt (number_of (front_digits bytes)) (2 ^ 32) then with_letter (number_of (front_digits bytes)) (after_digits bytes) else None
+peek bytes = option_and_then (λ number. with_letter number (after_digits bytes)) (number_in (front_digits bytes))
 
 -- the count of a unit, from what stands in front
 abbrev pub count_in : ℕ → Option Peeked → Option (ℕ × List ℕ)

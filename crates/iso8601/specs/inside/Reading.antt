@@ -1,11 +1,15 @@
 -- What the small readers answer, as functions on lists: a value and what follows it. Cited by private contracts alone.
-use Rattle.std.specs.Prelude.{ℕ, ℤ, Bool, true, false, ◌&&◌, ◌==◌, nat_le, List, [], ◌∷◌, length, take, drop, Option, Some, None, if◌then◌else◌, option_and_then}
+use Rattle.std.specs.Prelude.{ℕ, ℤ, ◌^◌, Bool, true, false, ◌&&◌, ◌==◌, nat_le, nat_lt, List, [], ◌∷◌, length, take, drop, Option, Some, None, if◌then◌else◌, option_and_then}
 use Rattle.std.specs.Char.{is_ascii_digit}
 use Rattle.std.specs.List.{list_all}
 use Rattle.scan_core.specs.Digits.{number_of}
 use Rattle.scan_core.specs.Shares.{signed}
 use Rattle.iso8601.specs.declared.types.Date.{Date}
 use Rattle.iso8601.specs.declared.types.Date.TheVariants.{YMD, Week, Ordinal}
+
+-- the number of 32 bits that digits are
+unfoldable pub number_in : List ℕ → Option ℕ
+number_in digits = if nat_lt 0 (length digits) && nat_lt (number_of digits) (2 ^ 32) then Some (number_of digits) else None
 
 -- the bytes are a field
 abbrev pub is_field : ℕ → ℕ → ℕ → List ℕ → Bool

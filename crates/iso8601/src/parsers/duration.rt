@@ -4,10 +4,9 @@ ghost use Rattle.iso8601.specs.Durations.{IsDuration};
 ghost use Rattle.iso8601.specs.Prefixes.{Begins, NoneLonger, NoneBegins};
 ghost use Rattle.iso8601.specs.inside.DurationReading.{peek, peeked_of, read_body, read_clock, read_closed, read_counted, read_dated, read_duration, read_perhaps, read_seconds, read_weeks};
 
-use super::front::{split_field, split_marked, strip};
+use super::front::{split_field, split_marked, split_number, strip};
 use super::time::{split_millis, split_time};
 use crate::types::{Duration, ParseFailed};
-use scan_core::{digits_u32, split_digits};
 
 /// A number in front, the byte behind it, and what follows that byte: what a count is decided by.
 #[derive(Clone, Copy)]
@@ -22,11 +21,7 @@ struct Next<'a> {
 fn look(bytes: &[u8]) -> Option<Next<'_>>
     ensures { option_map peeked_of result ≡ peek bytes.now }
 {
-    let (digits, rest) = split_digits(bytes);
-    if digits.is_empty() {
-        return None;
-    }
-    let number = digits_u32(digits)?;
+    let (number, rest) = split_number(bytes)?;
     let (letter, behind) = rest.split_first()?;
     Some(Next {
         number,

@@ -1,9 +1,34 @@
 //! The small readers at the front of a text. All access to bytes goes through them.
-ghost use Rattle.std.specs.Prelude.{◌≡◌, ◌≤◌, IfSome, option_map};
+ghost use Rattle.std.specs.Prelude.{◌≡◌, ◌+◌, ◌<◌, ◌≤◌, ◌∷◌, IfSome, IfNone, option_map};
+ghost use Rattle.scan_core.specs.Fronts.{NoDigitFirst, after_digits, front_digits};
 ghost use Rattle.scan_core.specs.Shares.{signed};
-ghost use Rattle.iso8601.specs.inside.Reading.{after_mark, read_field, read_mark, read_marked, read_sign, read_year};
+ghost use Rattle.iso8601.specs.inside.Reading.{after_mark, number_in, read_field, read_mark, read_marked, read_sign, read_year};
 
 use scan_core::n_digits_in;
+
+/// The value of the digit in front, and what follows it; None where no digit is there.
+fn split_digit(bytes: &[u8]) -> Option<(u32, &[u8])>
+    ensures some { IfSome result (λ r. (r.0 < 10) × (bytes.now ≡ (r.0 + 48) ∷ r.1.now)) }
+    ensures none { IfNone result (NoDigitFirst bytes.now) }
+{
+    match bytes {
+        [digit, rest @ ..] if digit.is_ascii_digit() => Some((u32::from(*digit - b'0'), rest)),
+        _ => None,
+    }
+}
+
+/// The number that the digits in front write, and what follows them; None where they write none of 32 bits.
+pub(crate) fn split_number(bytes: &[u8]) -> Option<(u32, &[u8])>
+    ensures number { option_map (λ r. r.0) result ≡ number_in (front_digits bytes.now) }
+    ensures rest { IfSome result (λ r. r.1.now ≡ after_digits bytes.now) }
+{
+    let (mut number, mut rest) = split_digit(bytes)?;
+    while let Some((digit, behind)) = split_digit(rest) {
+        number = number.checked_mul(10)?.checked_add(digit)?;
+        rest = behind;
+    }
+    Some((number, rest))
+}
 
 /// The number that the first `count` bytes write, and what follows them; None exactly where they aren't digits
 /// of a number from `lo` to `hi`.

@@ -2,7 +2,7 @@ use Rattle.std.proofs.Common.{◌≡◌, ◌≢◌, ℕ, ◌<◌, List, Some, Re
 use Rattle.std.specs.Result.{result_ok}
 use Rattle.scan_core.specs.Runs.{IsRun, digits_of}
 use Rattle.scan_core.specs.declared.runs.Run.{Run}
-use Rattle.iso8601.specs.inside.CountedReading.{number_in}
+use Rattle.iso8601.specs.inside.Reading.{number_in}
 use Rattle.iso8601.proofs.CountedFacts.{number_some, number_none}
 use Rattle.iso8601.proofs.counted.number_in.Goals as goal
 
