@@ -1,10 +1,10 @@
 -- What holds of every name in a set of names holds of every word that names a unit; and the names are letters.
-use Rattle.std.proofs.Common.{◌≡◌, ℕ, Bool, true, false, cond, IsTrue, nat_lt, List, [], ◌∷◌, length, Option, Some, refl, ◌∙◌, ap, ◌||◌}
+use Rattle.std.proofs.Common.{◌≡◌, ℕ, Bool, true, false, cond, IsTrue, nat_lt, List, [], ◌∷◌, length, Option, Some, refl, ◌∙◌, ap, inl, inr}
 use Rattle.std.specs.Char.{is_ascii_alphabetic}
 use Rattle.std.specs.List.{list_all}
 use Rattle.std.specs.Prelude.{bytes_eq}
 use Rattle.std.proofs.lemmas.Slice.Eq.{bytes_eq-Decides}
-use Rattle.std.proofs.lemmas.Bool.{and_parts, ltb-true}
+use Rattle.std.proofs.lemmas.Bool.{and_parts, ltb-true, or_cases}
 use Rattle.scan_core.specs.declared.share.Unit.{Unit as TimeUnit}
 use Rattle.scan_core.specs.declared.share.Unit.TheVariants.{Year, Month, Week, Day, Hour, Minute, Second}
 use Rattle.pg_interval_2.specs.inside.ItemReading.{is_name}
@@ -14,18 +14,15 @@ use Rattle.pg_interval_2.specs.declared.unit_names.NameSet.{NameSet}
 use Rattle.pg_interval_2.specs.declared.unit_names.NameSet.TheVariants.{Postgres, Verbose}
 use Rattle.pg_interval_2.proofs.Verdicts.{AreNames, Names}
 
-either_case : (x y : Bool) {P : Type 0} → (x || y) ≡ true → (x ≡ true → P) → (y ≡ true → P) → P
-either_case true y h f g = f refl
-either_case false y h f g = g h
-
 one_of_names : (test : List ℕ → Bool) (names : List (List ℕ)) (word : List ℕ) → IsTrue (list_all test names) → is_one_of names word ≡ true
     → test word ≡ true
 one_of_names test [] word all h = cc
 one_of_names test (name ∷ names) word all h =
     let split = and_parts (test name) (list_all test names) all in
-    either_case (bytes_eq word name) (is_one_of names word) h
-    (λ same. let equal : word ≡ name = (bytes_eq-Decides word name).0 same in ap test equal ∙ split.0)
-    (λ below. one_of_names test names word split.1 below)
+    elim (or_cases (bytes_eq word name) (is_one_of names word) h) [
+      | inl same ↦ (let equal : word ≡ name = (bytes_eq-Decides word name).0 same in ap test equal ∙ split.0)
+      | inr below ↦ one_of_names test names word split.1 below
+    ]
 
 pub chosen_unit : (t : Bool) (unit found : TimeUnit) (other : Option TimeUnit) {P : Type 0} → cond t (Some found) other ≡ Some unit
     → (t ≡ true → P) → (other ≡ Some unit → P)
