@@ -1,4 +1,6 @@
 //! Rows of conversions at their bounds, texts, sums and turns.
+mod documented;
+
 use crate::error::FileTimeRangeErrorKind::{Negative, Overflow};
 use crate::error::{FileTimeRangeError, FileTimeRangeErrorKind, OutOfCivil, ParseFileTimeCause};
 use crate::{FileTime, UtcDateTime};
