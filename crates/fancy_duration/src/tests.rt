@@ -1,4 +1,6 @@
 //! Rows: of the Rust crate's tests, of its documentation and by hand.
+mod documented;
+
 ghost use Rattle.std.specs.Prelude.{◌<◌, ◌^◌, ◌%◌};
 ghost use Rattle.std.proofs.Common.{arith};
 
