@@ -1,4 +1,5 @@
-//! Rows: refusals, what is read, and what is written.
+//! Rows: the calendar, refusals, what is read, and what is written.
+mod calendar;
 mod refused;
 mod spelled;
 mod written;
