@@ -21,6 +21,8 @@ mod iso_durations;
 #[cfg(test)]
 mod iso_strict;
 #[cfg(test)]
+mod names;
+#[cfg(test)]
 mod pages;
 #[cfg(test)]
 mod pieces;
