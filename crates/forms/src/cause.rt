@@ -8,7 +8,7 @@ ghost use Rattle.forms.specs.Names.{cause_name};
 pub enum Cause {
     /// The text hasn't the form's shape.
     Syntax,
-    /// The text has the shape, and its fields name no day or no time of day.
+    /// The text has the shape, and its fields name no day or no time of day, or an offset of a day or more.
     NoSuchMoment,
     /// A number of the text, or the value, leaves the bounds of its form.
     Range,

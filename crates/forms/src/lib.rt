@@ -1,4 +1,5 @@
-//! Intervals from one written form into another: one text, or a stream of lines such as `PgIso PgIso P1Y1Y`.
+//! Timestamps, durations and intervals from one written form into another: one text, or a stream of lines such as
+//! `PgIso PgIso P1Y1Y`.
 //!
 //! `reply` turns one text, `run` answers every line of a source with one line to a sink, and `top` is the program.
 //! A line that can't be answered has a reply as well, `refused` and the cause, so nothing stops and nothing is lost.

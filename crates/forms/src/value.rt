@@ -37,7 +37,8 @@ pub enum Value {
 /// The value that a whole text stands for in the form: `read_value(Form::PgIso, "P1Y1Y")` is the triple of 24 months.
 ///
 /// Where there is none it is the first of these that holds: `Syntax` where the text hasn't the form's shape, `NoSuchMoment` where its
-/// fields name no day or no time of day, `Range` where its numbers leave the value's bounds. It takes no memory.
+/// fields name no day or no time of day, or an offset of a day or more, `Range` where its numbers or its day leave the value's bounds.
+/// It takes no memory.
 pub fn read_value(form: Form, text: &str) -> Result<Value, Cause>
     ensures answer { (answer : AnyResult AnyValue AnyCause)
         → (result ≡ answer) ↔ Reads form text.now answer }

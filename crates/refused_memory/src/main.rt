@@ -1,5 +1,5 @@
-//! Each call that takes memory, once, with its answer. `tools/refuse_memory` refuses each request for memory in turn: then an answer
-//! is the one with ample memory, or want of memory.
+//! Each call that takes memory, once, and the program once more for a sample, with its answer. `tools/refuse_memory` refuses each
+//! request for memory in turn: then an answer is the one with ample memory, or want of memory.
 #![tactic(auto)]
 
 use fancy_duration::FancyDuration;

@@ -1,6 +1,6 @@
 //! The calls of this repository for C, and for all that calls C: a static library over `forms` and the crates below it.
 //!
-//! `include/timeforms.h` has each call as C sees it. Every call is one call of a crate below, with the clauses of that call; nothing is
+//! `include/timeforms.h` has each call as C sees it. Every call stands on calls of the crates below, with their clauses; nothing is
 //! allocated, and no call stops its caller. A slice crosses as a pointer and a length, and a pointer whose length is 0 may be null.
 //!
 //! A call answers 0 or more where it has an answer, and else a negative code (`code`).
