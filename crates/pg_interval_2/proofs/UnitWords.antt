@@ -1,6 +1,6 @@
 -- Letters packed into one number: names of few letters are told by it.
 use Rattle.std.proofs.Common.{◌≡◌, ℕ, ◌+◌, ◌*◌, ◌^◌, ◌<◌, ◌≤◌, inl, inr, Bool, true, false, ◌&&◌, ◌||◌, ◌==◌, List, [], ◌∷◌, length, refl, sym, ◌∙◌, ap, ap₂, arith, eqb-true}
-use Rattle.std.proofs.Math.Nat.{mul-le-mul_right, pow-le-pow_right, pow-suc}
+use Rattle.std.proofs.Math.Nat.{mul-le-mul_right, pow-le-pow_right}
 use Rattle.std.proofs.lemmas.Bool.{cases_lt, and_parts, ltb-true, eq-eqb}
 use Rattle.std.proofs.lemmas.Bool.Decides.{nat_tests}
 use Rattle.std.proofs.lemmas.Slice.Eq.{bytes_eq-Decides}
@@ -8,6 +8,7 @@ use Rattle.std.specs.Char.{is_ascii_alphabetic}
 use Rattle.std.specs.List.{list_all}
 use Rattle.std.specs.Prelude.{bytes_eq, nat_lt}
 use Rattle.scan_core.specs.Runs.{Knows, packed, packed_behind}
+use Rattle.scan_core.proofs.PackedFacts.{letter_bounds, packed-ge, packed-lt}
 use Rattle.scan_core.specs.declared.share.Unit.{Unit as TimeUnit}
 use Rattle.scan_core.specs.declared.share.Unit.TheVariants.{Year, Month, Week, Day, Hour, Minute, Second}
 use Rattle.pg_interval_2.specs.inside.NameSets.{is_packed, names_in, unit_packed}
@@ -16,29 +17,14 @@ use Rattle.pg_interval_2.specs.declared.unit_names.NameSet.{NameSet}
 use Rattle.pg_interval_2.specs.declared.unit_names.NameSet.TheVariants.{Postgres, Verbose}
 use Rattle.pg_interval_2.proofs.ItemFacts.{AreLetters}
 
-letter_bounds : (c : ℕ) → is_ascii_alphabetic c ≡ true → (1 ≤ c) × (c < 256)
-letter_bounds c h = grind (arith, nat_tests)
-
 -- ---- how great packed letters are
-
-low : (n : ℕ) (xs : List ℕ) → n * 256 ^ length xs ≤ packed_behind n xs
-low n [] = omega arith
-low n (x ∷ xs) = let below = low (n * 256 + x) xs in rw (pow-suc 256 (length xs)) (omega (arith, below))
-
-high : (n : ℕ) (xs : List ℕ) → AreLetters xs → packed_behind n xs < (n + 1) * 256 ^ length xs
-high n [] all = omega arith
-high n (x ∷ xs) all =
-    let split = and_parts (is_ascii_alphabetic x) (list_all is_ascii_alphabetic xs) all in
-    let below = high (n * 256 + x) xs split.1 in
-    let small = mul-le-mul_right (256 ^ length xs) (letter_bounds x split.0).1 in
-    rw (pow-suc 256 (length xs)) (omega (arith, below, small))
 
 longer : (xs ys : List ℕ) → AreLetters xs → AreLetters ys → length xs < length ys → packed xs < packed ys
 longer xs [] all more less = absurd (omega arith)
 longer xs (y ∷ ys) all more less =
     let split = and_parts (is_ascii_alphabetic y) (list_all is_ascii_alphabetic ys) more in
-    let above = low (0 * 256 + y) ys in
-    let below = high 0 xs all in
+    let above = packed-ge (0 * 256 + y) ys in
+    let below = packed-lt 0 xs all in
     let some = mul-le-mul_right (256 ^ length ys) (letter_bounds y split.0).0 in
     let power = pow-le-pow_right {n = 256} (omega arith) {i = length xs} {j = length ys} (omega arith) in
     omega (arith, above, below, some, power)

@@ -5,6 +5,7 @@ pub mod RoundingFacts
 pub mod Between
 pub mod Scans
 pub mod RunFacts
+pub mod PackedFacts
 pub mod Spending
 pub mod ShareFacts
 pub mod Signs

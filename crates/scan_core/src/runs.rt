@@ -1,5 +1,5 @@
 //! The runs of digits, letters and blanks that a scan passes, as many as stand in front.
-ghost use Rattle.std.specs.Prelude.{◌≡◌, ◌+◌, ◌-◌, ◌*◌, ◌^◌, ◌<◌, ◌==◌, ℕ, true};
+ghost use Rattle.std.specs.Prelude.{◌≡◌, ◌+◌, ◌-◌, ◌*◌, ◌%◌, ◌^◌, ◌<◌, ◌==◌, ℕ, true};
 ghost use Rattle.std.specs.Char.{is_ascii_digit};
 ghost use Rattle.scan_core.specs.Runs.{Knows};
 
@@ -48,16 +48,12 @@ pub(crate) fn with_digit(value: u64, digit: u8) -> u64
     }
 }
 
-/// The packed letters with one more.
+/// The packed letters with one more, modulo 2^64: of eight letters or more the last eight, which are 2^56 at least.
 #[inline(always)]
 fn with_letter(value: u64, letter: u8) -> u64
-    ensures { (n : ℕ) → Knows (2 ^ 56) value n → Knows (2 ^ 56) result (n * 256 + letter) }
+    ensures { (n : ℕ) → value ≡ n % 2 ^ 64 → result ≡ (n * 256 + letter) % 2 ^ 64 }
 {
-    if value < 72_057_594_037_927_936 {
-        value * 256 + u64::from(letter)
-    } else {
-        value
-    }
+    value.wrapping_mul(256).wrapping_add(u64::from(letter))
 }
 
 impl<'a> Scan<'a> {

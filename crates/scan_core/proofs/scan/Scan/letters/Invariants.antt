@@ -1,6 +1,6 @@
-use Rattle.std.proofs.Common.{◌≡◌, ℕ, ◌+◌, ◌^◌, List, length}
+use Rattle.std.proofs.Common.{◌≡◌, ℕ, ◌+◌, ◌%◌, ◌^◌, List, length}
 use Rattle.std.specs.Char.{is_ascii_alphabetic}
-use Rattle.scan_core.specs.Runs.{Knows, packed}
+use Rattle.scan_core.specs.Runs.{packed}
 use Rattle.scan_core.specs.Scanning.{ahead, unseen}
 use Rattle.scan_core.proofs.Scans.{IsAmong}
 use Rattle.scan_core.proofs.scan.Scan.letters.Given as goal
@@ -8,7 +8,7 @@ use Rattle.scan_core.proofs.scan.Scan.letters.Given as goal
 -- some of the letters were passed, and they are known
 abbrev pub invariant-loop-letter : goal.invariant-loop-letter
 invariant-loop-letter g l = record {
-  among : (bytes : List ℕ) × IsAmong is_ascii_alphabetic bytes l.initial.self l.self × Knows (2 ^ 56) l.value (packed bytes);
+  among : (bytes : List ℕ) × IsAmong is_ascii_alphabetic bytes l.initial.self l.self × (l.value ≡ packed bytes % 2 ^ 64);
   ticks : l.steps + unseen (ahead l.self) ≡ l.initial.steps + unseen (ahead l.initial.self);
 }
 
