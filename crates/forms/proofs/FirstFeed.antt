@@ -1,29 +1,16 @@
--- What a search for a line feed or a space finds.
-use Rattle.std.proofs.Common.{◌≡◌, ℕ, zero, suc, ◌<◌, ◌≤◌, ◌==◌, Bool, true, false, List, [], ◌∷◌, ◌++◌, length, take, drop, refl, ap, arith, eqb-true}
+-- What a search for a line feed finds.
+use Rattle.std.proofs.Common.{◌≡◌, ℕ, zero, suc, ◌<◌, ◌≤◌, ◌==◌, List, [], ◌∷◌, ◌++◌, length, take, drop, ap, arith, eqb-true}
+use Rattle.std.proofs.lemmas.Bool.{false_from_ne_true}
 use Rattle.memchr.specs.Find.{Nowhere, Passes, is_byte}
 use Rattle.forms.specs.inside.Pieces.{NoFeed}
-use Rattle.forms.specs.inside.Reading.{NoSpace}
-
-not_true : (t : Bool) → (t ≡ true → ⊥) → t ≡ false
-not_true true h = absurd (h refl)
-not_true false h = refl
 
 -- no byte before a place is a line feed
 pub no_feed_before : (bytes : List ℕ) (n : ℕ) → n ≤ length bytes → Nowhere (Passes (is_byte 10) bytes) 0 n → NoFeed (take n bytes)
 no_feed_before bytes zero fits nowhere = tt
 no_feed_before [] (suc n) fits nowhere = tt
 no_feed_before (byte ∷ bytes) (suc n) fits nowhere = (
-  not_true (byte == 10) (nowhere 0 (omega arith) (omega arith)),
+  false_from_ne_true (byte == 10) (nowhere 0 (omega arith) (omega arith)),
   no_feed_before bytes n (omega arith) (λ k low high. nowhere (suc k) (omega arith) (omega arith)),
-)
-
--- no byte before a place is a space
-pub no_space_before : (bytes : List ℕ) (n : ℕ) → n ≤ length bytes → Nowhere (Passes (is_byte 32) bytes) 0 n → NoSpace (take n bytes)
-no_space_before bytes zero fits nowhere = tt
-no_space_before [] (suc n) fits nowhere = tt
-no_space_before (byte ∷ bytes) (suc n) fits nowhere = (
-  not_true (byte == 32) (nowhere 0 (omega arith) (omega arith)),
-  no_space_before bytes n (omega arith) (λ k low high. nowhere (suc k) (omega arith) (omega arith)),
 )
 
 -- where a byte was found the bytes are what stands before it, the byte and what follows

@@ -1,6 +1,8 @@
 //! The written forms and their names. Each has a module of its own, which reads and writes it.
-ghost use Rattle.std.specs.Prelude.{◌≡◌, ◌↔◌, Some};
+ghost use Rattle.std.specs.Prelude.{◌≡◌, ◌≢◌, ◌↔◌, ℕ, List, ◌++◌, Option, Some, IfSome, IfNone};
+ghost use Rattle.std.specs.Option.{option_copied};
 ghost use Rattle.forms.specs.Names.{is_counted, name_of};
+ghost use Rattle.forms.specs.inside.Reading.{behind, IsNamed};
 ghost use Rattle.forms.specs.declared.form.Form.{Form as AnyForm};
 
 pub mod fancy;
@@ -43,28 +45,65 @@ impl Form {
     pub fn by_name(name: &str) -> Option<Form>
         ensures { (form : AnyForm) → (result ≡ Some form) ↔ (name.now ≡ name_of form) }
     {
-        Form::named(name.as_bytes())
+        let (form, rest) = Form::named(name.as_bytes())?;
+        match rest {
+            None => Some(form),
+            Some(_) => None,
+        }
     }
 
-    /// The form whose name these bytes are, or None where they are no form's.
+    /// The form that the first word names, and what follows the space behind it.
     #[inline(always)]
-    pub(crate) fn named(name: &[u8]) -> Option<Form>
-        ensures { (form : AnyForm) → (result ≡ Some form) ↔ (name.now ≡ name_of form) }
+    pub(crate) fn named(text: &[u8]) -> Option<(Form, Option<&[u8]>)>
+        ensures found { IfSome result (λ r. IsNamed text.now r.0 (option_copied r.1)) }
+        ensures none { IfNone result
+            ((form : AnyForm) (rest : Option (List ℕ)) → ¬ (IsNamed text.now form rest)) }
     {
-        match name {
-            b"FileTime" => Some(Form::FileTime),
-            b"IsoDateTime" => Some(Form::IsoDateTime),
-            b"IsoDate" => Some(Form::IsoDate),
-            b"IsoDuration" => Some(Form::IsoDuration),
-            b"Toml" => Some(Form::Toml),
-            b"Fancy" => Some(Form::Fancy),
-            b"PgIso" => Some(Form::PgIso),
-            b"Postgres" => Some(Form::Postgres),
-            b"PgVerbose" => Some(Form::PgVerbose),
-            b"PgSql" => Some(Form::PgSql),
-            b"IsoStrict" => Some(Form::IsoStrict),
-            _ => None,
+        // The first word is one name at most, so any order would do. The interval forms are found soonest.
+        if let Some(rest) = Form::PgIso.after_name(text) {
+            return Some((Form::PgIso, rest));
         }
+        if let Some(rest) = Form::Postgres.after_name(text) {
+            return Some((Form::Postgres, rest));
+        }
+        if let Some(rest) = Form::PgVerbose.after_name(text) {
+            return Some((Form::PgVerbose, rest));
+        }
+        if let Some(rest) = Form::PgSql.after_name(text) {
+            return Some((Form::PgSql, rest));
+        }
+        if let Some(rest) = Form::IsoStrict.after_name(text) {
+            return Some((Form::IsoStrict, rest));
+        }
+        if let Some(rest) = Form::IsoDuration.after_name(text) {
+            return Some((Form::IsoDuration, rest));
+        }
+        if let Some(rest) = Form::IsoDateTime.after_name(text) {
+            return Some((Form::IsoDateTime, rest));
+        }
+        if let Some(rest) = Form::IsoDate.after_name(text) {
+            return Some((Form::IsoDate, rest));
+        }
+        if let Some(rest) = Form::FileTime.after_name(text) {
+            return Some((Form::FileTime, rest));
+        }
+        if let Some(rest) = Form::Toml.after_name(text) {
+            return Some((Form::Toml, rest));
+        }
+        if let Some(rest) = Form::Fancy.after_name(text) {
+            return Some((Form::Fancy, rest));
+        }
+        None
+    }
+
+    /// What follows the form's name and the space behind it, or None where that isn't the first word.
+    #[inline(always)]
+    fn after_name(self, text: &[u8]) -> Option<Option<&[u8]>>
+        ensures found { IfSome result (λ rest. IsNamed text.now self (option_copied rest)) }
+        ensures none { IfNone result
+            ((rest : Option (List ℕ)) → ¬ (IsNamed text.now self rest)) }
+    {
+        after_word(text, self.name().as_bytes())
     }
 
     /// The form's name, without blanks: `Form::PgIso.name()` is `PgIso`.
@@ -99,5 +138,28 @@ impl Form {
             | Form::IsoStrict => true,
             Form::FileTime | Form::IsoDateTime | Form::IsoDate | Form::Toml | Form::Fancy => false,
         }
+    }
+}
+
+/// What follows a word and the space behind it, or None where the text doesn't begin with this word. Tested byte by byte, words
+/// that are known where this is compiled become a few tests of letters.
+#[inline(always)]
+fn after_word<'a>(text: &'a [u8], word: &[u8]) -> Option<Option<&'a [u8]>>
+    ensures found { IfSome result (λ rest. text.now ≡ word.now ++ behind (option_copied rest)) }
+    ensures none { IfNone result
+        ((rest : Option (List ℕ)) → text.now ≢ word.now ++ behind rest) }
+{
+    if text.len() < word.len() {
+        return None;
+    }
+    for i in 0..word.len() {
+        if text[i] != word[i] {
+            return None;
+        }
+    }
+    match &text[word.len()..] {
+        [] => Some(None),
+        [b' ', rest @ ..] => Some(Some(rest)),
+        _ => None,
     }
 }

@@ -1,10 +1,8 @@
 //! Lines and the requests in them.
-ghost use Rattle.std.specs.Prelude.{◌≡◌, List, [], ℕ, ◌++◌, codes, Option, IfSome, IfNone, unwrap_or, IsUtf8};
+ghost use Rattle.std.specs.Prelude.{◌≡◌, [], ◌++◌, codes, IfSome, IfNone, unwrap_or, IsUtf8};
 ghost use Rattle.std.specs.Option.{option_copied};
 ghost use Rattle.forms.specs.Replies.{IsRequest, IsNoRequest};
-ghost use Rattle.forms.specs.inside.Reading.{NoSpace, behind, IsNamed};
 ghost use Rattle.forms.specs.inside.Pieces.{NoFeed};
-ghost use Rattle.forms.specs.declared.form.Form.{Form as AnyForm};
 
 use crate::form::Form;
 use memchr::memchr;
@@ -26,8 +24,8 @@ pub fn request(line: &[u8]) -> Option<(Form, Form, &str)>
     ensures none { IfNone result (IsNoRequest line.now) }
 {
     // Names are ASCII: the line is UTF-8 exactly where the text behind its names is.
-    let (from, rest) = split_form(line)?;
-    let (to, end) = split_form(rest?)?;
+    let (from, rest) = Form::named(line)?;
+    let (to, end) = Form::named(rest?)?;
     let text = text_behind(end)?;
     Some((from, to, text))
 }
@@ -42,28 +40,5 @@ fn text_behind(end: Option<&[u8]>) -> Option<&str>
     match end {
         Some(text) => str::from_utf8(text).ok(),
         None => Some(""),
-    }
-}
-
-/// The form that the first word names, and what follows the space behind it.
-#[inline(always)]
-fn split_form(text: &[u8]) -> Option<(Form, Option<&[u8]>)>
-    ensures found { IfSome result (λ r. IsNamed text.now r.0 (option_copied r.1)) }
-    ensures none { IfNone result
-        ((form : AnyForm) (rest : Option (List ℕ)) → ¬ (IsNamed text.now form rest)) }
-{
-    let (name, rest) = split_word(text);
-    Some((Form::named(name)?, rest))
-}
-
-/// The bytes before the first space, and what follows it.
-#[inline(always)]
-fn split_word(text: &[u8]) -> (&[u8], Option<&[u8]>)
-    ensures word { NoSpace result.0.now }
-    ensures joined { text.now ≡ result.0.now ++ behind (option_copied result.1) }
-{
-    match memchr(b' ', text) {
-        Some(end) => (&text[..end], Some(&text[end + 1..])),
-        None => (text, None),
     }
 }

@@ -1,14 +1,9 @@
 -- What private functions answer: cited by private contracts alone.
-use Rattle.std.specs.Prelude.{◌≡◌, ◌==◌, ℕ, false, List, [], ◌∷◌, ◌++◌, codes, Option, Some, None}
+use Rattle.std.specs.Prelude.{◌≡◌, ℕ, List, [], ◌++◌, codes, Option, Some, None}
 use Rattle.std.specs.Io.KnownBytes.{Appends}
 use Rattle.forms.specs.declared.form.Form.{Form}
 use Rattle.forms.specs.Names.{name_of}
 use Rattle.forms.specs.Replies.{IsReplyLine}
-
--- no byte is a space
-abbrev pub NoSpace : List ℕ → Type 0
-NoSpace [] = Unit {0}
-NoSpace (byte ∷ bytes) = ((byte == 32) ≡ false) × NoSpace bytes
 
 -- what follows a word: nothing, or a space and the rest
 abbrev pub behind : Option (List ℕ) → List ℕ
