@@ -1,11 +1,12 @@
 -- The interval forms: what counts are worth, what interval is held of a value, and that it is read back. What is said is said of any style.
-use Rattle.std.proofs.Common.{◌≡◌, ℕ, ◌/◌, ◌%◌, ◌==◌, ◌&&◌, Bool, true, false, IsTrue, List, Option, Some, None, Ok, Err, FitsSigned, w32, w64, refl, sym, ◌∙◌, ap, subst, inl, inr, arith}
+use Rattle.std.proofs.Common.{◌≡◌, ℕ, ◌/◌, ◌%◌, ◌==◌, ◌&&◌, true, false, IsTrue, List, Option, Some, None, Ok, Err, FitsSigned, w32, w64, refl, sym, ◌∙◌, ap, subst, inl, inr, arith}
 use Rattle.std.specs.Prelude.{ℤ, pos}
+use Rattle.std.proofs.lemmas.Bool.{and_parts, and_left, and_right, false_from_ne_true}
 use Rattle.std.proofs.lemmas.Bool.Decides.{nat_tests}
 use Rattle.std.proofs.lemmas.Int.{ints}
 use Rattle.scan_core.specs.Count.{Count}
 use Rattle.scan_core.specs.Shares.{fits_type}
-use Rattle.scan_core.specs.Sums.{part_fits, fits, misfit}
+use Rattle.scan_core.specs.Sums.{fits, misfit}
 use Rattle.scan_core.specs.declared.share.Part.{Part}
 use Rattle.scan_core.specs.declared.share.Part.TheVariants.{Months, Days, Micros}
 use Rattle.scan_core.proofs.SumFacts.{misfit-none}
@@ -26,7 +27,7 @@ use Rattle.forms.specs.form.Intervals.{worth, interval_of, length_in_days, inter
 use Rattle.forms.specs.inside.Lawful.{Lawful}
 use Rattle.forms.specs.inside.Readers.{IsRefusedBy}
 use Rattle.scan_core.proofs.FitFacts.{within_32, within_64, fits_32, fits_64}
-use Rattle.forms.proofs.Fitting.{widen, both, not_true}
+use Rattle.forms.proofs.Fitting.{widen}
 use Rattle.forms.proofs.Lawful.{then_ok, same_ok, one_image, IsHeldBack, HasRows, lawful_by}
 
 -- the triple of an interval
@@ -44,31 +45,39 @@ unfolding worth
 worth_misfits counts h = rw h refl
 
 not_fitting : (counts : List Count) (part : Part) → misfit counts ≡ Some part → fits counts ≡ false
-not_fitting counts part h = not_true (fits counts) (λ all. let none : None ≡ Some part = sym ((misfit-none counts).1 all) ∙ h in cc)
+not_fitting counts part h = false_from_ne_true (fits counts) (λ all. let none : None ≡ Some part = sym ((misfit-none counts).1 all) ∙ h in cc)
 
-named_misfit : (counts : List Count) → fits counts ≡ false → (found : Option Part) → misfit counts ≡ found → (part : Part) × (worth counts ≡ Err Range) × (misfit counts ≡ Some part)
+named_misfit : (counts : List Count) → fits counts ≡ false → (found : Option Part) → misfit counts ≡ found
+    → (part : Part) × (worth counts ≡ Err Range) × (misfit counts ≡ Some part)
 named_misfit counts h (Some part) e = (part, worth_misfits counts h, e)
 named_misfit counts h None e = absurd (let both : true ≡ false = sym ((misfit-none counts).0 e) ∙ h in cc)
 
 -- counts that don't fit have a first part that doesn't, and are worth nothing
-pub misfit_of : (counts : List Count) → fits counts ≡ false → (part : Part) × (worth counts ≡ Err Range) × (misfit counts ≡ Some part)
+pub misfit_of : (counts : List Count) → fits counts ≡ false
+    → (part : Part) × (worth counts ≡ Err Range) × (misfit counts ≡ Some part)
 misfit_of counts h = named_misfit counts h (misfit counts) refl
 
-pub reads_interval : (s : Style) (text : List ℕ) (t : Interval) → Denotes (Shape s) text t → ReadsBy (Shape s) (Is worth) text (Ok (triple t))
+pub reads_interval : (s : Style) (text : List ℕ) (t : Interval) → Denotes (Shape s) text t
+    → ReadsBy (Shape s) (Is worth) text (Ok (triple t))
 reads_interval s text t h = inl (h.0, h.1, ap (λ (u : Interval). Ok (triple u)) h.3 ∙ sym (worth_fits h.0 h.2))
 
-pub reads_as : (s : Style) (text : List ℕ) (t : Interval) (months days micros : ℤ) → Denotes (Shape s) text t → months ≡ t.months → days ≡ t.days → micros ≡ t.microseconds → ReadsBy (Shape s) (Is worth) text (Ok (Triple months days micros))
+pub reads_as : (s : Style) (text : List ℕ) (t : Interval) (months days micros : ℤ) → Denotes (Shape s) text t
+    → months ≡ t.months → days ≡ t.days → micros ≡ t.microseconds
+    → ReadsBy (Shape s) (Is worth) text (Ok (Triple months days micros))
 reads_as s text t months days micros h m d u = rw (m, d, u) (reads_interval s text t h)
 
-pub reads_misfit : (s : Style) (text : List ℕ) (part : Part) → Misfits (Shape s) text part → ReadsBy (Shape s) (Is worth) text (Err Range)
+pub reads_misfit : (s : Style) (text : List ℕ) (part : Part) → Misfits (Shape s) text part
+    → ReadsBy (Shape s) (Is worth) text (Err Range)
 reads_misfit s text part h = inl (h.0, h.1, sym (worth_misfits h.0 (not_fitting h.0 part h.2)))
 
-pub reads_no_shape : (s : Style) (text : List ℕ) → HasNoShape (Shape s) text → ReadsBy (Shape s) (Is worth) text (Err Syntax)
+pub reads_no_shape : (s : Style) (text : List ℕ) → HasNoShape (Shape s) text
+    → ReadsBy (Shape s) (Is worth) text (Err Syntax)
 reads_no_shape s text h = inr (h, refl)
 
 -- ---- what a reader's error says
 
-pub error_says : (s : Style) (IsBadPlace : List ℕ → ℕ → ℕ → Type 0) (message text : List ℕ) (error : ParseError) → Refuses (Shape s) IsBadPlace message text error → IsRefusedBy s text error
+pub error_says : (s : Style) (IsBadPlace : List ℕ → ℕ → ℕ → Type 0) (message text : List ℕ) (error : ParseError)
+    → Refuses (Shape s) IsBadPlace message text error → IsRefusedBy s text error
 error_says s IsBadPlace message text (InvalidInterval m) h = record { range = λ r. absurd r; no_range = λ n. h.0 }
 error_says s IsBadPlace message text (BadUnit start end) h = record { range = λ r. absurd r; no_range = λ n. h.0 }
 error_says s IsBadPlace message text (InvalidYearMonth m) h = record { range = λ r. (Months, h.0); no_range = λ n. absurd (n tt) }
@@ -77,34 +86,29 @@ error_says s IsBadPlace message text (InvalidTime m) h = record { range = λ r. 
 
 -- ---- the interval of a value
 
-pub held_parts : (months days micros : ℤ) → FitsSigned w32 months → FitsSigned w32 days → FitsSigned w64 micros → interval_of months days micros ≡ Ok (record { months = months; days = days; microseconds = micros })
+pub held_parts : (months days micros : ℤ) → FitsSigned w32 months → FitsSigned w32 days → FitsSigned w64 micros
+    → interval_of months days micros ≡ Ok (record { months = months; days = days; microseconds = micros })
 unfolding interval_of
 held_parts months days micros m d u = rw (fits_32 months m, fits_32 days d, fits_64 micros u) refl
 
 outside : (z : ℤ) → (FitsSigned w32 z → ⊥) → fits_type Days z ≡ false
-outside z isnt = not_true (fits_type Days z) (λ h. isnt (within_32 z h))
+outside z isnt = false_from_ne_true (fits_type Days z) (λ h. isnt (within_32 z h))
 
 -- an interval that was made of such parts
 pub made_of : (made : Interval) (m d u months days micros : ℤ) → made ≡ record { months = m; days = d; microseconds = u } → m ≡ months → d ≡ days → u ≡ micros → FitsSigned w32 months → FitsSigned w32 days → FitsSigned w64 micros
     → Ok made ≡ interval_of months days micros
 made_of made m d u months days micros is me de ue mf df uf = let whole : made ≡ record { months = months; days = days; microseconds = micros } = is ∙ rw (me, de, ue) refl in ap Ok whole ∙ sym (held_parts months days micros mf df uf)
 
-false_first : (a b : Bool) → a ≡ false → (a && b) ≡ false
-false_first a b h = rw h refl
-
-false_second : (a b c : Bool) → b ≡ false → (a && (b && c)) ≡ false
-false_second true b c h = rw h refl
-false_second false b c h = refl
-
 pub no_months : (months days micros : ℤ) → (FitsSigned w32 months → ⊥) → interval_of months days micros ≡ Err Range
 unfolding interval_of
-no_months months days micros isnt = rw (false_first _ (fits_type Days days && fits_type Micros micros) (outside months isnt)) refl
+no_months months days micros isnt = rw (and_left _ (fits_type Days days && fits_type Micros micros) (outside months isnt)) refl
 
 pub no_days : (months days micros : ℤ) → (FitsSigned w32 days → ⊥) → interval_of months days micros ≡ Err Range
 unfolding interval_of
-no_days months days micros isnt = rw (false_second (fits_type Months months) _ (fits_type Micros micros) (outside days isnt)) refl
+no_days months days micros isnt = rw (and_right (fits_type Months months) _ (and_left _ (fits_type Micros micros) (outside days isnt))) refl
 
-pub held_length : (nanos : ℕ) → FitsSigned w32 (pos (nanos / 86_400_000_000_000)) → nanos % 1000 ≡ 0 → interval_of_length nanos ≡ Ok (length_in_days nanos)
+pub held_length : (nanos : ℕ) → FitsSigned w32 (pos (nanos / 86_400_000_000_000)) → nanos % 1000 ≡ 0
+    → interval_of_length nanos ≡ Ok (length_in_days nanos)
 unfolding interval_of_length
 held_length nanos d whole = rw (fits_32 _ d, whole) refl
 
@@ -113,11 +117,13 @@ pub made_of_length : (made : Interval) (d u : ℤ) (nanos : ℕ) → made ≡ re
     → FitsSigned w32 (pos (nanos / 86_400_000_000_000)) → nanos % 1000 ≡ 0 → Ok made ≡ interval_of_length nanos
 made_of_length made d u nanos is de ue fits whole = let same : made ≡ length_in_days nanos = is ∙ rw (de, ue) refl in ap Ok same ∙ sym (held_length nanos fits whole)
 
-pub no_length_days : (nanos : ℕ) → (FitsSigned w32 (pos (nanos / 86_400_000_000_000)) → ⊥) → interval_of_length nanos ≡ Err Range
+pub no_length_days : (nanos : ℕ) → (FitsSigned w32 (pos (nanos / 86_400_000_000_000)) → ⊥)
+    → interval_of_length nanos ≡ Err Range
 unfolding interval_of_length
 no_length_days nanos isnt = rw (outside _ isnt) refl
 
-pub no_whole_micros : (nanos : ℕ) → FitsSigned w32 (pos (nanos / 86_400_000_000_000)) → (nanos % 1000 ≡ 0 → ⊥) → interval_of_length nanos ≡ Err Precision
+pub no_whole_micros : (nanos : ℕ) → FitsSigned w32 (pos (nanos / 86_400_000_000_000)) → (nanos % 1000 ≡ 0 → ⊥)
+    → interval_of_length nanos ≡ Err Precision
 unfolding interval_of_length
 no_whole_micros nanos d some =
     let rest : (nanos % 1000 == 0) ≡ false = grind (arith, nat_tests) in
@@ -125,41 +131,38 @@ no_whole_micros nanos d some =
 
 -- ---- the laws
 
-fits_each : (counts : List Count) → IsTrue (fits counts) → IsInRange (sum_of counts)
-fits_each counts h =
-    let first = both (part_fits Months counts) (part_fits Days counts && part_fits Micros counts) h in
-    let second = both (part_fits Days counts) (part_fits Micros counts) first.1 in
-    record {
-      months = within_32 _ (both _ _ first.0).1;
-      days = within_32 _ (both _ _ second.0).1;
-      microseconds = within_64 _ (both _ _ second.1).1;
-    }
+-- what the laws of the crate below say of a style
+abbrev pub IsDenotedInRange : Style → Type 0
+IsDenotedInRange s = (text : List ℕ) (t : Interval) → Denotes (Shape s) text t → IsInRange t
 
--- what a text denotes is in the range of intervals
-pub denoted_in_range : (s : Style) (text : List ℕ) (t : Interval) → Denotes (Shape s) text t → IsInRange t
-denoted_in_range s text t h = subst IsInRange (sym h.3) (fits_each h.0 h.2)
+abbrev pub IsWrittenBack : Style → Type 0
+IsWrittenBack s = (t : Interval) → IsInRange t → Denotes (Shape s) (written s t) t
 
 within_triple : (t : Interval) → IsInRange t → IsWithinBounds (triple t)
 within_triple t r = (widen _ r.months, (widen _ r.days, r.microseconds))
 
-within : (counts : List Count) (value : Value) → worth counts ≡ Ok value → IsWithinBounds value
+within : (s : Style) → IsDenotedInRange s → (text : List ℕ) (counts : List Count) (value : Value) → Shape s text counts
+    → worth counts ≡ Ok value → IsWithinBounds value
 unfolding worth
-within counts value h =
+within s in_range text counts value spelled h =
     let parts = then_ok (fits counts) (Ok (triple (sum_of counts))) value Range h in
-    subst IsWithinBounds (same_ok (triple (sum_of counts)) value parts.1) (within_triple (sum_of counts) (fits_each counts parts.0))
+    let denoted = in_range text (sum_of counts) (counts, spelled, parts.0, refl) in
+    subst IsWithinBounds (same_ok (triple (sum_of counts)) value parts.1) (within_triple (sum_of counts) denoted)
 
-interval_held : (months days micros : ℤ) (t : Interval) → interval_of months days micros ≡ Ok t → IsInRange t × (Triple months days micros ≡ triple t)
+interval_held : (months days micros : ℤ) (t : Interval) → interval_of months days micros ≡ Ok t
+    → IsInRange t × (Triple months days micros ≡ triple t)
 unfolding interval_of
 interval_held months days micros t h =
     let parts = then_ok (fits_type Months months && (fits_type Days days && fits_type Micros micros)) _ t Range h in
-    let first = both (fits_type Months months) (fits_type Days days && fits_type Micros micros) parts.0 in
-    let second = both (fits_type Days days) (fits_type Micros micros) first.1 in
+    let first = and_parts (fits_type Months months) (fits_type Days days && fits_type Micros micros) parts.0 in
+    let second = and_parts (fits_type Days days) (fits_type Micros micros) first.1 in
     let made : Interval = record { months = months; days = days; microseconds = micros } in
     let same : made ≡ t = same_ok made t parts.1 in
     let range : IsInRange made = record { months = within_32 _ first.0; days = within_32 _ second.0; microseconds = within_64 _ second.1 } in
     (subst IsInRange same range, ap triple same)
 
-length_held : (nanos : ℕ) (t : Interval) → interval_of_length nanos ≡ Ok t → IsInRange t × IsLength nanos t.months t.days t.microseconds
+length_held : (nanos : ℕ) (t : Interval) → interval_of_length nanos ≡ Ok t
+    → IsInRange t × IsLength nanos t.months t.days t.microseconds
 unfolding interval_of_length
 length_held nanos t h =
     let first = then_ok (fits_type Days (pos (nanos / 86_400_000_000_000))) _ t Range h in
@@ -170,14 +173,11 @@ length_held nanos t h =
     let long : IsLength nanos (pos 0) (pos (nanos / 86_400_000_000_000)) (pos (nanos % 86_400_000_000_000 / 1000)) = (refl, omega (arith, ints)) in
     (subst IsInRange same made, subst (λ (u : Interval). IsLength nanos u.months u.days u.microseconds) same long)
 
--- what the laws of the crate below say of a style
-abbrev pub IsWrittenBack : Style → Type 0
-IsWrittenBack s = (t : Interval) → IsInRange t → Denotes (Shape s) (written s t) t
-
 abbrev pub IsHeld : Style → Value → Interval → Type 0
 IsHeld s value t = IsHeldBack (Shape s) (Is worth) (Is held) (written s t) value t
 
-held_by : (s : Style) → IsWrittenBack s → (value : Value) (t : Interval) → IsInRange t → Same value (triple t) → IsHeld s value t
+held_by : (s : Style) → IsWrittenBack s → (value : Value) (t : Interval) → IsInRange t → Same value (triple t)
+    → IsHeld s value t
 held_by s written_back value t range same =
     let d = written_back t range in
     record {
@@ -189,18 +189,21 @@ held_by s written_back value t range same =
       again = sym (held_parts t.months t.days t.microseconds range.months range.days range.microseconds);
     }
 
-held_back : (s : Style) → IsWrittenBack s → (value : Value) (t : Interval) → IsWithinBounds value → held value ≡ Ok t → IsHeld s value t
+held_back : (s : Style) → IsWrittenBack s → (value : Value) (t : Interval) → IsWithinBounds value → held value ≡ Ok t
+    → IsHeld s value t
 held_back s written_back (Triple months days micros) t w h = let found = interval_held months days micros t h in held_by s written_back (Triple months days micros) t found.0 found.1
 held_back s written_back (Length nanos) t w h = let found = length_held nanos t h in held_by s written_back (Length nanos) t found.0 found.1
 held_back s written_back _ t w h = absurd (let e : Err Kind ≡ Ok t = h in cc)
 
-pub intervals : (form : Form) (s : Style) → HasRows form (Shape s) (Is worth) (Is held) (written s) → ((text : List ℕ) (a b : List Count) → Shape s text a → Shape s text b → a ≡ b) → IsWrittenBack s → Lawful form
-intervals form s rows one written_back =
+pub intervals : (form : Form) (s : Style) → HasRows form (Shape s) (Is worth) (Is held) (written s)
+    → ((text : List ℕ) (a b : List Count) → Shape s text a → Shape s text b → a ≡ b) → IsDenotedInRange s → IsWrittenBack s
+    → Lawful form
+intervals form s rows one in_range written_back =
     lawful_by form (Shape s) (Is worth) (Is held) (written s) rows
     (record {
       one = one;
       one_worth = one_image worth;
       one_held = one_image held;
-      within = λ text counts value spelled h. within counts value (sym h);
+      within = λ text counts value spelled h. within s in_range text counts value spelled (sym h);
       back = λ value t w h. held_back s written_back value t w (sym h);
     })

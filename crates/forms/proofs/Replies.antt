@@ -18,7 +18,7 @@ use Rattle.forms.specs.Names.{style_of}
 use Rattle.forms.specs.ReadBack.{Turns}
 use Rattle.forms.specs.Replies.{IsIntervalAnswer, IsAnswerBy, IsAnswer}
 use Rattle.forms.specs.form.Intervals.{worth, held}
-use Rattle.forms.proofs.Intervals.{triple, worth_fits, denoted_in_range, held_parts, reads_interval, reads_misfit, reads_no_shape, misfit_of}
+use Rattle.forms.proofs.Intervals.{triple, worth_fits, IsDenotedInRange, held_parts, reads_interval, reads_misfit, reads_no_shape, misfit_of}
 use Rattle.forms.proofs.Lawful.{HasRows}
 
 -- reading in one style and writing in another
@@ -26,39 +26,47 @@ abbrev TurnsBy : Style → Style → List ℕ → Result (List ℕ) Cause → Ty
 TurnsBy from to text answer = (value : Result Value Cause) × ReadsBy (Shape from) (Is worth) text value × Then (WritesBy (Is held) (written to)) value answer
 
 -- the interval of a triple that a text denotes
-held_triple : (from : Style) (text : List ℕ) (t : Interval) → Denotes (Shape from) text t → Ok t ≡ held (triple t)
-held_triple from text t h = let range = denoted_in_range from text t h in sym (held_parts t.months t.days t.microseconds range.months range.days range.microseconds)
+held_triple : (from : Style) → IsDenotedInRange from → (text : List ℕ) (t : Interval) → Denotes (Shape from) text t
+    → Ok t ≡ held (triple t)
+held_triple from in_range text t h =
+    let range = in_range text t h in
+    sym (held_parts t.months t.days t.microseconds range.months range.days range.microseconds)
 
 -- its text
-written_triple : (from : Style) (to : Style) (text : List ℕ) (t : Interval) → Denotes (Shape from) text t → WritesBy (Is held) (written to) (triple t) (Ok (written to t))
-written_triple from to text t h = (Ok t, held_triple from text t h, refl)
+written_triple : (from to : Style) → IsDenotedInRange from → (text : List ℕ) (t : Interval) → Denotes (Shape from) text t
+    → WritesBy (Is held) (written to) (triple t) (Ok (written to t))
+written_triple from to in_range text t h = (Ok t, held_triple from in_range text t h, refl)
 
-onto_turn : (from to : Style) (text : List ℕ) (answer : Result (List ℕ) Cause) → IsIntervalAnswer from to text answer → TurnsBy from to text answer
-onto_turn from to text (Ok out) h =
+onto_turn : (from to : Style) → IsDenotedInRange from → (text : List ℕ) (answer : Result (List ℕ) Cause)
+    → IsIntervalAnswer from to text answer → TurnsBy from to text answer
+onto_turn from to in_range text (Ok out) h =
     let P : List ℕ → Type 0 = λ l. WritesBy (Is held) (written to) (triple h.0) (Ok l) in
-    (Ok (triple h.0), reads_interval from text h.0 h.1, subst P (sym h.2) (written_triple from to text h.0 h.1))
-onto_turn from to text (Err Syntax) h = (Err Syntax, reads_no_shape from text h, refl)
-onto_turn from to text (Err Range) h = (Err Range, reads_misfit from text h.0 h.1, refl)
-onto_turn from to text (Err _) h = absurd h
+    (Ok (triple h.0), reads_interval from text h.0 h.1, subst P (sym h.2) (written_triple from to in_range text h.0 h.1))
+onto_turn from to in_range text (Err Syntax) h = (Err Syntax, reads_no_shape from text h, refl)
+onto_turn from to in_range text (Err Range) h = (Err Range, reads_misfit from text h.0 h.1, refl)
+onto_turn from to in_range text (Err _) h = absurd h
 
 -- counts that are spelled, by whether they fit
-by_fit : (from to : Style) (text : List ℕ) (counts : List Count) → Shape from text counts → (test : Bool) → test ≡ fits counts → (value : Result Value Cause) → value ≡ worth counts → (answer : Result (List ℕ) Cause) → Then (WritesBy (Is held) (written to)) value answer
-    → IsIntervalAnswer from to text answer
-by_fit from to text counts spelled true all value h answer turned =
+by_fit : (from to : Style) → IsDenotedInRange from → (text : List ℕ) (counts : List Count) → Shape from text counts
+    → (test : Bool) → test ≡ fits counts → (value : Result Value Cause) → value ≡ worth counts
+    → (answer : Result (List ℕ) Cause) → Then (WritesBy (Is held) (written to)) value answer → IsIntervalAnswer from to text answer
+by_fit from to in_range text counts spelled true all value h answer turned =
     let denoted : Denotes (Shape from) text (sum_of counts) = (counts, spelled, sym all, refl) in
     let P : Result Value Cause → Type 0 = λ v. Then (WritesBy (Is held) (written to)) v answer in
     let w : WritesBy (Is held) (written to) (triple (sum_of counts)) answer = subst P (h ∙ worth_fits counts (sym all)) turned in
-    let is : answer ≡ Ok (written to (sum_of counts)) = w.2 ∙ ap (result_map (written to)) (w.1 ∙ sym (held_triple from text (sum_of counts) denoted)) in
+    let is : answer ≡ Ok (written to (sum_of counts)) = w.2 ∙ ap (result_map (written to)) (w.1 ∙ sym (held_triple from in_range text (sum_of counts) denoted)) in
     subst (IsIntervalAnswer from to text) (sym is) (sum_of counts, denoted, refl)
-by_fit from to text counts spelled false all value h answer turned =
+by_fit from to in_range text counts spelled false all value h answer turned =
     let m = misfit_of counts (sym all) in
     let P : Result Value Cause → Type 0 = λ v. Then (WritesBy (Is held) (written to)) v answer in
     let is : answer ≡ Err Range = subst P (h ∙ m.1) turned in
     subst (IsIntervalAnswer from to text) (sym is) (m.0, (counts, spelled, m.2))
 
-onto_answer : (from to : Style) (text : List ℕ) (answer : Result (List ℕ) Cause) → TurnsBy from to text answer → IsIntervalAnswer from to text answer
-onto_answer from to text answer (value, inl read, h) = by_fit from to text read.0 read.1 (fits read.0) refl value read.2 answer h
-onto_answer from to text answer (value, inr read, h) =
+onto_answer : (from to : Style) → IsDenotedInRange from → (text : List ℕ) (answer : Result (List ℕ) Cause)
+    → TurnsBy from to text answer → IsIntervalAnswer from to text answer
+onto_answer from to in_range text answer (value, inl read, h) =
+    by_fit from to in_range text read.0 read.1 (fits read.0) refl value read.2 answer h
+onto_answer from to in_range text answer (value, inr read, h) =
     let P : Result Value Cause → Type 0 = λ v. Then (WritesBy (Is held) (written to)) v answer in
     let is : answer ≡ Err Syntax = subst P read.1 h in
     subst (IsIntervalAnswer from to text) (sym is) read.0
@@ -75,20 +83,24 @@ of_style PgSql s h = let e : style.Sql ≡ s = cc in subst (HasStyle PgSql) e (r
 of_style IsoStrict s h = let e : style.IsoStrict ≡ s = cc in subst (HasStyle IsoStrict) e (record { reads = λ text a r. r; read = λ text a r. r; writes = λ value a w. w; written = λ value a w. w })
 of_style _ s h = absurd (let e : None ≡ Some s = h in cc)
 
-then_writes : (to : Form) (t : Style) → HasStyle to t → (value : Result Value Cause) (answer : Result (List ℕ) Cause) → (Then (WritesBy (Is held) (written t)) value answer → Then (Writes to) value answer) × (Then (Writes to) value answer → Then (WritesBy (Is held) (written t)) value answer)
+then_writes : (to : Form) (t : Style) → HasStyle to t → (value : Result Value Cause) (answer : Result (List ℕ) Cause)
+    → (Then (WritesBy (Is held) (written t)) value answer → Then (Writes to) value answer) × (Then (Writes to) value answer → Then (WritesBy (Is held) (written t)) value answer)
 then_writes to t rows (Ok value) answer = (rows.written value answer, rows.writes value answer)
 then_writes to t rows (Err cause) answer = (λ h. h, λ h. h)
 
-same_turns : (from to : Form) (s t : Style) → HasStyle from s → HasStyle to t → (text : List ℕ) (answer : Result (List ℕ) Cause) → (TurnsBy s t text answer → Turns from to text answer) × (Turns from to text answer → TurnsBy s t text answer)
+same_turns : (from to : Form) (s t : Style) → HasStyle from s → HasStyle to t
+    → (text : List ℕ) (answer : Result (List ℕ) Cause)
+    → (TurnsBy s t text answer → Turns from to text answer) × (Turns from to text answer → TurnsBy s t text answer)
 same_turns from to s t f g text answer = (λ h. (h.0, f.read text h.0 h.1, (then_writes to t g h.0 answer).0 h.2), λ h. (h.0, f.reads text h.0 h.1, (then_writes to t g h.0 answer).1 h.2))
 
-by_styles : (from to : Form) (a b : Option Style) → style_of from ≡ a → style_of to ≡ b → (text : List ℕ) (answer : Result (List ℕ) Cause)
+by_styles : ((s : Style) → IsDenotedInRange s) → (from to : Form) (a b : Option Style) → style_of from ≡ a → style_of to ≡ b → (text : List ℕ) (answer : Result (List ℕ) Cause)
     → (IsAnswerBy a b (Turns from to) text answer → Turns from to text answer) × (Turns from to text answer → IsAnswerBy a b (Turns from to) text answer)
-by_styles from to (Some s) (Some t) f g text answer =
+by_styles in_range from to (Some s) (Some t) f g text answer =
     let same = same_turns from to s t (of_style from s f) (of_style to t g) text answer in
-    (λ h. same.0 (onto_turn s t text answer h), λ h. onto_answer s t text answer (same.1 h))
-by_styles from to (Some s) None f g text answer = (λ h. h, λ h. h)
-by_styles from to None b f g text answer = (λ h. h, λ h. h)
+    (λ h. same.0 (onto_turn s t (in_range s) text answer h), λ h. onto_answer s t (in_range s) text answer (same.1 h))
+by_styles in_range from to (Some s) None f g text answer = (λ h. h, λ h. h)
+by_styles in_range from to None b f g text answer = (λ h. h, λ h. h)
 
-pub answers_turned : (from to : Form) (text : List ℕ) (answer : Result (List ℕ) Cause) → (IsAnswer from to text answer → Turns from to text answer) × (Turns from to text answer → IsAnswer from to text answer)
-answers_turned from to = by_styles from to (style_of from) (style_of to) refl refl
+pub answers_turned : ((s : Style) → IsDenotedInRange s) → (from to : Form) (text : List ℕ) (answer : Result (List ℕ) Cause)
+    → (IsAnswer from to text answer → Turns from to text answer) × (Turns from to text answer → IsAnswer from to text answer)
+answers_turned in_range from to = by_styles in_range from to (style_of from) (style_of to) refl refl

@@ -82,6 +82,7 @@ pub fn interval_answers_keep_their_interval()
     ensures { (from to : AnyStyle) (text out : List ℕ) → IsIntervalAnswer from to text (Ok out)
         → (t : AnyInterval) × Denotes (Shape from) text t × Denotes (Shape to) out t }
 {
+    pg_interval_2::laws::denoted_interval_is_in_range();
     pg_interval_2::laws::written_text_is_read_back();
 }
 
@@ -90,7 +91,9 @@ pub fn interval_answers_keep_their_interval()
 pub fn answers_are_readings_written()
     ensures { (from to : AnyForm) (text : List ℕ) (answer : AnyResult (List ℕ) AnyCause)
         → IsAnswer from to text answer ↔ Turns from to text answer }
-{}
+{
+    pg_interval_2::laws::denoted_interval_is_in_range();
+}
 
 /// A line has exactly one reply. That there is one is shown by answering the line.
 pub fn one_reply(line: &[u8])

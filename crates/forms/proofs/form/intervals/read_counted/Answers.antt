@@ -1,12 +1,12 @@
 use Rattle.std.proofs.Common.{arith}
 use Rattle.std.proofs.lemmas.Int.{ints}
 use Rattle.pg_interval_2.specs.Styles.{IsBadPlace, not_in}
-use Rattle.forms.proofs.Intervals.{reads_as, reads_misfit, denoted_in_range, error_says}
+use Rattle.forms.proofs.Intervals.{reads_as, reads_misfit, error_says}
 use Rattle.forms.proofs.form.intervals.read_counted.Goals as goal
 
 pub returns-in-Ok-clause-read : goal.returns-in-Ok-clause-read
 returns-in-Ok-clause-read g c =
-    let range = denoted_in_range c.args.style c.args.text.now c.in-Ok.interval c.in-Ok.ensures.ok in
+    let range = c.denoted_interval_is_in_range.ensures c.args.style c.args.text.now c.in-Ok.interval c.in-Ok.ensures.ok in
     let months = range.months in
     let days = range.days in
     let micros = range.microseconds in
