@@ -1,6 +1,7 @@
 -- File times as a form: what a count is worth, what count is at an instant, and that it is read back.
 use Rattle.std.proofs.Common.{◌≡◌, ℕ, ◌+◌, ◌-◌, ◌*◌, ◌/◌, ◌%◌, ◌^◌, ◌<◌, ◌≤◌, ◌==◌, false, List, [], length, Ok, Err, decimal, ◌⊎◌, refl, sym, ◌∙◌, ap, subst, inl, inr, arith}
 use Rattle.std.specs.Prelude.{ℤ, pos, negsuc, ◌-ℤ◌, ◌<ℤ◌, ◌≤ℤ◌, nat_lt, ◌≢◌}
+use Rattle.std.proofs.lemmas.Bool.{ltb-true, lt-ltb, le-ltb}
 use Rattle.std.proofs.lemmas.Bool.Decides.{nat_tests}
 use Rattle.std.proofs.lemmas.Int.{ints}
 use Rattle.nt_time.specs.declared.error.FileTimeRangeErrorKind.{FileTimeRangeErrorKind}
@@ -18,35 +19,39 @@ use Rattle.forms.specs.Answers.{Is, ReadsBy}
 use Rattle.forms.specs.Values.{IsWithinBounds}
 use Rattle.forms.specs.form.FileTime.{Spells, worth, ticks_after, held}
 use Rattle.forms.specs.inside.Lawful.{Lawful}
-use Rattle.forms.proofs.Fitting.{below, tested, not_tested, less, no_more}
+use Rattle.forms.proofs.Fitting.{less, no_more}
 use Rattle.forms.proofs.Lawful.{then_ok, else_ok, same_ok, one_image, IsHeldBack, lawful_by}
 
 -- ---- reading
 
 worth_within : (ticks : ℕ) → ticks < 2 ^ 64 → worth ticks ≡ Ok (Instant (unix_nanos ticks))
 unfolding worth
-worth_within ticks h = rw (tested ticks (2 ^ 64) h) refl
+worth_within ticks h = rw (lt-ltb ticks (2 ^ 64) h) refl
 
 worth_beyond : (ticks : ℕ) → 2 ^ 64 ≤ ticks → worth ticks ≡ Err Range
 unfolding worth
-worth_beyond ticks h = rw (not_tested ticks (2 ^ 64) h) refl
+worth_beyond ticks h = rw (le-ltb ticks (2 ^ 64) h) refl
 
-pub reads_ticks : (text : List ℕ) (ticks : ℕ) → IsTextOf text ticks → ticks < 2 ^ 64 → ReadsBy Spells (Is worth) text (Ok (Instant (unix_nanos ticks)))
+pub reads_ticks : (text : List ℕ) (ticks : ℕ) → IsTextOf text ticks → ticks < 2 ^ 64
+    → ReadsBy Spells (Is worth) text (Ok (Instant (unix_nanos ticks)))
 reads_ticks text ticks spelled fits = inl (ticks, spelled, sym (worth_within ticks fits))
 
-pub reads_beyond : (text : List ℕ) (cause : ParseFileTimeCause) → IsReadFrom text (Err cause) → cause ≡ TooGreat → ReadsBy Spells (Is worth) text (Err Range)
+pub reads_beyond : (text : List ℕ) (cause : ParseFileTimeCause) → IsReadFrom text (Err cause) → cause ≡ TooGreat
+    → ReadsBy Spells (Is worth) text (Err Range)
 reads_beyond text cause from is = let h = from.overflow.0 (ap Err is) in inl (h.0, h.1, sym (worth_beyond h.0 h.2))
 
 empty_spells : (n : ℕ) → IsTextOf [] n → ⊥
 empty_spells n (digits, numeral, value, inl e) = let some = numeral.0 in absurd (subst (λ (l : List ℕ). 0 < length l → ⊥) e (λ less. omega arith) some)
 empty_spells n (digits, numeral, value, inr e) = cc
 
-reads_none : (text : List ℕ) (cause : ParseFileTimeCause) → IsReadFrom text (Err cause) → (cause ≡ Empty) ⊎ (cause ≡ InvalidDigit) → (n : ℕ) → IsTextOf text n → ⊥
+reads_none : (text : List ℕ) (cause : ParseFileTimeCause) → IsReadFrom text (Err cause)
+    → (cause ≡ Empty) ⊎ (cause ≡ InvalidDigit) → (n : ℕ) → IsTextOf text n → ⊥
 reads_none text cause from (inl is) n spelled = empty_spells n (subst (λ (l : List ℕ). IsTextOf l n) (from.empty.0 (ap Err is)) spelled)
 reads_none text cause from (inr is) n spelled = (from.invalid.0 (ap Err is)).1 n spelled
 
 -- what the reader of file times refuses
-pub reads_syntax : (text : List ℕ) (cause : ParseFileTimeCause) → IsReadFrom text (Err cause) → (cause ≡ Empty) ⊎ (cause ≡ InvalidDigit) → ReadsBy Spells (Is worth) text (Err Syntax)
+pub reads_syntax : (text : List ℕ) (cause : ParseFileTimeCause) → IsReadFrom text (Err cause)
+    → (cause ≡ Empty) ⊎ (cause ≡ InvalidDigit) → ReadsBy Spells (Is worth) text (Err Syntax)
 reads_syntax text cause from is = inr (reads_none text cause from is, refl)
 
 -- ---- the count at an instant
@@ -54,21 +59,22 @@ reads_syntax text cause from is = inr (reads_none text cause from is, refl)
 at_tick : (nanos ticks : ℕ) → nanos ≡ 100 * ticks → ticks < 2 ^ 64 → ticks_after (pos nanos) ≡ Ok ticks
 unfolding ticks_after
 at_tick nanos ticks e fits =
-    let last : nat_lt (100 * (2 ^ 64 - 1)) nanos ≡ false = not_tested _ _ (omega arith) in
+    let last : nat_lt (100 * (2 ^ 64 - 1)) nanos ≡ false = le-ltb _ _ (omega arith) in
     let rest : nanos % 100 ≡ 0 = omega arith in
     let ticks_are : nanos / 100 ≡ ticks = omega arith in
     rw (last, rest, ticks_are) refl
 
-between_ticks : (nanos : ℕ) → nanos ≤ 100 * (2 ^ 64 - 1) → (nanos % 100 ≡ 0 → ⊥) → ticks_after (pos nanos) ≡ Err Precision
+between_ticks : (nanos : ℕ) → nanos ≤ 100 * (2 ^ 64 - 1) → (nanos % 100 ≡ 0 → ⊥)
+    → ticks_after (pos nanos) ≡ Err Precision
 unfolding ticks_after
 between_ticks nanos fits some =
-    let last : nat_lt (100 * (2 ^ 64 - 1)) nanos ≡ false = not_tested _ _ fits in
+    let last : nat_lt (100 * (2 ^ 64 - 1)) nanos ≡ false = le-ltb _ _ fits in
     let rest : (nanos % 100 == 0) ≡ false = grind (arith, nat_tests) in
     rw (last, rest) refl
 
 after_last : (nanos : ℕ) → 100 * (2 ^ 64 - 1) < nanos → ticks_after (pos nanos) ≡ Err Range
 unfolding ticks_after
-after_last nanos h = rw (tested _ _ h) refl
+after_last nanos h = rw (lt-ltb _ _ h) refl
 
 before_first : (z : ℤ) → z <ℤ pos 0 → ticks_after z ≡ Err Range
 unfolding ticks_after
@@ -80,17 +86,20 @@ beyond_last (pos n) h = after_last n (omega (arith, ints))
 beyond_last (negsuc n) h = absurd (omega (arith, ints))
 
 -- the instant of a count
-pub exact_tick : (nanos : ℤ) (ticks : ℕ) → unix_nanos ticks ≡ nanos → ticks < 2 ^ 64 → ticks_after (nanos -ℤ unix_nanos 0) ≡ Ok ticks
+pub exact_tick : (nanos : ℤ) (ticks : ℕ) → unix_nanos ticks ≡ nanos → ticks < 2 ^ 64
+    → ticks_after (nanos -ℤ unix_nanos 0) ≡ Ok ticks
 exact_tick nanos ticks e fits =
     let z : nanos -ℤ unix_nanos 0 ≡ pos (100 * ticks) = omega (arith, ints) in
     ap ticks_after z ∙ at_tick (100 * ticks) ticks refl fits
 
-not_whole : (z : ℤ) (ticks : ℕ) → pos (100 * ticks) ≤ℤ z → z <ℤ pos (100 * (ticks + 1)) → z ≢ pos (100 * ticks) → z ≤ℤ pos (100 * (2 ^ 64 - 1)) → ticks_after z ≡ Err Precision
+not_whole : (z : ℤ) (ticks : ℕ) → pos (100 * ticks) ≤ℤ z → z <ℤ pos (100 * (ticks + 1)) → z ≢ pos (100 * ticks)
+    → z ≤ℤ pos (100 * (2 ^ 64 - 1)) → ticks_after z ≡ Err Precision
 not_whole (pos n) ticks least most not last = between_ticks n (omega (arith, ints)) (λ whole. not (omega (arith, ints)))
 not_whole (negsuc n) ticks least most not last = absurd (omega (arith, ints))
 
 -- an instant between two counts
-pub between : (nanos : ℤ) (ticks : ℕ) → IsFromUnixNanos nanos (Ok ticks) → unix_nanos ticks ≢ nanos → ticks_after (nanos -ℤ unix_nanos 0) ≡ Err Precision
+pub between : (nanos : ℤ) (ticks : ℕ) → IsFromUnixNanos nanos (Ok ticks) → unix_nanos ticks ≢ nanos
+    → ticks_after (nanos -ℤ unix_nanos 0) ≡ Err Precision
 between nanos ticks from not =
     let floor = from.ok in
     let next : nanos <ℤ unix_nanos (ticks + 1) = less (unix_nanos (ticks + 1)) nanos (λ h. let more = floor.1 (ticks + 1) h in omega arith) in
@@ -99,7 +108,8 @@ between nanos ticks from not =
     not_whole (nanos -ℤ unix_nanos 0) ticks least (omega (arith, ints)) (λ e. not (omega (arith, ints))) (omega (arith, ints))
 
 -- an instant before the first count or after the last
-pub beyond : (nanos : ℤ) (error : FileTimeRangeErrorKind) → IsFromUnixNanos nanos (Err error) → ticks_after (nanos -ℤ unix_nanos 0) ≡ Err Range
+pub beyond : (nanos : ℤ) (error : FileTimeRangeErrorKind) → IsFromUnixNanos nanos (Err error)
+    → ticks_after (nanos -ℤ unix_nanos 0) ≡ Err Range
 beyond nanos Negative from = let h = from.negative.0 refl in before_first (nanos -ℤ unix_nanos 0) (omega (arith, ints))
 beyond nanos Overflow from = let h = from.overflow.0 refl in beyond_last (nanos -ℤ unix_nanos 0) (omega (arith, ints))
 
@@ -109,7 +119,7 @@ within : (text : List ℕ) (ticks : ℕ) (value : Value) → Spells text ticks �
 unfolding worth
 within text ticks value spelled h =
     let parts = then_ok (nat_lt ticks (2 ^ 64)) (Ok (Instant (unix_nanos ticks))) value Range h in
-    let fits = below ticks (2 ^ 64) parts.0 in
+    let fits = ltb-true ticks (2 ^ 64) parts.0 in
     subst IsWithinBounds (same_ok (Instant (unix_nanos ticks)) value parts.1) (omega (arith, ints), omega (arith, ints))
 
 ticks_held : (z : ℤ) (ticks : ℕ) → ticks_after z ≡ Ok ticks → (z ≡ pos (100 * ticks)) × (ticks < 2 ^ 64)
@@ -124,14 +134,16 @@ ticks_held (pos n) ticks h =
     let last : n ≤ 100 * (2 ^ 64 - 1) = let e = first.0 in grind (arith, nat_tests) in
     (ap pos whole, omega arith)
 
-held_back : ((ticks : ℕ) → IsFileTime ticks → IsTextOf (decimal ticks) ticks) → (value : Value) (ticks : ℕ) → IsWithinBounds value → held value ≡ Ok ticks → IsHeldBack Spells (Is worth) (Is held) (decimal ticks) value ticks
+held_back : ((ticks : ℕ) → IsFileTime ticks → IsTextOf (decimal ticks) ticks) → (value : Value) (ticks : ℕ)
+    → IsWithinBounds value → held value ≡ Ok ticks → IsHeldBack Spells (Is worth) (Is held) (decimal ticks) value ticks
 held_back digits (Instant nanos) ticks w h =
     let count = ticks_held (nanos -ℤ unix_nanos 0) ticks h in
     let same : unix_nanos ticks ≡ nanos = let e = count.0 in omega (arith, ints) in
     record { meaning = ticks; back = Instant nanos; spelled = digits ticks count.1; valued = sym (worth_within ticks count.1 ∙ ap (λ (z : ℤ). Ok (Instant z)) same); same = refl; again = sym h }
 held_back digits _ ticks w h = absurd (let e : Err Kind ≡ Ok ticks = h in cc)
 
-pub file_times : ((text : List ℕ) (m n : ℕ) → IsTextOf text m → IsTextOf text n → m ≡ n) → ((ticks : ℕ) → IsFileTime ticks → IsTextOf (decimal ticks) ticks) → Lawful FileTime
+pub file_times : ((text : List ℕ) (m n : ℕ) → IsTextOf text m → IsTextOf text n → m ≡ n)
+    → ((ticks : ℕ) → IsFileTime ticks → IsTextOf (decimal ticks) ticks) → Lawful FileTime
 file_times one digits =
     lawful_by FileTime Spells (Is worth) (Is held) decimal (record { reads = λ text a h. h; read = λ text a h. h; writes = λ value a h. h; written = λ value a h. h })
     (record { one = one; one_worth = one_image worth; one_held = one_image held; within = λ text ticks value spelled h. within text ticks value spelled (sym h); back = λ value ticks w h. held_back digits value ticks w (sym h) })

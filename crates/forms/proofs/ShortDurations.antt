@@ -2,6 +2,7 @@
 use Rattle.std.proofs.Common.{◌≡◌, ℕ, ◌*◌, ◌^◌, ◌<◌, ◌≤◌, ◌==◌, ◌&&◌, Bool, true, false, List, Result, Ok, Err, refl, sym, ◌∙◌, ap, subst, inl, arith}
 use Rattle.std.specs.Prelude.{ℤ, pos, negsuc, ◌<ℤ◌, nat_lt, IsErrOf, ◌↔◌}
 use Rattle.std.specs.Ordering.{int_eq}
+use Rattle.std.proofs.lemmas.Bool.{and_parts, false_from_ne_true, ltb-true, lt-ltb, le-ltb}
 use Rattle.std.proofs.lemmas.Bool.Decides.{nat_tests}
 use Rattle.std.proofs.lemmas.Int.{ints}
 use Rattle.fancy_duration.specs.Breakdown.{count_of}
@@ -22,20 +23,20 @@ use Rattle.forms.specs.Answers.{Is, ReadsBy}
 use Rattle.forms.specs.Values.{IsWithinBounds, Same, nanos_of as triple_nanos}
 use Rattle.forms.specs.form.Fancy.{Spells, worth, has_months_alone, length_of, length_of_triple, held}
 use Rattle.forms.specs.inside.Lawful.{Lawful}
-use Rattle.forms.proofs.Fitting.{below, tested, not_tested, both, not_true}
 use Rattle.forms.proofs.Lawful.{then_ok, else_ok, same_ok, one_image, IsHeldBack, lawful_by}
 
 -- ---- reading
 
 worth_within : (nanos : ℕ) → nanos < 2 ^ 64 * 1_000_000_000 → worth nanos ≡ Ok (Length nanos)
 unfolding worth
-worth_within nanos h = rw (tested nanos (2 ^ 64 * 1_000_000_000) h) refl
+worth_within nanos h = rw (lt-ltb nanos (2 ^ 64 * 1_000_000_000) h) refl
 
 worth_beyond : (nanos : ℕ) → 2 ^ 64 * 1_000_000_000 ≤ nanos → worth nanos ≡ Err Range
 unfolding worth
-worth_beyond nanos h = rw (not_tested nanos (2 ^ 64 * 1_000_000_000) h) refl
+worth_beyond nanos h = rw (le-ltb nanos (2 ^ 64 * 1_000_000_000) h) refl
 
-pub reads_length : (text : List ℕ) (times : ℕ × ℕ) → IsStrict text → Denotes text times → (given : ℕ) → given ≡ nanos_of times → ReadsBy Spells (Is worth) text (Ok (Length given))
+pub reads_length : (text : List ℕ) (times : ℕ × ℕ) → IsStrict text → Denotes text times → (given : ℕ)
+    → given ≡ nanos_of times → ReadsBy Spells (Is worth) text (Ok (Length given))
 reads_length text times strict h given e =
     let seconds = h.seconds in
     let rest = h.nanoseconds in
@@ -50,12 +51,13 @@ reads_too_big text strict h =
 
 -- ---- the length of a value
 
-all_five : (a b c d e : Bool) → (a && (b && (c && (d && e)))) ≡ true → (a ≡ true) × ((b ≡ true) × ((c ≡ true) × ((d ≡ true) × (e ≡ true))))
+all_five : (a b c d e : Bool) → (a && (b && (c && (d && e)))) ≡ true
+    → (a ≡ true) × ((b ≡ true) × ((c ≡ true) × ((d ≡ true) × (e ≡ true))))
 all_five a b c d e h =
-    let one = both a (b && (c && (d && e))) h in
-    let two = both b (c && (d && e)) one.1 in
-    let three = both c (d && e) two.1 in
-    let four = both d e three.1 in
+    let one = and_parts a (b && (c && (d && e))) h in
+    let two = and_parts b (c && (d && e)) one.1 in
+    let three = and_parts c (d && e) two.1 in
+    let four = and_parts d e three.1 in
     (one.0, (two.0, (three.0, (four.0, four.1))))
 
 is_zero : (n : ℕ) → (n == 0) ≡ true → n ≡ 0
@@ -65,11 +67,11 @@ pub months_alone : (nanos : ℕ) → has_months_alone nanos ≡ true → MonthsS
 unfolding has_months_alone
 months_alone nanos h =
     let parts = all_five (nat_lt 0 (count_of Months nanos)) (count_of Weeks nanos == 0) (count_of Days nanos == 0) (count_of Hours nanos == 0) (count_of Minutes nanos == 0) h in
-    record { months = below _ _ parts.0; weeks = is_zero _ parts.1.0; days = is_zero _ parts.1.1.0; hours = is_zero _ parts.1.1.1.0; minutes = is_zero _ parts.1.1.1.1 }
+    record { months = ltb-true _ _ parts.0; weeks = is_zero _ parts.1.0; days = is_zero _ parts.1.1.0; hours = is_zero _ parts.1.1.1.0; minutes = is_zero _ parts.1.1.1.1 }
 
 pub alone_tested : (nanos : ℕ) → MonthsStandAlone nanos → has_months_alone nanos ≡ true
 unfolding has_months_alone
-alone_tested nanos h = rw (tested 0 _ h.months, h.weeks, h.days, h.hours, h.minutes) refl
+alone_tested nanos h = rw (lt-ltb 0 _ h.months, h.weeks, h.days, h.hours, h.minutes) refl
 
 pub negative : (z : ℤ) → z <ℤ pos 0 → length_of z ≡ Err Range
 unfolding length_of
@@ -78,19 +80,22 @@ negative (negsuc n) h = refl
 
 pub too_long : (nanos : ℕ) → 2 ^ 64 * 1_000_000_000 ≤ nanos → length_of (pos nanos) ≡ Err Range
 unfolding length_of
-too_long nanos h = rw (not_tested nanos (2 ^ 64 * 1_000_000_000) h) refl
+too_long nanos h = rw (le-ltb nanos (2 ^ 64 * 1_000_000_000) h) refl
 
-pub read_back : (nanos : ℕ) → nanos < 2 ^ 64 * 1_000_000_000 → (MonthsStandAlone nanos → ⊥) → length_of (pos nanos) ≡ Ok nanos
+pub read_back : (nanos : ℕ) → nanos < 2 ^ 64 * 1_000_000_000 → (MonthsStandAlone nanos → ⊥)
+    → length_of (pos nanos) ≡ Ok nanos
 unfolding length_of
-read_back nanos fits isnt = rw (tested nanos (2 ^ 64 * 1_000_000_000) fits, not_true (has_months_alone nanos) (λ h. isnt (months_alone nanos h))) refl
+read_back nanos fits isnt = rw (lt-ltb nanos (2 ^ 64 * 1_000_000_000) fits, false_from_ne_true (has_months_alone nanos) (λ h. isnt (months_alone nanos h))) refl
 
-alone_from : (nanos : ℕ) (test : Bool) → has_months_alone nanos ≡ test → ((MonthsStandAlone nanos → ⊥) → ⊥) → has_months_alone nanos ≡ true
+alone_from : (nanos : ℕ) (test : Bool) → has_months_alone nanos ≡ test → ((MonthsStandAlone nanos → ⊥) → ⊥)
+    → has_months_alone nanos ≡ true
 alone_from nanos true e h = e
 alone_from nanos false e h = absurd (h (λ alone. let both : true ≡ false = sym (alone_tested nanos alone) ∙ e in cc))
 
-pub ambiguous : (nanos : ℕ) → nanos < 2 ^ 64 * 1_000_000_000 → ((MonthsStandAlone nanos → ⊥) → ⊥) → length_of (pos nanos) ≡ Err Ambiguous
+pub ambiguous : (nanos : ℕ) → nanos < 2 ^ 64 * 1_000_000_000 → ((MonthsStandAlone nanos → ⊥) → ⊥)
+    → length_of (pos nanos) ≡ Err Ambiguous
 unfolding length_of
-ambiguous nanos fits h = rw (tested nanos (2 ^ 64 * 1_000_000_000) fits, alone_from nanos (has_months_alone nanos) refl h) refl
+ambiguous nanos fits h = rw (lt-ltb nanos (2 ^ 64 * 1_000_000_000) fits, alone_from nanos (has_months_alone nanos) refl h) refl
 
 -- ---- the laws
 
@@ -98,7 +103,7 @@ within : (text : List ℕ) (nanos : ℕ) (value : Value) → Spells text nanos �
 unfolding worth
 within text nanos value spelled h =
     let parts = then_ok (nat_lt nanos (2 ^ 64 * 1_000_000_000)) (Ok (Length nanos)) value Range h in
-    subst IsWithinBounds (same_ok (Length nanos) value parts.1) (below nanos (2 ^ 64 * 1_000_000_000) parts.0)
+    subst IsWithinBounds (same_ok (Length nanos) value parts.1) (ltb-true nanos (2 ^ 64 * 1_000_000_000) parts.0)
 
 -- what is held of a length
 pub record IsHeldLength (z : ℤ) (nanos : ℕ) : Type 0 where
@@ -115,7 +120,7 @@ length_held (pos n) nanos h =
     let same = same_ok n nanos second.1 in
     record {
       is = ap pos same;
-      fits = subst (λ (k : ℕ). k < 2 ^ 64 * 1_000_000_000) same (below n (2 ^ 64 * 1_000_000_000) first.0);
+      fits = subst (λ (k : ℕ). k < 2 ^ 64 * 1_000_000_000) same (ltb-true n (2 ^ 64 * 1_000_000_000) first.0);
       clear = λ alone. let both : true ≡ false = sym (alone_tested n (subst MonthsStandAlone (sym same) alone)) ∙ second.0 in cc;
     }
 
@@ -126,13 +131,15 @@ AreStrict = (nanos : ℕ) → nanos < 2 ^ 64 * 1_000_000_000 → IsStrict (writt
 abbrev pub AreReadBack : Type 0
 AreReadBack = (times : ℕ × ℕ) → times.0 < 2 ^ 64 → times.1 < 1_000_000_000 → Denotes (written (nanos_of times)) times ↔ (MonthsStandAlone (nanos_of times) → ⊥)
 
-sums_back : AreReadBack → (nanos : ℕ) → nanos < 2 ^ 64 * 1_000_000_000 → (MonthsStandAlone nanos → ⊥) → SumsTo (written nanos) nanos
+sums_back : AreReadBack → (nanos : ℕ) → nanos < 2 ^ 64 * 1_000_000_000 → (MonthsStandAlone nanos → ⊥)
+    → SumsTo (written nanos) nanos
 sums_back back nanos fits clear =
     let same : nanos_of (times_of nanos) ≡ nanos = omega arith in
     let denoted = (back (times_of nanos) (omega arith) (omega arith)).1 (λ alone. clear (subst MonthsStandAlone same alone)) in
     subst (λ (n : ℕ). SumsTo (written n) n) same denoted.sums
 
-held_by : AreStrict → AreReadBack → (value : Value) (z : ℤ) (nanos : ℕ) → length_of z ≡ Ok nanos → Same value (Length nanos) → IsHeldBack Spells (Is worth) (Is held) (written nanos) value nanos
+held_by : AreStrict → AreReadBack → (value : Value) (z : ℤ) (nanos : ℕ) → length_of z ≡ Ok nanos
+    → Same value (Length nanos) → IsHeldBack Spells (Is worth) (Is held) (written nanos) value nanos
 held_by strict back value z nanos h same =
     let found = length_held z nanos h in
     record {
@@ -147,21 +154,24 @@ held_by strict back value z nanos h same =
 is_int : (a b : ℤ) → int_eq a b ≡ true → a ≡ b
 is_int a b h = grind (arith, nat_tests)
 
-pub without_months : (months days micros : ℤ) → months ≡ pos 0 → length_of_triple months days micros ≡ length_of (triple_nanos days micros)
+pub without_months : (months days micros : ℤ) → months ≡ pos 0
+    → length_of_triple months days micros ≡ length_of (triple_nanos days micros)
 unfolding length_of_triple
 without_months months days micros none = rw none refl
 
 pub with_months : (months days micros : ℤ) → (months ≡ pos 0 → ⊥) → length_of_triple months days micros ≡ Err Kind
 unfolding length_of_triple
-with_months months days micros some = rw (not_true (int_eq months (pos 0)) (λ h. some (is_int months (pos 0) h))) refl
+with_months months days micros some = rw (false_from_ne_true (int_eq months (pos 0)) (λ h. some (is_int months (pos 0) h))) refl
 
-triple_held : (months days micros : ℤ) (nanos : ℕ) → length_of_triple months days micros ≡ Ok nanos → (months ≡ pos 0) × (length_of (triple_nanos days micros) ≡ Ok nanos)
+triple_held : (months days micros : ℤ) (nanos : ℕ) → length_of_triple months days micros ≡ Ok nanos
+    → (months ≡ pos 0) × (length_of (triple_nanos days micros) ≡ Ok nanos)
 unfolding length_of_triple
 triple_held months days micros nanos h =
     let first = then_ok (int_eq months (pos 0)) (length_of (triple_nanos days micros)) nanos Kind h in
     (is_int months (pos 0) first.0, first.1)
 
-held_back : AreStrict → AreReadBack → (value : Value) (nanos : ℕ) → IsWithinBounds value → held value ≡ Ok nanos → IsHeldBack Spells (Is worth) (Is held) (written nanos) value nanos
+held_back : AreStrict → AreReadBack → (value : Value) (nanos : ℕ) → IsWithinBounds value → held value ≡ Ok nanos
+    → IsHeldBack Spells (Is worth) (Is held) (written nanos) value nanos
 held_back strict back (Length n) nanos w h =
     let found = length_held (pos n) nanos h in
     let same : n ≡ nanos = let e = found.is in omega (arith, ints) in
@@ -172,7 +182,8 @@ held_back strict back (Triple months days micros) nanos w h =
     held_by strict back (Triple months days micros) (triple_nanos days micros) nanos parts.1 (parts.0, found.is)
 held_back strict back _ nanos w h = absurd (let e : Err Kind ≡ Ok nanos = h in cc)
 
-pub short_durations : ((text : List ℕ) (a b : ℕ) → SumsTo text a → SumsTo text b → a ≡ b) → AreStrict → AreReadBack → Lawful Fancy
+pub short_durations : ((text : List ℕ) (a b : ℕ) → SumsTo text a → SumsTo text b → a ≡ b) → AreStrict → AreReadBack
+    → Lawful Fancy
 short_durations one strict back =
     lawful_by Fancy Spells (Is worth) (Is held) written (record { reads = λ text a h. h; read = λ text a h. h; writes = λ value a h. h; written = λ value a h. h })
     (record {
@@ -187,6 +198,7 @@ abbrev failed : FancyError → Result (ℕ × ℕ) FancyError
 failed error = Err error
 
 -- what the reader of short durations refuses of a strict text
-pub refused : (text : List ℕ) (error : FancyError) → IsStrict text → (IsErrOf (failed error) TooBig → IsTooBig text) → (failed error ≡ Err NotHeld → ⊥) → ReadsBy Spells (Is worth) text (Err Range)
+pub refused : (text : List ℕ) (error : FancyError) → IsStrict text → (IsErrOf (failed error) TooBig → IsTooBig text)
+    → (failed error ≡ Err NotHeld → ⊥) → ReadsBy Spells (Is worth) text (Err Range)
 refused text TooBig strict big held = reads_too_big text strict (big refl)
 refused text NotHeld strict big held = absurd (held refl)

@@ -4,7 +4,7 @@ use Rattle.std.specs.Prelude.{ℤ, pos, negsuc, neg_ℤ, ◌+ℤ◌, ◌-ℤ◌,
 use Rattle.std.specs.Int.{int_div_euclid, int_rem_euclid, w16}
 use Rattle.std.proofs.lemmas.Bool.Decides.{nat_tests}
 use Rattle.std.proofs.lemmas.Int.{ints}
-use Rattle.jiff_core.specs.Calendar.{IsDate, IsYear, IsEpochDay, days_in_month as civil_days_in_month, days_from_civil}
+use Rattle.jiff_core.specs.Calendar.{IsYear, IsEpochDay, days_in_month as civil_days_in_month, days_from_civil}
 use Rattle.jiff_core.specs.Date.{epoch_day}
 use Rattle.jiff_core.specs.declared.civil.date.Date.{Date as CivilDate}
 use Rattle.jiff_core.proofs.DateLemmas.{epoch_day_range, epoch_day_injective}
@@ -53,15 +53,6 @@ civil_of d real = record {
   month_in = (real.month, real.months);
   day_in = (real.day, most_days d real);
 }
-
-pub is_civil : (d : Date) → IsRealDay d → IsDate (pos d.year) (pos d.month) (pos d.day)
-is_civil d real =
-    let most = most_days d real in
-    let year = real.year in
-    let month = real.month in
-    let months = real.months in
-    let day = real.day in
-    ((omega (arith, ints), omega (arith, ints)), (omega (arith, ints), omega (arith, ints)), (omega (arith, ints), omega (arith, ints)))
 
 pub day_in_range : (d : Date) → IsRealDay d → IsEpochDay (day_of d)
 unfolding civil_of
@@ -180,12 +171,6 @@ clock_bound t real z h =
     let least : unwrap_or t.second 0 ≤ 59 = omega arith in
     let bound : clock_of t ≤ 86_399_999_999_999 = omega arith in
     subst IsOfDay (same_ok (pos (clock_of t)) z parts.1) (omega (arith, ints), omega (arith, ints))
-
-pub real_date : (d : Date) (time : Option Time) (offset : Option Offset) → AreWellFormed (Some d) time offset → IsRealDay d
-real_date d (Some t) (Some o) h = h.0
-real_date d (Some t) None h = h.0
-real_date d None None h = h
-real_date d None (Some o) h = absurd h
 
 offset_bound : (o : Offset) → IsOffsetInRange o → (neg_ℤ (pos 1439) ≤ℤ minutes_of o) × (minutes_of o ≤ℤ pos 1439)
 offset_bound Z h = (omega (arith, ints), omega (arith, ints))
