@@ -1,7 +1,7 @@
 -- The parts of a duration: counts, seconds, the clock.
 use Rattle.std.proofs.Common.{◌≡◌, ℕ, ◌≤◌, ◌==◌, Bool, true, false, cond, List, [], ◌∷◌, ◌++◌, length, take, Option, Some, None, refl, sym, ◌∙◌, ap, subst, append_assoc, arith, inl, inr, codes}
+use Rattle.std.proofs.lemmas.Bool.{eqb-true, eq-eqb}
 use Rattle.std.specs.Char.{is_ascii_digit}
-use Rattle.std.proofs.lemmas.Bool.Decides.{nat_tests}
 use Rattle.std.proofs.lemmas.Option.{cond_some, option_and_then_some, some_pair_parts}
 use Rattle.scan_core.specs.Digits.{AreDigits, number_of}
 use Rattle.iso8601.specs.Fields.{IsOrZero}
@@ -12,7 +12,7 @@ use Rattle.iso8601.specs.inside.Reading.{number_in, read_mark}
 use Rattle.scan_core.specs.Fronts.{front_digits, after_digits}
 use Rattle.iso8601.specs.inside.TimeReading.{millis_of, read_both}
 use Rattle.iso8601.specs.inside.DurationReading.{Peeked, with_letter, peek, read_count, read_perhaps, no_seconds, closed_by, read_closed, seconds_in, read_seconds, read_clock}
-use Rattle.iso8601.proofs.FieldFacts.{is_byte, letter_sound}
+use Rattle.iso8601.proofs.FieldFacts.{letter_sound}
 use Rattle.iso8601.proofs.NumberFacts.{number_exact, number_sound}
 use Rattle.scan_core.proofs.FrontFacts.{front_of, after_of, front_are_digits, front_and_after}
 use Rattle.iso8601.proofs.Optional.{Optional, Marks, IsBoth, both_marks, both_optional, shrinks, zero_optional}
@@ -57,12 +57,9 @@ count_some unit text rest value h c =
     let split : text ++ rest ≡ c.digits ++ (unit ∷ rest) = ap (λ (l : List ℕ). l ++ rest) c.joined ∙ append_assoc c.digits (unit ∷ []) rest in
     rw split (peek_exact c.digits rest unit value c.number h)
 
-same_unit : (unit : ℕ) → (unit == unit) ≡ true
-same_unit unit = grind (arith, nat_tests)
-
 pub count_exact : (unit : ℕ) (text rest : List ℕ) (value : ℕ) → is_ascii_digit unit ≡ false → IsCount (unit ∷ []) text value → read_count unit (text ++ rest) ≡ Some (value, rest)
 unfolding read_count
-count_exact unit text rest value h c = rw (count_some unit text rest value h c, same_unit unit) refl
+count_exact unit text rest value h c = rw (count_some unit text rest value h c, eq-eqb unit unit refl) refl
 
 -- a count of another unit, and other texts behind whose digits another byte stands
 pub other_unit : (unit : ℕ) (bytes : List ℕ) (p : Peeked) → peek bytes ≡ Some p → (p.letter == unit) ≡ false → read_count unit bytes ≡ None
@@ -76,7 +73,7 @@ count_sound unit bytes rest value h =
     let test = cond_some (p.letter == unit) _ _ body in
     let parts = some_pair_parts _ _ _ _ (ap Some test.1) in
     let n = peek_sound bytes p found in
-    let here : p.letter ≡ unit = is_byte p.letter unit test.0 in
+    let here : p.letter ≡ unit = eqb-true p.letter unit test.0 in
     let P : ℕ → Type 0 = λ v. IsNumber n.0 v in (
       n.0 ++ unit ∷ [],
       record { digits = n.0; number = subst P parts.0 n.1; joined = refl },
@@ -142,7 +139,7 @@ seconds_made : (bytes : List ℕ) (o : Option Peeked) → peek bytes ≡ o → B
 seconds_made bytes None h = ([], inl (inl (refl, refl), refl), refl)
 seconds_made bytes (Some p) h =
     let n = peek_sound bytes p h in
-    seconds_if bytes n.0 p (p.letter == 83) (p.letter == 46) (p.letter == 44) n.1 n.2 (is_byte p.letter 83) (is_byte p.letter 46) (is_byte p.letter 44)
+    seconds_if bytes n.0 p (p.letter == 83) (p.letter == 46) (p.letter == 44) n.1 n.2 (eqb-true p.letter 83) (eqb-true p.letter 46) (eqb-true p.letter 44)
 
 seconds_sound : (bytes : List ℕ) → Begins IsSeconds bytes (read_seconds bytes).0 (read_seconds bytes).1
 unfolding read_seconds
@@ -239,7 +236,7 @@ clock_if true b bs is =
 
 clock_sound : (bytes : List ℕ) → Begins IsPerhapsClock bytes (read_clock bytes).0 (read_clock bytes).1
 clock_sound [] = ([], inl (refl, refl), refl)
-clock_sound (b ∷ bs) = clock_if (b == 84) b bs (is_byte b 84)
+clock_sound (b ∷ bs) = clock_if (b == 84) b bs (eqb-true b 84)
 
 clock_split : (text rest : List ℕ) (v : ℕ × (ℕ × (ℕ × ℕ))) (c : IsClock text v) → text ++ rest ≡ 84 ∷ ((c.hour_text ++ (c.minute_text ++ c.second_text)) ++ rest)
 clock_split text rest v c = ap (λ (l : List ℕ). l ++ rest) c.joined

@@ -1,5 +1,6 @@
 -- Runs of digits that a scan passed, as the readers on lists see them.
 use Rattle.std.proofs.Common.{◌≡◌, ◌≢◌, ℕ, pos, zero, suc, ◌-◌, ◌*◌, ◌^◌, ◌<◌, ◌≤◌, ◌⊎◌, ◌==◌, Bool, true, false, List, [], ◌∷◌, ◌++◌, length, take, drop, Option, Some, None, refl, sym, ◌∙◌, ap, subst, arith, inl, inr, length-take, length-append}
+use Rattle.std.proofs.lemmas.Bool.{eqb-true, eq-eqb, false_from_ne_true}
 use Rattle.std.proofs.lemmas.Bool.Decides.{nat_tests}
 use Rattle.std.proofs.lemmas.List.{take_at, drop_at}
 use Rattle.std.proofs.lemmas.Option.{some_pair_parts}
@@ -18,7 +19,7 @@ use Rattle.iso8601.specs.inside.CountedReading.{BeginsField, BeginsNoPoint, IsBe
 use Rattle.iso8601.specs.inside.DurationReading.{closed_by, with_letter, peek, read_count, read_perhaps, read_seconds}
 use Rattle.iso8601.specs.inside.Reading.{number_in, read_field, read_mark, read_marked}
 use Rattle.iso8601.specs.inside.TimeReading.{millis_of, read_fraction, read_later, read_offset, read_signed, read_tail, read_time, time_of}
-use Rattle.iso8601.proofs.FieldFacts.{field_some, field_none, is_byte}
+use Rattle.iso8601.proofs.FieldFacts.{field_some, field_none}
 use Rattle.iso8601.proofs.Longest.{nothing}
 use Rattle.iso8601.proofs.NumberFacts.{number_exact, number_missing}
 use Rattle.iso8601.proofs.TimeParts.{is_digit, stops_later}
@@ -127,14 +128,8 @@ pub peek_none : (bytes : List ℕ) → number_in (front_digits bytes) ≡ None �
 unfolding peek
 peek_none bytes h = rw h refl
 
-same_byte : (b : ℕ) → (b == b) ≡ true
-same_byte b = grind (arith, nat_tests)
-
-some_same : (b c : ℕ) → b ≡ c → Some b ≡ Some c
-some_same b c h = ap (λ (x : ℕ). Some x) h
-
 other_if : (b unit : ℕ) (t : Bool) → (b == unit) ≡ t → Some b ≢ Some unit → t ≡ false
-other_if b unit true h other = absurd (other (some_same b unit (let same : b ≡ unit = grind (arith, nat_tests) in same)))
+other_if b unit true h other = absurd (other (ap (λ (x : ℕ). Some x) (eqb-true b unit h)))
 other_if b unit false h other = refl
 
 pub other_byte : (b unit : ℕ) → Some b ≢ Some unit → (b == unit) ≡ false
@@ -150,7 +145,7 @@ unfolding read_perhaps read_count
 count_taken unit run old mid n b h p =
     let bytes : List ℕ = from_run old.text run in
     let rest : after_digits bytes ≡ unit ∷ ahead mid = sym b.rest ∙ p.split in
-    rw (peek_number bytes n (behind_number run old (Some n) b h), rest, same_byte unit) refl
+    rw (peek_number bytes n (behind_number run old (Some n) b h), rest, eq-eqb unit unit refl) refl
 
 other_letter : (unit n : ℕ) (bytes rest : List ℕ) → peek bytes ≡ with_letter n rest → front_byte rest ≢ Some unit → read_perhaps unit bytes ≡ (0, bytes)
 unfolding read_perhaps read_count
@@ -170,15 +165,11 @@ count_none unit run old b h = rw (peek_none (from_run old.text run) (behind_numb
 
 -- ---- a field that may be left out
 
-not_if : (t : Bool) → (t ≡ true → ⊥) → t ≡ false
-not_if true n = absurd (n refl)
-not_if false n = refl
-
 not_digit : (b : ℕ) → ((b ≡ 58) ⊎ (is_ascii_digit b ≡ true) → ⊥) → is_ascii_digit b ≡ false
-not_digit b n = not_if (is_ascii_digit b) (λ h. n (inr h))
+not_digit b n = false_from_ne_true (is_ascii_digit b) (λ h. n (inr h))
 
 not_colon : (b : ℕ) → ((b ≡ 58) ⊎ (is_ascii_digit b ≡ true) → ⊥) → (b == 58) ≡ false
-not_colon b n = not_if (b == 58) (λ h. n (inl (is_byte b 58 h)))
+not_colon b n = false_from_ne_true (b == 58) (λ h. n (inl (eqb-true b 58 h)))
 
 pub no_field : (hi : ℕ) (bytes : List ℕ) → (BeginsField bytes → ⊥) → read_later hi bytes ≡ (0, bytes)
 unfolding read_later

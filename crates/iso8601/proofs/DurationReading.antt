@@ -1,5 +1,6 @@
 -- Durations are read: what is read is a duration, and no longer front is one.
 use Rattle.std.proofs.Common.{◌≡◌, ◌≢◌, ℕ, ◌<◌, ◌≤◌, ◌^◌, ◌⊎◌, ◌==◌, nat_lt, true, false, List, [], ◌∷◌, ◌++◌, length, Option, Some, None, refl, sym, ◌∙◌, ap, subst, append_assoc, length-append, arith, inl, inr, codes}
+use Rattle.std.proofs.lemmas.Bool.{eqb-true, ltb-true, lt-ltb}
 use Rattle.std.proofs.Math.Nat.{pow-le-pow_right}
 use Rattle.std.proofs.lemmas.Bool.Decides.{nat_tests}
 use Rattle.std.proofs.lemmas.Option.{cond_some, option_and_then_some, some_pair_parts}
@@ -12,7 +13,7 @@ use Rattle.iso8601.specs.Durations.{IsPerhapsClock, IsNumber, IsCounted, IsWeeks
 use Rattle.iso8601.specs.inside.Reading.{or_else}
 use Rattle.iso8601.specs.inside.TimeReading.{read_both, read_time}
 use Rattle.iso8601.specs.inside.DurationReading.{Peeked, peek, read_count, read_perhaps, read_clock, read_counts, duration_of, read_counted, read_weeks, read_dated, dated_of, read_body, read_duration}
-use Rattle.iso8601.proofs.FieldFacts.{NotFirst, behind, joins, letter_sound, is_byte, digits_first, field_exact, field_sound, marked_exact, marked_sound}
+use Rattle.iso8601.proofs.FieldFacts.{NotFirst, behind, joins, letter_sound, digits_first, field_exact, field_sound, marked_exact, marked_sound}
 use Rattle.iso8601.proofs.TimeReading.{time_sound, time_reach, time_exact}
 use Rattle.iso8601.proofs.Longest.{Sound, Reach, Exact, NoShorter, either_sound, either_reach, reach_from_exact, with_value, reaches_with}
 use Rattle.iso8601.proofs.Optional.{Optional, IsBoth, both_optional, both_marks}
@@ -84,12 +85,6 @@ counted_from text v some c =
       value = refl;
     }
 
-less_from : (a b : ℕ) → nat_lt a b ≡ true → a < b
-less_from a b h = grind (arith, nat_tests)
-
-less_test : (a b : ℕ) → a < b → nat_lt a b ≡ true
-less_test a b h = grind (arith, nat_tests)
-
 pub not_less : (a : ℕ) → nat_lt a a ≡ false
 not_less a = grind (arith, nat_tests)
 
@@ -107,7 +102,7 @@ counted_sound bytes rest d h =
     let found = cond_some (nat_lt (length (read_counts bytes).1) (length bytes)) _ _ h in
     let parts = some_pair_parts _ _ _ _ (ap Some found.1) in
     let c = counts_optional.sound bytes in
-    let less = less_from _ _ found.0 in
+    let less = ltb-true _ _ found.0 in
     let P : Duration → Type 0 = λ v. IsCounted c.0 v in
     (c.0, subst P parts.0 (counted_from c.0 (read_counts bytes).0 (some_text bytes c.0 (read_counts bytes).1 c.2 less) c.1), c.2 ∙ ap (λ (l : List ℕ). c.0 ++ l) parts.1)
 
@@ -115,14 +110,14 @@ counted_reach : Reach IsCounted read_counted
 unfolding read_counted
 counted_reach text rest d c =
     let far = counts_optional.reach text rest (values_of text d c) (counts_of text d c) in
-    let test : nat_lt (length (read_counts (text ++ rest)).1) (length (text ++ rest)) ≡ true = less_test _ _ (let l = longer text rest c.some in omega arith) in
+    let test : nat_lt (length (read_counts (text ++ rest)).1) (length (text ++ rest)) ≡ true = lt-ltb _ _ (let l = longer text rest c.some in omega arith) in
     rw test far
 
 counted_whole : (text : List ℕ) (d : Duration) → IsCounted text d → read_counted (text ++ []) ≡ Some (d, [])
 unfolding read_counted
 counted_whole text d c =
     let all = counts_optional.exact text [] (values_of text d c) (counts_of text d c) refl in
-    let test : nat_lt 0 (length (text ++ [])) ≡ true = less_test 0 _ (longer text [] c.some) in
+    let test : nat_lt 0 (length (text ++ [])) ≡ true = lt-ltb 0 _ (longer text [] c.some) in
     rw (all, test, c.value) refl
 
 -- ---- weeks
@@ -179,7 +174,7 @@ not_counted p bytes h other = rw (no_counts p bytes h other, not_less (length by
 
 count_peek : (unit : ℕ) (bytes : List ℕ) (w : ℕ × List ℕ) → read_count unit bytes ≡ Some w → (p : Peeked) × (peek bytes ≡ Some p) × (p.letter ≡ unit)
 unfolding read_count
-count_peek unit bytes w h = option_and_then_some _ _ _ h (λ p found body. (p, found, is_byte p.letter unit (cond_some (p.letter == unit) _ _ body).0))
+count_peek unit bytes w h = option_and_then_some _ _ _ h (λ p found body. (p, found, eqb-true p.letter unit (cond_some (p.letter == unit) _ _ body).0))
 
 weeks_peek : (bytes : List ℕ) (x : Duration × List ℕ) → read_weeks bytes ≡ Some x → (p : Peeked) × (peek bytes ≡ Some p) × (p.letter ≡ 87)
 unfolding read_weeks

@@ -1,5 +1,6 @@
 -- Fields, marks and years in front are read, and what is read is one.
 use Rattle.std.proofs.Common.{◌≡◌, ℕ, ◌<◌, ◌≤◌, ◌&&◌, ◌==◌, nat_le, Bool, true, false, cond, List, [], ◌∷◌, ◌++◌, length, take, drop, Some, None, refl, sym, ◌∙◌, ap, subst, append_assoc, take-append-drop, length-take, arith, inl, inr}
+use Rattle.std.proofs.lemmas.Bool.{eqb-true, eq-eqb}
 use Rattle.std.specs.Char.{is_ascii_digit, digit_value}
 use Rattle.std.proofs.lemmas.Bool.Decides.{nat_tests}
 use Rattle.std.proofs.lemmas.List.{take_at, drop_at, length-take-le}
@@ -109,15 +110,9 @@ pub no_mark : (mark : ℕ) (rest : List ℕ) → NotFirst mark rest → after_ma
 no_mark mark [] n = refl
 no_mark mark (b ∷ bs) n = rw n refl
 
-same_byte : (b : ℕ) → (b == b) ≡ true
-same_byte b = grind (arith, nat_tests)
-
 pub mark_exact : (mark : ℕ) (text rest : List ℕ) → IsPerhaps (mark ∷ []) text → NotFirst mark rest → after_mark mark (text ++ rest) ≡ rest
 mark_exact mark text rest (inl none) n = rw none (no_mark mark rest n)
-mark_exact mark text rest (inr one) n = rw (one, same_byte mark) refl
-
-pub is_byte : (b c : ℕ) → (b == c) ≡ true → b ≡ c
-is_byte b c h = grind (arith, nat_tests)
+mark_exact mark text rest (inr one) n = rw (one, eq-eqb mark mark refl) refl
 
 mark_if : (t : Bool) (mark b : ℕ) (bs : List ℕ) → (t ≡ true → b ≡ mark) → (text : List ℕ) × IsPerhaps (mark ∷ []) text × (b ∷ bs ≡ text ++ cond t bs (b ∷ bs))
 mark_if true mark b bs is = (mark ∷ [], inr refl, ap (λ (c : ℕ). c ∷ bs) (is refl))
@@ -125,7 +120,7 @@ mark_if false mark b bs is = ([], inl refl, refl)
 
 pub mark_sound : (mark : ℕ) (bytes : List ℕ) → (text : List ℕ) × IsPerhaps (mark ∷ []) text × (bytes ≡ text ++ after_mark mark bytes)
 mark_sound mark [] = ([], inl refl, refl)
-mark_sound mark (b ∷ bs) = mark_if (b == mark) mark b bs (is_byte b mark)
+mark_sound mark (b ∷ bs) = mark_if (b == mark) mark b bs (eqb-true b mark)
 
 pub letter_none : (mark : ℕ) (rest : List ℕ) → NotFirst mark rest → read_mark mark rest ≡ None
 letter_none mark [] n = refl
@@ -135,7 +130,7 @@ pub letter_sound : (mark : ℕ) (bytes rest : List ℕ) → read_mark mark bytes
 letter_sound mark [] rest h = cc
 letter_sound mark (b ∷ bs) rest h =
     let found = cond_some (b == mark) bs rest h in
-    let here = is_byte b mark found.0 in
+    let here = eqb-true b mark found.0 in
     rw (here, found.1) refl
 
 -- ---- a mark that may be left out, and a field
@@ -188,7 +183,7 @@ sign_if false false b bs is_minus is_plus = ([], inl refl, refl)
 
 sign_sound : (bytes : List ℕ) → (sign : List ℕ) × IsSign true (read_sign bytes).0 sign × (bytes ≡ sign ++ (read_sign bytes).1)
 sign_sound [] = ([], inl refl, refl)
-sign_sound (b ∷ bs) = sign_if (b == 45) (b == 43) b bs (is_byte b 45) (is_byte b 43)
+sign_sound (b ∷ bs) = sign_if (b == 45) (b == 43) b bs (eqb-true b 45) (eqb-true b 43)
 
 pub year_exact : Exact IsYear read_year
 unfolding read_year

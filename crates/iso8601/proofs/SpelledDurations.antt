@@ -1,5 +1,6 @@
 -- The written text of a duration in range is in the grammar, with this value.
 use Rattle.std.proofs.Common.{◌≡◌, ◌≢◌, ℕ, ◌<◌, ◌≤◌, ◌^◌, ◌==◌, ◌&&◌, Bool, true, false, cond, List, [], ◌∷◌, ◌++◌, length, codes, decimal, refl, sym, ◌∙◌, ap, subst, append_assoc, length-append, arith, inl, inr}
+use Rattle.std.proofs.lemmas.Bool.{eqb-true, and_parts}
 use Rattle.std.proofs.lemmas.Bool.Decides.{nat_tests}
 use Rattle.std.proofs.lemmas.Fmt.{decimal_nonempty}
 use Rattle.scan_core.specs.Padded.{padded}
@@ -22,11 +23,8 @@ number_spelled n small =
 whole_count : (unit : List ℕ) (n : ℕ) → n < 2 ^ 32 → IsCount unit (decimal n ++ unit) n
 whole_count unit n small = record { digits = decimal n; number = number_spelled n small; joined = refl }
 
-is_zero : (n : ℕ) → (n == 0) ≡ true → n ≡ 0
-is_zero n h = grind (arith, nat_tests)
-
 count_if : (unit : List ℕ) (n : ℕ) (t : Bool) → (n == 0) ≡ t → n < 2 ^ 32 → IsOrZero (IsCount unit) (cond t [] (decimal n ++ unit)) n
-count_if unit n true h small = inl (refl, is_zero n h)
+count_if unit n true h small = inl (refl, eqb-true n 0 h)
 count_if unit n false h small = inr (whole_count unit n small)
 
 count_spelled : (unit : List ℕ) (n : ℕ) → n < 2 ^ 32 → IsOrZero (IsCount unit) (count_text n unit) n
@@ -35,7 +33,7 @@ count_spelled unit n small = count_if unit n (n == 0) refl small
 
 seconds_if : (s ms : ℕ) (t : Bool) → (ms == 0) ≡ t → s < 2 ^ 32 → ms ≤ 999
     → IsSeconds (cond t (count_text s (codes "S")) (decimal s ++ (codes "." ++ (padded 3 ms ++ codes "S")))) (s, ms)
-seconds_if s ms true h small most = inl (count_spelled (codes "S") s small, is_zero ms h)
+seconds_if s ms true h small most = inl (count_spelled (codes "S") s small, eqb-true ms 0 h)
 seconds_if s ms false h small most =
     inr (record { digits = decimal s; fraction = codes "." ++ padded 3 ms; number = number_spelled s small; millis = fraction_spelled ms most; joined = refl })
 
@@ -158,17 +156,13 @@ zero_spelled =
       value = refl;
     }
 
-both_true : (a b : Bool) → (a && b) ≡ true → (a ≡ true) × (b ≡ true)
-both_true true b h = (refl, h)
-both_true false b h = cc
-
 all_counts_zero : (y mo d h m s ms : ℕ) → are_all_zero y mo d h m s ms ≡ true → YMDHMS 0 0 0 0 0 0 0 ≡ YMDHMS y mo d h m s ms
 all_counts_zero y mo d h m s ms z =
-    let a = both_true (y == 0) _ z in
-    let b = both_true (mo == 0) _ a.1 in
-    let c = both_true (d == 0) _ b.1 in
+    let a = and_parts (y == 0) _ z in
+    let b = and_parts (mo == 0) _ a.1 in
+    let c = and_parts (d == 0) _ b.1 in
     let clock = all_zero h m s ms c.1 in
-    rw (is_zero y a.0, is_zero mo b.0, is_zero d c.0, clock.0, clock.1, clock.2, clock.3) refl
+    rw (eqb-true y 0 a.0, eqb-true mo 0 b.0, eqb-true d 0 c.0, clock.0, clock.1, clock.2, clock.3) refl
 
 spelled_if : (y mo d h m s ms : ℕ) (t : Bool) → are_all_zero y mo d h m s ms ≡ t → IsDurationInRange (YMDHMS y mo d h m s ms)
     → IsDuration (cond t (codes "P0D") (codes "P" ++ (date_counts_text y mo d ++ clock_counts_text h m s ms))) (YMDHMS y mo d h m s ms)

@@ -1,5 +1,6 @@
 -- The parts of a time that may be left out: seconds, the fraction, the offset.
 use Rattle.std.proofs.Common.{◌≡◌, ℕ, ℤ, ◌<◌, ◌≤◌, ◌⊎◌, ◌==◌, Bool, true, false, cond, List, [], ◌∷◌, ◌++◌, length, Option, Some, None, refl, sym, ◌∙◌, ap, append_assoc, append-nil, arith, inl, inr}
+use Rattle.std.proofs.lemmas.Bool.{eqb-true}
 use Rattle.std.specs.Char.{is_ascii_digit, digit_value}
 use Rattle.std.proofs.lemmas.Bool.Decides.{nat_tests}
 use Rattle.std.proofs.lemmas.Str.Parse.{digit_from_value}
@@ -13,7 +14,7 @@ use Rattle.iso8601.specs.Times.{IsPoint, IsLater, IsFraction, IsSignedOffset, Is
 use Rattle.iso8601.specs.inside.Reading.{read_field, read_marked}
 use Rattle.scan_core.specs.Fronts.{front_digits, after_digits, NoDigitFirst}
 use Rattle.iso8601.specs.inside.TimeReading.{read_later, millis_of, read_fraction, no_offset, with_minutes, read_signed, read_offset}
-use Rattle.iso8601.proofs.FieldFacts.{field_exact, field_sound, marked_exact, marked_sound, marked_none, is_byte}
+use Rattle.iso8601.proofs.FieldFacts.{field_exact, field_sound, marked_exact, marked_sound, marked_none}
 use Rattle.iso8601.proofs.Optional.{Optional, Marks, IsBoth, both_marks, optional_when, shrinks, zero_optional}
 
 -- ---- perhaps a colon and two digits
@@ -68,7 +69,7 @@ fraction_if false false b bs is_point is_comma = ([], inl (refl, refl), refl)
 
 pub fraction_sound : (bytes : List ℕ) → Begins (IsOrZero IsFraction) bytes (read_fraction bytes).0 (read_fraction bytes).1
 fraction_sound [] = ([], inl (refl, refl), refl)
-fraction_sound (b ∷ bs) = fraction_if (b == 46) (b == 44) b bs (is_byte b 46) (is_byte b 44)
+fraction_sound (b ∷ bs) = fraction_if (b == 46) (b == 44) b bs (eqb-true b 46) (eqb-true b 44)
 
 behind_point : (point bs : List ℕ) → IsPoint point → read_fraction (point ++ bs) ≡ (millis_of (front_digits bs), after_digits bs)
 behind_point point bs (inl h) = rw h refl
@@ -128,7 +129,7 @@ offset_if false false false b bs is_utc is_minus is_plus = ([], inl (refl, refl)
 
 offset_sound : (bytes : List ℕ) → Begins IsOffset bytes (read_offset bytes).0 (read_offset bytes).1
 offset_sound [] = ([], inl (refl, refl), refl)
-offset_sound (b ∷ bs) = offset_if (b == 90) (b == 45) (b == 43) b bs (is_byte b 90) (is_byte b 45) (is_byte b 43)
+offset_sound (b ∷ bs) = offset_if (b == 90) (b == 45) (b == 43) b bs (eqb-true b 90) (eqb-true b 45) (eqb-true b 43)
 
 behind_sign : (negative : Bool) (bs : List ℕ) → read_offset (sign_text negative ++ bs) ≡ read_signed negative (sign_text negative ++ bs) bs
 behind_sign true bs = refl

@@ -1,5 +1,6 @@
 -- Years in a row: each begins behind the days of the one before, and 400 years later the calendar and its weeks repeat.
 use Rattle.std.proofs.Common.{◌≡◌, ℕ, zero, suc, ◌+◌, ◌%◌, ◌/◌, ◌<◌, ◌≤◌, ◌==◌, ◌&&◌, ◌||◌, not, Bool, true, false, cond, ℤ, pos, negsuc, refl, ◌∙◌, ap, add-zero, arith}
+use Rattle.std.proofs.lemmas.Bool.{eqb-true}
 use Rattle.std.specs.Prelude.{unsigned_abs, ◌+ℤ◌, ◌-ℤ◌, ◌*ℤ◌, ◌<ℤ◌, ◌≤ℤ◌}
 use Rattle.std.specs.Int.{int_div_euclid, int_rem_euclid}
 use Rattle.std.proofs.lemmas.Int.{ints}
@@ -27,22 +28,19 @@ one_if b = cond b (pos 1) (pos 0)
 
 -- ---- a quotient rises at a multiple
 
-is_zero : (k : ℕ) → (k == 0) ≡ true → k ≡ 0
-is_zero k h = grind (arith, nat_tests)
-
 not_zero : (k : ℕ) → (k == 0) ≡ false → 0 < k
 not_zero k h = grind (arith, nat_tests)
 
 rise_four : (a : ℕ) (t : Bool) → (suc a % 4 == 0) ≡ t → suc a / 4 ≡ a / 4 + cond t 1 0
-rise_four a true h = let e = is_zero (suc a % 4) h in omega arith
+rise_four a true h = let e = eqb-true (suc a % 4) 0 h in omega arith
 rise_four a false h = let e = not_zero (suc a % 4) h in omega arith
 
 rise_hundred : (a : ℕ) (t : Bool) → (suc a % 100 == 0) ≡ t → suc a / 100 ≡ a / 100 + cond t 1 0
-rise_hundred a true h = let e = is_zero (suc a % 100) h in omega arith
+rise_hundred a true h = let e = eqb-true (suc a % 100) 0 h in omega arith
 rise_hundred a false h = let e = not_zero (suc a % 100) h in omega arith
 
 rise_four_hundred : (a : ℕ) (t : Bool) → (suc a % 400 == 0) ≡ t → suc a / 400 ≡ a / 400 + cond t 1 0
-rise_four_hundred a true h = let e = is_zero (suc a % 400) h in omega arith
+rise_four_hundred a true h = let e = eqb-true (suc a % 400) 0 h in omega arith
 rise_four_hundred a false h = let e = not_zero (suc a % 400) h in omega arith
 
 above : (x y : ℕ) (t : Bool) → x ≡ y + cond t 1 0 → pos x ≡ pos y +ℤ one_if t
@@ -86,10 +84,10 @@ multiple_of k h = grind (arith, nat_tests)
 
 -- multiples of 400 are multiples of 100, and these of 4
 all_hundred : (y : ℤ) → is_multiple 400 y ≡ true → is_multiple 100 y ≡ true
-all_hundred y h = multiple_of (unsigned_abs y % 100) (let e = is_zero (unsigned_abs y % 400) h in omega arith)
+all_hundred y h = multiple_of (unsigned_abs y % 100) (let e = eqb-true (unsigned_abs y % 400) 0 h in omega arith)
 
 all_four : (y : ℤ) → is_multiple 100 y ≡ true → is_multiple 4 y ≡ true
-all_four y h = multiple_of (unsigned_abs y % 4) (let e = is_zero (unsigned_abs y % 100) h in omega arith)
+all_four y h = multiple_of (unsigned_abs y % 4) (let e = eqb-true (unsigned_abs y % 100) 0 h in omega arith)
 
 year_if : (t : Bool) → pos (cond t 366 365) ≡ pos 365 +ℤ one_if t
 year_if true = refl
