@@ -33,7 +33,8 @@ IsOrdinalDay year text date = (day : ℕ) × IsField 3 1 366 text day × (date �
 
 -- a day of any of the three kinds
 abbrev pub IsDayOf : ℤ → List ℕ → Date → Type 0
-IsDayOf year text date = IsMonthDay year text date ⊎ (IsWeekDay year text date ⊎ IsOrdinalDay year text date)
+IsDayOf year text date =
+    IsMonthDay year text date ⊎ (IsWeekDay year text date ⊎ IsOrdinalDay year text date)
 
 -- the text is a date
 pub record IsDate (text : List ℕ) (date : Date) : Type 0 where

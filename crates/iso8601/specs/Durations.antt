@@ -31,7 +31,8 @@ pub record IsDecimal (text : List ℕ) (value : ℕ × ℕ) : Type 0 where
 
 -- seconds and milliseconds
 abbrev pub IsSeconds : List ℕ → ℕ × ℕ → Type 0
-IsSeconds text value = (IsOrZero (IsCount (codes "S")) text value.0 × (value.1 ≡ 0)) ⊎ IsDecimal text value
+IsSeconds text value =
+    (IsOrZero (IsCount (codes "S")) text value.0 × (value.1 ≡ 0)) ⊎ IsDecimal text value
 
 -- `T`, and perhaps hours, minutes and seconds
 pub record IsClock (text : List ℕ) (value : ℕ × (ℕ × (ℕ × ℕ))) : Type 0 where

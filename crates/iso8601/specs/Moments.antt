@@ -14,7 +14,8 @@ IsOnClock t = (t.hour < 24) × (t.minute < 60) × (t.second < 60) × (t.millisec
 -- the civil time has the fields, and the offset isn't in it
 abbrev pub IsCivilTime : Time → CivilTime → Type 0
 IsCivilTime t civil =
-    (civil.hour ≡ t.hour) × (civil.minute ≡ t.minute) × (civil.second ≡ t.second) × (civil.subsec_nanosecond ≡ 1_000_000 * t.millisecond)
+    (civil.hour ≡ t.hour) × (civil.minute ≡ t.minute) × (civil.second ≡ t.second)
+    × (civil.subsec_nanosecond ≡ 1_000_000 * t.millisecond)
 
 -- how many seconds a time is ahead of UTC
 abbrev pub offset_of : Time → ℤ
@@ -22,9 +23,12 @@ offset_of t = (pos 3600 *ℤ t.tz_offset_hours) +ℤ (pos 60 *ℤ t.tz_offset_mi
 
 -- the day is a civil one, the clock shows the time, and the offset is less than a day
 abbrev pub IsMoment : DateTime → Type 0
-IsMoment t = Exists t.date × IsCivilDay (day_of t.date) × IsOnClock t.time × (unsigned_abs (offset_of t.time) < 86_400)
+IsMoment t =
+    Exists t.date × IsCivilDay (day_of t.date) × IsOnClock t.time
+    × (unsigned_abs (offset_of t.time) < 86_400)
 
 -- the moment has the date-time's day, clock and offset
 abbrev pub IsMomentOf : DateTime → FixedMoment → Type 0
 IsMomentOf t moment =
-    (epoch_day moment.local.date ≡ day_of t.date) × IsCivilTime t.time moment.local.time × (moment.offset_seconds ≡ offset_of t.time)
+    (epoch_day moment.local.date ≡ day_of t.date) × IsCivilTime t.time moment.local.time
+    × (moment.offset_seconds ≡ offset_of t.time)

@@ -8,7 +8,8 @@ Begins Is bytes value rest = (text : List ℕ) × Is text value × (bytes ≡ te
 
 -- every text of the grammar in front leaves this rest or more: none is longer
 abbrev pub NoneLonger : {V : Type 0} → (List ℕ → V → Type 0) → List ℕ → List ℕ → Type 0
-NoneLonger {V} Is bytes rest = (value : V) (left : List ℕ) → Begins Is bytes value left → length rest ≤ length left
+NoneLonger {V} Is bytes rest =
+    (value : V) (left : List ℕ) → Begins Is bytes value left → length rest ≤ length left
 
 -- no text of the grammar is in front
 abbrev pub NoneBegins : {V : Type 0} → (List ℕ → V → Type 0) → List ℕ → Type 0
@@ -16,8 +17,10 @@ NoneBegins {V} Is bytes = (value : V) (left : List ℕ) → Begins Is bytes valu
 
 -- the longest text of the grammar in front has this value, whatever follows it
 abbrev pub BeginsLongest : {V : Type 0} → (List ℕ → V → Type 0) → List ℕ → V → Type 0
-BeginsLongest Is bytes value = (rest : List ℕ) × Begins Is bytes value rest × NoneLonger Is bytes rest
+BeginsLongest Is bytes value =
+    (rest : List ℕ) × Begins Is bytes value rest × NoneLonger Is bytes rest
 
 -- what is answered of bytes: the value of their longest text of the grammar in front, or that there is none
 abbrev pub AnswersLongest : {V E : Type 0} → (List ℕ → V → Type 0) → List ℕ → Result V E → Type 0
-AnswersLongest Is bytes result = IfOk result (BeginsLongest Is bytes) × IfErr result (λ e. NoneBegins Is bytes)
+AnswersLongest Is bytes result =
+    IfOk result (BeginsLongest Is bytes) × IfErr result (λ e. NoneBegins Is bytes)

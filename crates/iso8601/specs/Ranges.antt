@@ -9,8 +9,10 @@ use Rattle.iso8601.specs.declared.types.Duration.TheVariants.{YMDHMS, Weeks}
 
 -- a year of four digits, and the fields of a date; the day may be missing in its month or year
 abbrev pub IsDateInRange : Date → Type 0
-IsDateInRange (YMD year month day) = (unsigned_abs year ≤ 9999) × (1 ≤ month) × (month ≤ 12) × (1 ≤ day) × (day ≤ 31)
-IsDateInRange (Week year ww d) = (unsigned_abs year ≤ 9999) × (1 ≤ ww) × (ww ≤ 53) × (1 ≤ d) × (d ≤ 7)
+IsDateInRange (YMD year month day) =
+    (unsigned_abs year ≤ 9999) × (1 ≤ month) × (month ≤ 12) × (1 ≤ day) × (day ≤ 31)
+IsDateInRange (Week year ww d) =
+    (unsigned_abs year ≤ 9999) × (1 ≤ ww) × (ww ≤ 53) × (1 ≤ d) × (d ≤ 7)
 IsDateInRange (Ordinal year ddd) = (unsigned_abs year ≤ 9999) × (1 ≤ ddd) × (ddd ≤ 366)
 
 -- neither part is negative, or neither is positive
@@ -30,5 +32,6 @@ IsDateTimeInRange t = IsDateInRange t.date × IsTimeInRange t.time
 -- counts of 32 bits, and fewer than 1000 milliseconds
 abbrev pub IsDurationInRange : Duration → Type 0
 IsDurationInRange (YMDHMS year month day hour minute second millisecond) =
-    (year < 2 ^ 32) × (month < 2 ^ 32) × (day < 2 ^ 32) × (hour < 2 ^ 32) × (minute < 2 ^ 32) × (second < 2 ^ 32) × (millisecond ≤ 999)
+    (year < 2 ^ 32) × (month < 2 ^ 32) × (day < 2 ^ 32)
+    × (hour < 2 ^ 32) × (minute < 2 ^ 32) × (second < 2 ^ 32) × (millisecond ≤ 999)
 IsDurationInRange (Weeks weeks) = weeks < 2 ^ 32

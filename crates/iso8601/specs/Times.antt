@@ -38,7 +38,9 @@ pub record IsSignedOffset (text : List ℕ) (offset : ℤ × ℤ) : Type 0 where
 
 -- hours and minutes of an offset: nothing, `Z`, or a signed one
 abbrev pub IsOffset : List ℕ → ℤ × ℤ → Type 0
-IsOffset text offset = ((text ≡ []) × (offset ≡ (pos 0, pos 0))) ⊎ (((text ≡ codes "Z") × (offset ≡ (pos 0, pos 0))) ⊎ IsSignedOffset text offset)
+IsOffset text offset =
+    ((text ≡ []) × (offset ≡ (pos 0, pos 0)))
+    ⊎ (((text ≡ codes "Z") × (offset ≡ (pos 0, pos 0))) ⊎ IsSignedOffset text offset)
 
 -- the text is a time
 pub record IsTime (text : List ℕ) (time : Time) : Type 0 where

@@ -19,18 +19,22 @@ year_text year = minus (is_negative year) ++ padded 4 (unsigned_abs year)
 
 -- `2015-06-26`, `2015-W26-5`, `2015-177`
 unfoldable pub date_text : Date → List ℕ
-date_text (YMD year month day) = year_text year ++ (codes "-" ++ (padded 2 month ++ (codes "-" ++ padded 2 day)))
-date_text (Week year ww d) = year_text year ++ (codes "-W" ++ (padded 2 ww ++ (codes "-" ++ padded 1 d)))
+date_text (YMD year month day) =
+    year_text year ++ (codes "-" ++ (padded 2 month ++ (codes "-" ++ padded 2 day)))
+date_text (Week year ww d) =
+    year_text year ++ (codes "-W" ++ (padded 2 ww ++ (codes "-" ++ padded 1 d)))
 date_text (Ordinal year ddd) = year_text year ++ (codes "-" ++ padded 3 ddd)
 
 -- `16:43:16.123`
 unfoldable pub clock_text : ℕ → ℕ → ℕ → ℕ → List ℕ
 clock_text hour minute second millisecond =
-    padded 2 hour ++ (codes ":" ++ (padded 2 minute ++ (codes ":" ++ (padded 2 second ++ (codes "." ++ padded 3 millisecond)))))
+    padded 2 hour ++ (codes ":" ++ (padded 2 minute ++ (codes ":" ++ (padded 2 second
+    ++ (codes "." ++ padded 3 millisecond)))))
 
 -- a number in at least two characters, of which its minus is one
 unfoldable pub two_wide : ℤ → List ℕ
-two_wide z = if is_negative z then (codes "-" ++ padded 1 (unsigned_abs z)) else padded 2 (unsigned_abs z)
+two_wide z =
+    if is_negative z then (codes "-" ++ padded 1 (unsigned_abs z)) else padded 2 (unsigned_abs z)
 
 -- a part of an offset, negated where a minus governs the parts
 abbrev pub governed_part : Bool → ℤ → ℤ
@@ -41,10 +45,14 @@ governed_part governed part = if governed then neg_ℤ part else part
 unfoldable pub offset_text : ℤ → ℤ → List ℕ
 offset_text hours minutes =
     let governed = is_negative hours || is_negative minutes in
-    (if governed then codes "-" else codes "+") ++ (two_wide (governed_part governed hours) ++ (codes ":" ++ two_wide (governed_part governed minutes)))
+    (if governed then codes "-" else codes "+")
+    ++ (two_wide (governed_part governed hours)
+    ++ (codes ":" ++ two_wide (governed_part governed minutes)))
 
 unfoldable pub time_text : Time → List ℕ
-time_text t = clock_text t.hour t.minute t.second t.millisecond ++ offset_text t.tz_offset_hours t.tz_offset_minutes
+time_text t =
+    clock_text t.hour t.minute t.second t.millisecond
+    ++ offset_text t.tz_offset_hours t.tz_offset_minutes
 
 unfoldable pub date_time_text : DateTime → List ℕ
 date_time_text t = date_text t.date ++ (codes "T" ++ time_text t.time)

@@ -30,7 +30,8 @@ IsStuck hi bytes = BeginsField bytes × (read_marked 58 2 0 hi bytes ≡ None)
 -- a point or a comma is in front, digits behind it have these milliseconds, and the rest follows them
 abbrev pub IsPointed : List ℕ → ℕ → List ℕ → Type 0
 IsPointed [] millisecond rest = ⊥
-IsPointed (b ∷ bs) millisecond rest = ((b ≡ 46) ⊎ (b ≡ 44)) × (millisecond ≡ millis_of (front_digits bs)) × (rest ≡ after_digits bs)
+IsPointed (b ∷ bs) millisecond rest =
+    ((b ≡ 46) ⊎ (b ≡ 44)) × (millisecond ≡ millis_of (front_digits bs)) × (rest ≡ after_digits bs)
 
 abbrev pub BeginsNoPoint : List ℕ → Type 0
 BeginsNoPoint [] = Unit {0}

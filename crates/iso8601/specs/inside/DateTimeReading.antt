@@ -10,4 +10,10 @@ abbrev pub date_time_of : Date → Time → DateTime
 date_time_of d t = record { date = d; time = t }
 
 unfoldable pub read_date_time : List ℕ → Option (DateTime × List ℕ)
-read_date_time bytes = option_and_then (λ d. option_and_then (λ behind. option_and_then (λ t. Some (date_time_of d.0 t.0, t.1)) (read_time behind)) (read_mark 84 d.1)) (read_date bytes)
+read_date_time bytes =
+    option_and_then (λ d.
+    option_and_then (λ behind.
+    option_and_then (λ t. Some (date_time_of d.0 t.0, t.1))
+    (read_time behind))
+    (read_mark 84 d.1))
+    (read_date bytes)
