@@ -1,6 +1,7 @@
 -- What the written text of a length is read as.
 use Rattle.std.proofs.Common.{◌≡◌, ◌↔◌, ℕ, ◌+◌, ◌*◌, ◌^◌, ◌<◌, ◌≤◌, Bool, true, false, ◌&&◌, ◌||◌, nat_lt, List, [], ◌∷◌, codes, refl, sym, ◌∙◌, ap, subst, ⊎_elim, inl, inr, arith}
 use Rattle.std.specs.Prelude.{◌⊎◌}
+use Rattle.std.proofs.Math.Bool.{and-true}
 use Rattle.std.proofs.lemmas.Bool.{and_parts, or_parts, and_right, ltb-true, ltb-false, cases_lt}
 use Rattle.fancy_duration.specs.declared.part.DurationPart.{DurationPart}
 use Rattle.fancy_duration.specs.declared.part.DurationPart.TheVariants.{Years, Months, Weeks, Days, Hours, Minutes, Seconds, Milliseconds, Microseconds, Nanoseconds}
@@ -39,11 +40,7 @@ long-short c counts e =
 long-long : (c : PartCount) (counts : List PartCount) → is_long (unit_of c.part) ≡ true
     → long_follows (items_in (c ∷ counts)) ≡ (nat_lt 0 c.count || long_follows (items_in counts))
 long-long c counts e =
-    long-cons c counts ∙ ap (λ b. (nat_lt 0 c.count && b) || long_follows (items_in counts)) e ∙ ap (λ b. b || long_follows (items_in counts)) (and_true (nat_lt 0 c.count))
-  where
-    and_true : (b : Bool) → (b && true) ≡ b
-    and_true true = refl
-    and_true false = refl
+    long-cons c counts ∙ ap (λ b. (nat_lt 0 c.count && b) || long_follows (items_in counts)) e ∙ ap (λ b. b || long_follows (items_in counts)) (and-true (nat_lt 0 c.count))
 
 -- no part below minutes is long
 none_long : (s ms us ns : ℕ) → long_follows (items_in (below_minutes s ms us ns)) ≡ false

@@ -1,5 +1,6 @@
 -- What a unit weighs, by the part that it names.
-use Rattle.std.proofs.Common.{◌≡◌, ◌≢◌, ℕ, ◌+◌, ◌*◌, Bool, true, false, ◌||◌, List, ◌∷◌, codes, bytes_eq, refl, sym, ◌∙◌, ap, arith, mul-zero}
+use Rattle.std.proofs.Common.{◌≡◌, ◌≢◌, ℕ, ◌+◌, ◌*◌, Bool, false, ◌||◌, List, ◌∷◌, codes, bytes_eq, sym, ◌∙◌, ap, arith, mul-zero}
+use Rattle.std.proofs.lemmas.Bool.{false_from_ne_true}
 use Rattle.std.proofs.lemmas.Slice.Eq.{bytes_eq-Decides}
 use Rattle.scan_core.specs.Digits.{number_of}
 use Rattle.fancy_duration.specs.declared.part.DurationPart.{DurationPart}
@@ -9,12 +10,8 @@ use Rattle.fancy_duration.specs.Items.{Item}
 use Rattle.fancy_duration.specs.Sums.{is_long, long_follows, weight_in, total}
 use Rattle.fancy_duration.specs.inside.Reading.{sum_with}
 
-pub bytes_eq-false : (xs ys : List ℕ) → xs ≢ ys → bytes_eq xs ys ≡ false
-bytes_eq-false xs ys h =
-    elim (bytes_eq xs ys) as (λ t. bytes_eq xs ys ≡ t → bytes_eq xs ys ≡ false) [
-      | true ↦ λ e. absurd (h ((bytes_eq-Decides xs ys).0 e))
-      | false ↦ λ e. e
-    ] refl
+bytes_eq-false : (xs ys : List ℕ) → xs ≢ ys → bytes_eq xs ys ≡ false
+bytes_eq-false xs ys h = false_from_ne_true (bytes_eq xs ys) (λ e. h ((bytes_eq-Decides xs ys).0 e))
 
 -- of letters that are no unit
 pub weight_in-other : (unit : List ℕ) (long : Bool) → ((part : DurationPart) → unit ≢ unit_of part)
