@@ -1,16 +1,16 @@
 -- The written text of a DOS date-time: `YYYY-MM-DD HH:MM:SS`.
 use Rattle.std.specs.Prelude.{ℕ, ◌+◌, ◌*◌, List, ◌++◌, codes, decimal}
-use Rattle.scan_core.specs.Padded.{padded}
+use Rattle.scan_core.specs.Padded.{padded_digits}
 use Rattle.dos_date.specs.Bits.{bits}
 
 -- a year of four digits, a month and a day
 abbrev pub day_text : ℕ → ℕ → ℕ → List ℕ
-day_text year month day = decimal year ++ codes "-" ++ padded 2 month ++ codes "-" ++ padded 2 day
+day_text year month day = decimal year ++ codes "-" ++ padded_digits 2 month ++ codes "-" ++ padded_digits 2 day
 
 -- an hour, a minute and a second
 abbrev pub clock_text : ℕ → ℕ → ℕ → List ℕ
 clock_text hour minute second =
-    padded 2 hour ++ codes ":" ++ padded 2 minute ++ codes ":" ++ padded 2 second
+    padded_digits 2 hour ++ codes ":" ++ padded_digits 2 minute ++ codes ":" ++ padded_digits 2 second
 
 -- the text of a date word and of a time word
 abbrev pub date_text : ℕ → List ℕ

@@ -5,11 +5,11 @@ use Rattle.std.proofs.lemmas.List.{drop_all, take_min}
 use Rattle.std.specs.List.{list_any}
 use Rattle.fancy_duration.specs.declared.part.DurationPart.{DurationPart}
 use Rattle.fancy_duration.specs.Parts.{all_parts, weight_of, is_part}
-use Rattle.fancy_duration.specs.Breakdown.{counts_of, breakdown, nanos_in, from_first, filtered, truncated}
+use Rattle.fancy_duration.specs.Breakdown.{counts_of, breakdown, nanos_in, from_first, kept_length, front_length}
 use Rattle.fancy_duration.specs.inside.Writing.{kept_in, left_after}
 
-pub filtered_all : (kept : List DurationPart) (nanos : ℕ) → kept_in kept all_parts nanos ≡ filtered kept nanos
-unfolding filtered kept_in breakdown
+pub filtered_all : (kept : List DurationPart) (nanos : ℕ) → kept_in kept all_parts nanos ≡ kept_length kept nanos
+unfolding kept_length kept_in breakdown
 filtered_all kept nanos = refl
 
 pub kept_in-none : (kept : List DurationPart) (left : ℕ) → kept_in kept [] left ≡ 0
@@ -73,8 +73,8 @@ nanos_in-counts_of (part ∷ parts) left = omega (arith, nanos_in-counts_of part
 pub truncated_by : (limit nanos end : ℕ) (parts : List DurationPart) (left : ℕ)
     → counts_of parts nanos ≡ from_first (counts_of all_parts nanos)
     → end ≡ min limit (length parts) → left ≡ left_after (take end parts) nanos
-    → nanos - left ≡ truncated limit nanos
-unfolding truncated breakdown
+    → nanos - left ≡ front_length limit nanos
+unfolding front_length breakdown
 truncated_by limit nanos end parts left begin e l =
     let stays = take limit parts in
     let same : left ≡ left_after stays nanos = l ∙ ap (λ ps. left_after ps nanos) (ap (λ n. take n parts) e ∙ take_min limit parts) in

@@ -6,7 +6,7 @@ use Rattle.fancy_duration.specs.Parts.{weight_of}
 use Rattle.fancy_duration.specs.Breakdown.{breakdown, count_of}
 use Rattle.fancy_duration.specs.Times.{nanos_of}
 use Rattle.fancy_duration.specs.Meanings.{Denotes}
-use Rattle.fancy_duration.specs.Written.{written}
+use Rattle.fancy_duration.specs.Written.{length_text}
 use Rattle.fancy_duration.specs.Collisions.{MonthsStandAlone}
 use Rattle.fancy_duration.proofs.ReadBack.{read_back}
 
@@ -32,7 +32,7 @@ not_tested false is = (λ e p. true≢false (sym (is.1 p)), λ h. refl)
 pub tells_read_back : (times : ℕ × ℕ) (nanos : ℕ) (alone : Bool) → nanos ≡ nanos_of times
     → nanos < 2 ^ 64 * 1_000_000_000 → times.1 < 1_000_000_000
     → (IsTrue alone ↔ MonthsStandAlone nanos)
-    → IsTrue (not alone) ↔ Denotes (written (nanos_of times)) times
+    → IsTrue (not alone) ↔ Denotes (length_text (nanos_of times)) times
 tells_read_back times nanos alone e small below is =
     let back = read_back times (omega arith) below in
     let test : IsTrue (not alone) ↔ (¬ (MonthsStandAlone (nanos_of times))) = not_tested alone (rw e at is) in

@@ -10,7 +10,7 @@ use Rattle.fancy_duration.specs.Times.{nanos_of}
 use Rattle.fancy_duration.specs.Sums.{is_long, long_follows, weight_in, total, SumsTo}
 use Rattle.fancy_duration.specs.Meanings.{Denotes}
 use Rattle.fancy_duration.specs.Breakdown.{PartCount, breakdown, nanos_in, count_of}
-use Rattle.fancy_duration.specs.Written.{written}
+use Rattle.fancy_duration.specs.Written.{length_text}
 use Rattle.fancy_duration.specs.inside.Writing.{counts_fit}
 use Rattle.fancy_duration.specs.inside.Reading.{items_of}
 use Rattle.fancy_duration.specs.Collisions.{MonthsStandAlone}
@@ -147,14 +147,14 @@ breakdown_fits n h = (room_at_start n h).fit
 
 -- the sum of what is written of a length: by how much it falls short where no long part follows the months
 record Reads (n : ℕ) : Type 0 where
-  long : some_long (count_of Weeks n) (count_of Days n) (count_of Hours n) (count_of Minutes n) ≡ true → total (items_of (written n)) ≡ n
-  short : some_long (count_of Weeks n) (count_of Days n) (count_of Hours n) (count_of Minutes n) ≡ false → total (items_of (written n)) + count_of Months n * weight_of Months ≡ n + count_of Months n * weight_of Minutes
+  long : some_long (count_of Weeks n) (count_of Days n) (count_of Hours n) (count_of Minutes n) ≡ true → total (items_of (length_text n)) ≡ n
+  short : some_long (count_of Weeks n) (count_of Days n) (count_of Hours n) (count_of Minutes n) ≡ false → total (items_of (length_text n)) + count_of Months n * weight_of Months ≡ n + count_of Months n * weight_of Minutes
 
 reads : (n : ℕ) → n < 2 ^ 64 * 1_000_000_000 → Reads n
 reads n h =
     let fits : counts_fit (breakdown n) ≡ true = breakdown_fits n h in
     let ten_fit = fits_ten y mo w d ho mi s ms us ns (ap counts_fit (sym (breakdown_ten n)) ∙ fits) in
-    let items = ap total (items_unique (items_in (breakdown n)) (written n) (written_items n fits)) ∙ ap (λ counts. total (items_in counts)) (breakdown_ten n) in
+    let items = ap total (items_unique (items_in (breakdown n)) (length_text n) (written_items n fits)) ∙ ap (λ counts. total (items_in counts)) (breakdown_ten n) in
     let sum : nanos_in (ten y mo w d ho mi s ms us ns) ≡ n = ap nanos_in (sym (breakdown_ten n)) ∙ breakdown_sum n in
     record {
       long = λ e. omega (arith, items, sum, total_ten y mo w d ho mi s ms us ns true ten_fit.0 ten_fit.1 e ten_fit.2);
@@ -204,23 +204,23 @@ longer_none w d h mi e =
 
 -- where months stand alone, they are read as minutes
 pub read_alone : (n : ℕ) → n < 2 ^ 64 * 1_000_000_000 → MonthsStandAlone n
-    → total (items_of (written n)) + count_of Months n * weight_of Months ≡ n + count_of Months n * weight_of Minutes
+    → total (items_of (length_text n)) + count_of Months n * weight_of Months ≡ n + count_of Months n * weight_of Minutes
 read_alone n h alone = (reads n h).short (none_longer _ _ _ _ alone.weeks alone.days alone.hours alone.minutes)
 
 -- and else the text is read as it was written
 pub read_whole : (n : ℕ) → n < 2 ^ 64 * 1_000_000_000
-    → (total (items_of (written n)) ≡ n) ⊎ MonthsStandAlone n
+    → (total (items_of (length_text n)) ≡ n) ⊎ MonthsStandAlone n
 read_whole n h =
     let w = count_of Weeks n in
     let d = count_of Days n in
     let ho = count_of Hours n in
     let mi = count_of Minutes n in
-    elim (some_long w d ho mi) as (λ t. some_long w d ho mi ≡ t → (total (items_of (written n)) ≡ n) ⊎ MonthsStandAlone n) [
+    elim (some_long w d ho mi) as (λ t. some_long w d ho mi ≡ t → (total (items_of (length_text n)) ≡ n) ⊎ MonthsStandAlone n) [
       | true ↦ λ e. inl ((reads n h).long e)
       | false ↦ λ e. by_months (longer_none w d ho mi e) ((reads n h).short e)
     ] refl
   where
-    by_months : ((count_of Weeks n ≡ 0) × (count_of Days n ≡ 0) × (count_of Hours n ≡ 0) × (count_of Minutes n ≡ 0)) → total (items_of (written n)) + count_of Months n * weight_of Months ≡ n + count_of Months n * weight_of Minutes → (total (items_of (written n)) ≡ n) ⊎ MonthsStandAlone n
+    by_months : ((count_of Weeks n ≡ 0) × (count_of Days n ≡ 0) × (count_of Hours n ≡ 0) × (count_of Minutes n ≡ 0)) → total (items_of (length_text n)) + count_of Months n * weight_of Months ≡ n + count_of Months n * weight_of Minutes → (total (items_of (length_text n)) ≡ n) ⊎ MonthsStandAlone n
     by_months none sum =
         ⊎_elim
         (λ (some : 0 < count_of Months n). inr (record { months = some; weeks = none.0; days = none.1; hours = none.2; minutes = none.3 }))
@@ -228,21 +228,21 @@ read_whole n h =
         (cases_lt 0 (count_of Months n))
 
 pub read_back : (times : ℕ × ℕ) → times.0 < 2 ^ 64 → times.1 < 1_000_000_000
-    → Denotes (written (nanos_of times)) times ↔ (¬ (MonthsStandAlone (nanos_of times)))
+    → Denotes (length_text (nanos_of times)) times ↔ (¬ (MonthsStandAlone (nanos_of times)))
 read_back times fits below = (apart, whole)
   where
     bound : nanos_of times < 2 ^ 64 * 1_000_000_000
     bound = omega arith
 
-    apart : Denotes (written (nanos_of times)) times → MonthsStandAlone (nanos_of times) → ⊥
+    apart : Denotes (length_text (nanos_of times)) times → MonthsStandAlone (nanos_of times) → ⊥
     apart denoted alone =
-        let same : nanos_of times ≡ total (items_of (written (nanos_of times))) = sum_unique (written (nanos_of times)) (nanos_of times) denoted.sums in
+        let same : nanos_of times ≡ total (items_of (length_text (nanos_of times))) = sum_unique (length_text (nanos_of times)) (nanos_of times) denoted.sums in
         absurd (omega (arith, same, read_alone (nanos_of times) bound alone, alone.months))
 
-    whole : ¬ (MonthsStandAlone (nanos_of times)) → Denotes (written (nanos_of times)) times
+    whole : ¬ (MonthsStandAlone (nanos_of times)) → Denotes (length_text (nanos_of times)) times
     whole apart =
-        let P : ℕ → Type 0 = SumsTo (written (nanos_of times)) in
+        let P : ℕ → Type 0 = SumsTo (length_text (nanos_of times)) in
         ⊎_elim
-        (λ (same : total (items_of (written (nanos_of times))) ≡ nanos_of times). record { sums = subst P same (sum_exists (written (nanos_of times))); seconds = fits; nanoseconds = below })
+        (λ (same : total (items_of (length_text (nanos_of times))) ≡ nanos_of times). record { sums = subst P same (sum_exists (length_text (nanos_of times))); seconds = fits; nanoseconds = below })
         (λ (alone : MonthsStandAlone (nanos_of times)). absurd (apart alone))
         (read_whole (nanos_of times) bound)

@@ -11,7 +11,7 @@ use Rattle.fancy_duration.specs.Parts.{all_parts, weight_of}
 use Rattle.fancy_duration.specs.Times.{nanos_of}
 use Rattle.fancy_duration.specs.Sums.{total}
 use Rattle.fancy_duration.specs.Breakdown.{PartCount, counts_of, breakdown, nanos_in, count_in, count_of}
-use Rattle.fancy_duration.specs.Written.{piece, above_zero, written}
+use Rattle.fancy_duration.specs.Written.{piece, above_zero, length_text}
 use Rattle.fancy_duration.specs.inside.Reading.{items_of}
 use Rattle.fancy_duration.specs.Collisions.{MonthsStandAlone, Swaps, Collide}
 use Rattle.fancy_duration.proofs.Breakdowns.{nanos_in-counts_of}
@@ -124,25 +124,25 @@ both_alone s t r alone_s alone_t es et =
     omega (arith, es, et, months)
 
 pub shared : (s t : ℕ) → s < 2 ^ 64 * 1_000_000_000 → t < 2 ^ 64 * 1_000_000_000
-    → written s ≡ written t → s ≢ t → Collide s t
+    → length_text s ≡ length_text t → s ≢ t → Collide s t
 shared s t hs ht e differ =
-    let same : total (items_of (written s)) ≡ total (items_of (written t)) = ap (λ text. total (items_of text)) e in
+    let same : total (items_of (length_text s)) ≡ total (items_of (length_text t)) = ap (λ text. total (items_of text)) e in
     ⊎_elim
-    (λ (whole_s : total (items_of (written s)) ≡ s).
+    (λ (whole_s : total (items_of (length_text s)) ≡ s).
     ⊎_elim
-    (λ (whole_t : total (items_of (written t)) ≡ t). absurd (differ (sym whole_s ∙ same ∙ whole_t)))
+    (λ (whole_t : total (items_of (length_text t)) ≡ t). absurd (differ (sym whole_s ∙ same ∙ whole_t)))
     (λ (alone_t : MonthsStandAlone t). (count_of Months t, inr (alone_swaps t s alone_t (omega (arith, whole_s, same, read_alone t ht alone_t)))))
     (read_whole t ht))
     (λ (alone_s : MonthsStandAlone s).
     ⊎_elim
-    (λ (whole_t : total (items_of (written t)) ≡ t). (count_of Months s, inl (alone_swaps s t alone_s (omega (arith, whole_t, same, read_alone s hs alone_s)))))
-    (λ (alone_t : MonthsStandAlone t). absurd (differ (both_alone s t (total (items_of (written s))) alone_s alone_t (read_alone s hs alone_s) (omega (arith, same, read_alone t ht alone_t)))))
+    (λ (whole_t : total (items_of (length_text t)) ≡ t). (count_of Months s, inl (alone_swaps s t alone_s (omega (arith, whole_t, same, read_alone s hs alone_s)))))
+    (λ (alone_t : MonthsStandAlone t). absurd (differ (both_alone s t (total (items_of (length_text s))) alone_s alone_t (read_alone s hs alone_s) (omega (arith, same, read_alone t ht alone_t)))))
     (read_whole t ht))
     (read_whole s hs)
 
 -- such lengths have one text
-written_counts : (n : ℕ) → n ≢ 0 → written n ≡ join_with_byte 32 (map piece (above_zero (breakdown n)))
-unfolding written
+written_counts : (n : ℕ) → n ≢ 0 → length_text n ≡ join_with_byte 32 (map piece (above_zero (breakdown n)))
+unfolding length_text
 written_counts n h = let e : nat_eq n 0 ≡ false = ne_eqb n 0 h in simp e
 
 no_months : count_of Months 0 ≡ 0
@@ -162,7 +162,7 @@ same_pieces y k s ms us ns some =
       | false ↦ λ f. simp (e, f)
     ] refl
 
-swapped : (k a b : ℕ) → Swaps k a b → written a ≡ written b
+swapped : (k a b : ℕ) → Swaps k a b → length_text a ≡ length_text b
 swapped k a b h =
     let y = count_of Years a in
     let s = count_of Seconds a in
@@ -178,14 +178,14 @@ swapped k a b h =
     let some_b : b ≢ 0 = λ e. absurd (omega (arith, h.some, h.second_minutes, ap (count_of Minutes) e ∙ no_minutes)) in
     written_counts a some_a ∙ ap text first ∙ ap (join_with_byte 32) (same_pieces y k s ms us ns h.some) ∙ sym (written_counts b some_b ∙ ap text second)
 
-pub collided : (s t : ℕ) → Collide s t → written s ≡ written t
+pub collided : (s t : ℕ) → Collide s t → length_text s ≡ length_text t
 collided s t (k, inl h) = swapped k s t h
 collided s t (k, inr h) = sym (swapped k t s h)
 
 -- over seconds and nanoseconds
 pub collisions : (s t : ℕ × ℕ) → s.0 < 2 ^ 64 → t.0 < 2 ^ 64 → s.1 < 1_000_000_000
     → t.1 < 1_000_000_000 → s ≢ t
-    → (written (nanos_of s) ≡ written (nanos_of t)) ↔ Collide (nanos_of s) (nanos_of t)
+    → (length_text (nanos_of s) ≡ length_text (nanos_of t)) ↔ Collide (nanos_of s) (nanos_of t)
 collisions s t fs ft bs bt differ = (
   λ e. shared (nanos_of s) (nanos_of t) (omega arith) (omega arith) e (λ same. differ (one_pair same)),
   collided (nanos_of s) (nanos_of t),

@@ -8,7 +8,7 @@ use Rattle.fancy_duration.specs.Parts.{all_parts, unit_of}
 use Rattle.fancy_duration.specs.Items.{Item, HasItems, IsFirstItem, begins_by}
 use Rattle.fancy_duration.specs.Sums.{is_long, long_follows, weight_in, total}
 use Rattle.fancy_duration.specs.Breakdown.{PartCount, counts_of, breakdown}
-use Rattle.fancy_duration.specs.Written.{piece, above_zero, written}
+use Rattle.fancy_duration.specs.Written.{piece, above_zero, length_text}
 use Rattle.fancy_duration.specs.inside.Writing.{counts_fit}
 use Rattle.fancy_duration.proofs.ItemLists.{add_other}
 use Rattle.fancy_duration.proofs.Counts.{is_unit-unit_of}
@@ -54,10 +54,10 @@ above_fits (c ∷ counts) fits =
 
 -- the items of the text are the counts above 0
 pub written_items : (nanos : ℕ) → counts_fit (breakdown nanos) ≡ true
-    → HasItems (written nanos) (map item_of (above_zero (breakdown nanos)))
-unfolding written breakdown
+    → HasItems (length_text nanos) (map item_of (above_zero (breakdown nanos)))
+unfolding length_text breakdown
 written_items nanos fits =
-    elim (nat_eq nanos 0) as (λ t. nat_eq nanos 0 ≡ t → HasItems (written nanos) (map item_of (above_zero (breakdown nanos)))) [
+    elim (nat_eq nanos 0) as (λ t. nat_eq nanos 0 ≡ t → HasItems (length_text nanos) (map item_of (above_zero (breakdown nanos)))) [
       | true ↦ λ e. let z : nanos ≡ 0 = eqb-true nanos 0 e in rw z (refl {a = true})
       | false ↦ λ e. simp e (items_joined (above_zero (counts_of all_parts nanos)) (above_fits (counts_of all_parts nanos) fits))
     ] refl

@@ -8,7 +8,7 @@ use Rattle.fancy_duration.specs.declared.part.DurationPart.{DurationPart}
 use Rattle.fancy_duration.specs.declared.part.DurationPart.TheVariants.{Years, Months, Weeks, Days, Hours, Minutes, Seconds, Milliseconds, Microseconds, Nanoseconds}
 use Rattle.fancy_duration.specs.Parts.{all_parts, weight_of, is_part}
 use Rattle.fancy_duration.specs.Times.{nanos_of, times_of}
-use Rattle.fancy_duration.specs.Breakdown.{counts_of, breakdown, nanos_in, from_first, filtered, truncated}
+use Rattle.fancy_duration.specs.Breakdown.{counts_of, breakdown, nanos_in, from_first, kept_length, front_length}
 use Rattle.fancy_duration.specs.inside.Writing.{kept_in}
 use Rattle.fancy_duration.proofs.Breakdowns.{filtered_all, kept_in-cons, kept_in-none}
 
@@ -145,12 +145,12 @@ times_back : (n : ℕ) → nanos_of (times_of n) ≡ n
 times_back n = omega arith
 
 pub filter_twice : (kept : List DurationPart) (n : ℕ)
-    → times_of (filtered kept (nanos_of (times_of (filtered kept n)))) ≡ times_of (filtered kept n)
+    → times_of (kept_length kept (nanos_of (times_of (kept_length kept n)))) ≡ times_of (kept_length kept n)
 filter_twice kept n =
-    ap (λ m. times_of (filtered kept m)) (times_back (filtered kept n))
-    ∙ ap times_of (sym (filtered_all kept (filtered kept n)) ∙ ap (kept_in kept all_parts) (sym (filtered_all kept n)) ∙ kept_twice kept all_parts n ∙ filtered_all kept n)
+    ap (λ m. times_of (kept_length kept m)) (times_back (kept_length kept n))
+    ∙ ap times_of (sym (filtered_all kept (kept_length kept n)) ∙ ap (kept_in kept all_parts) (sym (filtered_all kept n)) ∙ kept_twice kept all_parts n ∙ filtered_all kept n)
 
 pub truncate_twice : (limit n : ℕ)
-    → times_of (truncated limit (nanos_of (times_of (truncated limit n)))) ≡ times_of (truncated limit n)
-unfolding truncated breakdown
-truncate_twice limit n = ap (λ m. times_of (truncated limit m)) (times_back (truncated limit n)) ∙ ap times_of (leading_twice limit all_parts n)
+    → times_of (front_length limit (nanos_of (times_of (front_length limit n)))) ≡ times_of (front_length limit n)
+unfolding front_length breakdown
+truncate_twice limit n = ap (λ m. times_of (front_length limit m)) (times_back (front_length limit n)) ∙ ap times_of (leading_twice limit all_parts n)

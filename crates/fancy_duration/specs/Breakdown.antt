@@ -26,8 +26,8 @@ nanos_in [] = 0
 nanos_in (c ∷ counts) = c.count * weight_of c.part + nanos_in counts
 
 -- the length that is left where a list holds some parts, and all others are 0
-unfoldable pub filtered : List DurationPart → ℕ → ℕ
-filtered kept nanos =
+unfoldable pub kept_length : List DurationPart → ℕ → ℕ
+kept_length kept nanos =
     nanos_in (filter (λ c. list_any (λ part. is_part part c.part) kept) (breakdown nanos))
 
 -- without the zeros before the first count above 0
@@ -37,8 +37,8 @@ from_first (c ∷ counts) = if c.count == 0 then from_first counts else c ∷ co
 
 -- the length that is left where, from the first count above 0 on, `limit` counts stay and all later
 -- ones are 0
-unfoldable pub truncated : ℕ → ℕ → ℕ
-truncated limit nanos = nanos_in (take limit (from_first (breakdown nanos)))
+unfoldable pub front_length : ℕ → ℕ → ℕ
+front_length limit nanos = nanos_in (take limit (from_first (breakdown nanos)))
 
 -- how many of a part a length has
 abbrev pub count_in : DurationPart → List PartCount → ℕ

@@ -14,12 +14,12 @@ above_zero counts = filter (λ c. nat_lt 0 c.count) counts
 
 -- `0` for no length, and else the counts above 0 with their units, from the greatest part on, one
 -- space between
-unfoldable pub written : ℕ → List ℕ
-written nanos =
+unfoldable pub length_text : ℕ → List ℕ
+length_text nanos =
     if nanos == 0
     then codes "0"
     else join_with_byte 32 (map piece (above_zero (breakdown nanos)))
 
 -- the same without spaces
-abbrev pub compact : ℕ → List ℕ
-compact nanos = filter (λ b. not (b == 32)) (written nanos)
+abbrev pub compact_text : ℕ → List ℕ
+compact_text nanos = filter (λ b. not (b == 32)) (length_text nanos)

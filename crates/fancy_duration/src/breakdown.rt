@@ -3,14 +3,14 @@ ghost use Rattle.std.specs.Prelude.{◌≡◌, ◌≤◌, ◌↔◌, IsTrue};
 ghost use Rattle.std.specs.List.{list_any};
 ghost use Rattle.fancy_duration.specs.Parts.{is_part, all_parts};
 ghost use Rattle.fancy_duration.specs.Collisions.{MonthsStandAlone};
-ghost use Rattle.fancy_duration.specs.Breakdown.{filtered, truncated, counts_of, from_first};
+ghost use Rattle.fancy_duration.specs.Breakdown.{kept_length, front_length, counts_of, from_first};
 ghost use Rattle.fancy_duration.specs.inside.Writing.{left_after};
 
 use crate::DurationPart;
 
 /// The nanoseconds of the parts that a list holds.
 pub(crate) fn kept_nanos(nanos: u128, kept: &[DurationPart]) -> u128
-    ensures value { result ≡ filtered kept.now nanos }
+    ensures value { result ≡ kept_length kept.now nanos }
     ensures within { result ≤ nanos }
 {
     let mut left = nanos;
@@ -34,7 +34,7 @@ fn is_among(part: DurationPart, parts: &[DurationPart]) -> bool
 
 /// The nanoseconds of the first `limit` parts from the first one above 0 on.
 pub(crate) fn leading_nanos(nanos: u128, limit: usize) -> u128
-    ensures value { result ≡ truncated limit nanos }
+    ensures value { result ≡ front_length limit nanos }
     ensures within { result ≤ nanos }
 {
     let parts = parts_from_first(nanos);

@@ -5,8 +5,8 @@ ghost use Rattle.std.specs.String.{string_bytes};
 ghost use Rattle.arrayvec.specs.ArrayString.{array_string_len};
 ghost use Rattle.fancy_duration.specs.Times.{nanos_of, times_of};
 ghost use Rattle.fancy_duration.specs.Meanings.{Denotes, IsTooBig, Parses};
-ghost use Rattle.fancy_duration.specs.Breakdown.{filtered, truncated};
-ghost use Rattle.fancy_duration.specs.Written.{written, compact};
+ghost use Rattle.fancy_duration.specs.Breakdown.{kept_length, front_length};
+ghost use Rattle.fancy_duration.specs.Written.{length_text, compact_text};
 ghost use Rattle.fancy_duration.specs.Strict.{IsStrict};
 ghost use Rattle.fancy_duration.specs.Collisions.{MonthsStandAlone};
 
@@ -43,7 +43,7 @@ impl<D: AsTimes + Copy> FancyDuration<D> {
     /// milliseconds is `1m 10ms`.
     pub fn filter(&self, filter: &[DurationPart]) -> Self
         ensures { D.times result.0
-            ≡ times_of (filtered filter.now (nanos_of (D.times self.now.0))) }
+            ≡ times_of (kept_length filter.now (nanos_of (D.times self.now.0))) }
     {
         self.shortened(kept_nanos(self.nanos(), filter))
     }
@@ -51,7 +51,7 @@ impl<D: AsTimes + Copy> FancyDuration<D> {
     /// From the first part above 0 on, `limit` consecutive parts stay, and all later ones are 0: `1h 1m 30us`
     /// truncated to 3 is `1h 1m`.
     pub fn truncate(&self, limit: usize) -> Self
-        ensures { D.times result.0 ≡ times_of (truncated limit (nanos_of (D.times self.now.0))) }
+        ensures { D.times result.0 ≡ times_of (front_length limit (nanos_of (D.times self.now.0))) }
     {
         self.shortened(leading_nanos(self.nanos(), limit))
     }
@@ -83,7 +83,7 @@ impl<D: AsTimes + Copy> FancyDuration<D> {
 
     /// The written text, of at most 96 bytes. It takes no memory.
     pub fn text(&self) -> Short
-        ensures bytes { result.bytes ≡ written (nanos_of (D.times self.now.0)) }
+        ensures bytes { result.bytes ≡ length_text (nanos_of (D.times self.now.0)) }
         ensures short { array_string_len result ≤ 96 }
     {
         written_text(self.nanos())
@@ -92,7 +92,7 @@ impl<D: AsTimes + Copy> FancyDuration<D> {
     /// The written text: `3m 1w 2d 5m 24s`.
     pub fn format(&self, alloc: Global) -> Result<String, AllocError>
         ensures { IfOk result (λ text. string_bytes text
-            ≡ written (nanos_of (D.times self.now.0))) }
+            ≡ length_text (nanos_of (D.times self.now.0))) }
     {
         String::from_str(alloc, self.text().as_str())
     }
@@ -100,7 +100,7 @@ impl<D: AsTimes + Copy> FancyDuration<D> {
     /// The written text without spaces: `3m1w2d5m24s`.
     pub fn format_compact(&self, alloc: Global) -> Result<String, AllocError>
         ensures { IfOk result (λ text. string_bytes text
-            ≡ compact (nanos_of (D.times self.now.0))) }
+            ≡ compact_text (nanos_of (D.times self.now.0))) }
     {
         without_spaces(alloc, self.text().as_str())
     }
@@ -109,7 +109,7 @@ impl<D: AsTimes + Copy> FancyDuration<D> {
     /// which are written `1m` and read as a minute.
     pub fn reads_back(&self) -> bool
         ensures text { IsTrue result
-            ↔ Denotes (written (nanos_of (D.times self.now.0))) (D.times self.now.0) }
+            ↔ Denotes (length_text (nanos_of (D.times self.now.0))) (D.times self.now.0) }
         ensures months { IsTrue result ↔ (¬ (MonthsStandAlone (nanos_of (D.times self.now.0)))) }
     {
         !have_months_alone(self.nanos())
@@ -144,7 +144,7 @@ impl<D: AsTimes + Copy> FancyDuration<D> {
 }
 
 impl<D: AsTimes + Copy> fmt::Display for FancyDuration<D> {
-    ghost output = { λ fancy. Some (written (nanos_of (D.times fancy.0))) };
+    ghost output = { λ fancy. Some (length_text (nanos_of (D.times fancy.0))) };
 
     fn fmt<W: fmt::Write>(&self, f: &mut fmt::Formatter<W>) -> fmt::Result {
         f.write_str(self.text().as_str())

@@ -10,8 +10,8 @@ ghost use Rattle.fancy_duration.specs.Items.{Item, HasItems};
 ghost use Rattle.fancy_duration.specs.Times.{nanos_of, times_of};
 ghost use Rattle.fancy_duration.specs.Sums.{SumsTo};
 ghost use Rattle.fancy_duration.specs.Meanings.{Denotes};
-ghost use Rattle.fancy_duration.specs.Breakdown.{filtered, truncated};
-ghost use Rattle.fancy_duration.specs.Written.{written};
+ghost use Rattle.fancy_duration.specs.Breakdown.{kept_length, front_length};
+ghost use Rattle.fancy_duration.specs.Written.{length_text};
 ghost use Rattle.fancy_duration.specs.Strict.{IsStrict};
 ghost use Rattle.fancy_duration.specs.Collisions.{MonthsStandAlone, Collide};
 ghost use Rattle.fancy_duration.specs.Durations.{duration_times};
@@ -46,19 +46,19 @@ pub fn texts_denote_one_length()
 /// as a minute.
 pub fn written_texts_are_read_back()
     ensures { (times : ℕ × ℕ) → times.0 < 2 ^ 64 → times.1 < 1_000_000_000
-        → Denotes (written (nanos_of times)) times ↔ (¬ (MonthsStandAlone (nanos_of times))) }
+        → Denotes (length_text (nanos_of times)) times ↔ (¬ (MonthsStandAlone (nanos_of times))) }
 {}
 
 /// The same for std's `Duration`.
 pub fn texts_of_durations_are_read_back()
     ensures { (d : Duration) → as_nanos d < 2 ^ 64 * 1_000_000_000
-        → Denotes (written (nanos_of (duration_times d))) (duration_times d)
+        → Denotes (length_text (nanos_of (duration_times d))) (duration_times d)
         ↔ (¬ (MonthsStandAlone (as_nanos d))) }
 {}
 
 /// The written text of a length is a strict text.
 pub fn written_texts_are_strict()
-    ensures { (nanos : ℕ) → nanos < 2 ^ 64 * 1_000_000_000 → IsStrict (written nanos) }
+    ensures { (nanos : ℕ) → nanos < 2 ^ 64 * 1_000_000_000 → IsStrict (length_text nanos) }
 {}
 
 /// Two different lengths have one written text exactly where one has k months in place of the other's k minutes, with
@@ -66,19 +66,19 @@ pub fn written_texts_are_strict()
 pub fn shared_texts_differ_by_months_and_minutes()
     ensures { (s t : ℕ × ℕ) → s.0 < 2 ^ 64 → t.0 < 2 ^ 64 → s.1 < 1_000_000_000
         → t.1 < 1_000_000_000 → s ≢ t
-        → ((written (nanos_of s) ≡ written (nanos_of t)) ↔ Collide (nanos_of s) (nanos_of t)) }
+        → ((length_text (nanos_of s) ≡ length_text (nanos_of t)) ↔ Collide (nanos_of s) (nanos_of t)) }
 {}
 
 /// To filter twice by one list is to filter once.
 pub fn filtering_twice_is_filtering_once()
     ensures { (kept : List AnyPart) (times : ℕ × ℕ)
-        → let once = times_of (filtered kept (nanos_of times)) in
-        times_of (filtered kept (nanos_of once)) ≡ once }
+        → let once = times_of (kept_length kept (nanos_of times)) in
+        times_of (kept_length kept (nanos_of once)) ≡ once }
 {}
 
 /// To truncate twice to one limit is to truncate once.
 pub fn truncating_twice_is_truncating_once()
     ensures { (limit : ℕ) (times : ℕ × ℕ)
-        → let once = times_of (truncated limit (nanos_of times)) in
-        times_of (truncated limit (nanos_of once)) ≡ once }
+        → let once = times_of (front_length limit (nanos_of times)) in
+        times_of (front_length limit (nanos_of once)) ≡ once }
 {}

@@ -3,7 +3,7 @@ ghost use Rattle.std.specs.Prelude.{◌≡◌, ◌+◌, ◌*◌, ◌^◌, ◌<�
 ghost use Rattle.std.specs.Prelude.{length, decimal, IfOk, filter, not, ◌==◌};
 ghost use Rattle.std.specs.String.{string_bytes};
 ghost use Rattle.arrayvec.specs.ArrayString.{array_string_len};
-ghost use Rattle.fancy_duration.specs.Written.{written};
+ghost use Rattle.fancy_duration.specs.Written.{length_text};
 ghost use Rattle.fancy_duration.specs.inside.Writing.{with_count};
 
 use crate::DurationPart;
@@ -13,7 +13,7 @@ use std::alloc::{AllocError, Global};
 /// The written text of a length of fewer than 2^64 seconds.
 pub(crate) fn written_text(nanos: u128) -> Short
     requires { nanos < 2 ^ 64 * 1_000_000_000 }
-    ensures bytes { result.bytes ≡ written nanos }
+    ensures bytes { result.bytes ≡ length_text nanos }
     ensures short { array_string_len result ≤ 96 }
 {
     let mut out = Short::new();

@@ -16,7 +16,7 @@ use Rattle.pg_interval_2.specs.declared.interval.Interval.{Interval}
 use Rattle.pg_interval_2.specs.declared.style.Style.{Style}
 use Rattle.pg_interval_2.specs.Denotes.{sum_of, Denotes, HasNoShape, Misfits, Refuses}
 use Rattle.pg_interval_2.specs.Ranges.{IsInRange}
-use Rattle.pg_interval_2.specs.Styles.{Shape, written}
+use Rattle.pg_interval_2.specs.Styles.{Shape, style_text}
 use Rattle.forms.specs.declared.cause.Cause.TheVariants.{Syntax, Range, Kind, Precision}
 use Rattle.forms.specs.declared.form.Form.{Form}
 use Rattle.forms.specs.declared.value.Value.{Value}
@@ -136,7 +136,7 @@ abbrev pub IsDenotedInRange : Style → Type 0
 IsDenotedInRange s = (text : List ℕ) (t : Interval) → Denotes (Shape s) text t → IsInRange t
 
 abbrev pub IsWrittenBack : Style → Type 0
-IsWrittenBack s = (t : Interval) → IsInRange t → Denotes (Shape s) (written s t) t
+IsWrittenBack s = (t : Interval) → IsInRange t → Denotes (Shape s) (style_text s t) t
 
 within_triple : (t : Interval) → IsInRange t → IsWithinBounds (triple t)
 within_triple t r = (widen _ r.months, (widen _ r.days, r.microseconds))
@@ -174,7 +174,7 @@ length_held nanos t h =
     (subst IsInRange same made, subst (λ (u : Interval). IsLength nanos u.months u.days u.microseconds) same long)
 
 abbrev pub IsHeld : Style → Value → Interval → Type 0
-IsHeld s value t = IsHeldBack (Shape s) (Is worth) (Is held) (written s t) value t
+IsHeld s value t = IsHeldBack (Shape s) (Is worth) (Is held) (style_text s t) value t
 
 held_by : (s : Style) → IsWrittenBack s → (value : Value) (t : Interval) → IsInRange t → Same value (triple t)
     → IsHeld s value t
@@ -195,11 +195,11 @@ held_back s written_back (Triple months days micros) t w h = let found = interva
 held_back s written_back (Length nanos) t w h = let found = length_held nanos t h in held_by s written_back (Length nanos) t found.0 found.1
 held_back s written_back _ t w h = absurd (let e : Err Kind ≡ Ok t = h in cc)
 
-pub intervals : (form : Form) (s : Style) → HasRows form (Shape s) (Is worth) (Is held) (written s)
+pub intervals : (form : Form) (s : Style) → HasRows form (Shape s) (Is worth) (Is held) (style_text s)
     → ((text : List ℕ) (a b : List Count) → Shape s text a → Shape s text b → a ≡ b) → IsDenotedInRange s → IsWrittenBack s
     → Lawful form
 intervals form s rows one in_range written_back =
-    lawful_by form (Shape s) (Is worth) (Is held) (written s) rows
+    lawful_by form (Shape s) (Is worth) (Is held) (style_text s) rows
     (record {
       one = one;
       one_worth = one_image worth;

@@ -11,7 +11,7 @@ use Rattle.jiff_core.specs.Time.{time_nanos}
 use Rattle.jiff_core.specs.declared.civil.datetime.DateTime.{DateTime as CivilDateTime}
 use Rattle.jiff_core.proofs.DateLemmas.{epoch_day_injective}
 use Rattle.jiff_core.proofs.DateTimeLemmas.{time_nanos_injective, civil_nanos-parts, civil_nanos_range, civil_nanos_injective}
-use Rattle.scan_core.specs.Padded.{padded}
+use Rattle.scan_core.specs.Padded.{padded_digits}
 use Rattle.scan_core.proofs.PaddedFacts.{length-padded}
 use Rattle.iso8601.specs.Calendar.{day_of, IsCivilDay}
 use Rattle.iso8601.specs.DateTimes.{IsDateTime}
@@ -60,7 +60,7 @@ is_out t real isnt = inr (inr (real, (λ day. isnt (real.day, day, real.clock, r
 joined : (xs ys : List ℕ) (a b : ℕ) → length xs ≤ a → length ys ≤ b → length (xs ++ ys) ≤ a + b
 joined xs ys a b h k = let sum = length-append xs ys in omega arith
 
-small : (width n : ℕ) → width ≤ 4 → n < 10 ^ 4 → length (padded width n) ≤ 4
+small : (width n : ℕ) → width ≤ 4 → n < 10 ^ 4 → length (padded_digits width n) ≤ 4
 small width n w h = let digits = length-decimal-le 4 n (omega arith) h (omega arith) in let long = length-padded width n in omega arith
 
 minus_short : (negative : Bool) → length (minus negative) ≤ 1
@@ -70,25 +70,25 @@ minus_short false = omega arith
 
 year_short : (year : ℤ) → unsigned_abs year ≤ 9999 → length (year_text year) ≤ 5
 unfolding year_text
-year_short year h = joined (minus (is_negative year)) (padded 4 (unsigned_abs year)) 1 4 (minus_short (is_negative year)) (small 4 (unsigned_abs year) (omega arith) (omega arith))
+year_short year h = joined (minus (is_negative year)) (padded_digits 4 (unsigned_abs year)) 1 4 (minus_short (is_negative year)) (small 4 (unsigned_abs year) (omega arith) (omega arith))
 
 date_short : (year : ℤ) (month day : ℕ) → unsigned_abs year ≤ 9999 → month < 10 ^ 4 → day < 10 ^ 4 → length (date_text (YMD year month day)) ≤ 15
 unfolding date_text
 date_short year month day y m d =
-    joined (year_text year) _ 5 10 (year_short year y) (joined (codes "-") _ 1 9 (omega arith) (joined (padded 2 month) _ 4 5 (small 2 month (omega arith) m) (joined (codes "-") (padded 2 day) 1 4 (omega arith) (small 2 day (omega arith) d))))
+    joined (year_text year) _ 5 10 (year_short year y) (joined (codes "-") _ 1 9 (omega arith) (joined (padded_digits 2 month) _ 4 5 (small 2 month (omega arith) m) (joined (codes "-") (padded_digits 2 day) 1 4 (omega arith) (small 2 day (omega arith) d))))
 
 clock_short : (hour minute second millis : ℕ) → hour < 10 ^ 4 → minute < 10 ^ 4 → second < 10 ^ 4 → millis < 10 ^ 4 → length (clock_text hour minute second millis) ≤ 19
 unfolding clock_text
 clock_short hour minute second millis h m s f =
-    joined (padded 2 hour) _ 4 15 (small 2 hour (omega arith) h)
+    joined (padded_digits 2 hour) _ 4 15 (small 2 hour (omega arith) h)
     (joined (codes ":") _ 1 14 (omega arith)
-    (joined (padded 2 minute) _ 4 10 (small 2 minute (omega arith) m)
+    (joined (padded_digits 2 minute) _ 4 10 (small 2 minute (omega arith) m)
     (joined (codes ":") _ 1 9 (omega arith)
-    (joined (padded 2 second) _ 4 5 (small 2 second (omega arith) s) (joined (codes ".") (padded 3 millis) 1 4 (omega arith) (small 3 millis (omega arith) f))))))
+    (joined (padded_digits 2 second) _ 4 5 (small 2 second (omega arith) s) (joined (codes ".") (padded_digits 3 millis) 1 4 (omega arith) (small 3 millis (omega arith) f))))))
 
 offset_short : length (offset_text (pos 0) (pos 0)) ≤ 10
 unfolding offset_text two_wide
-offset_short = joined (codes "+") _ 1 9 (omega arith) (joined (padded 2 0) _ 4 5 (small 2 0 (omega arith) (omega arith)) (joined (codes ":") (padded 2 0) 1 4 (omega arith) (small 2 0 (omega arith) (omega arith))))
+offset_short = joined (codes "+") _ 1 9 (omega arith) (joined (padded_digits 2 0) _ 4 5 (small 2 0 (omega arith) (omega arith)) (joined (codes ":") (padded_digits 2 0) 1 4 (omega arith) (small 2 0 (omega arith) (omega arith))))
 
 pub short_text : (c : CivilDateTime) → length (date_time_text (utc c)) ≤ 96
 unfolding date_time_text time_text

@@ -6,7 +6,7 @@ use Rattle.pg_interval_2.specs.declared.interval.Interval.{Interval}
 use Rattle.pg_interval_2.specs.declared.style.Style.{Style}
 use Rattle.pg_interval_2.specs.declared.style.Style.TheVariants as style
 use Rattle.pg_interval_2.specs.Denotes.{sum_of, Denotes}
-use Rattle.pg_interval_2.specs.Styles.{Shape, written}
+use Rattle.pg_interval_2.specs.Styles.{Shape, style_text}
 use Rattle.forms.specs.declared.cause.Cause.{Cause}
 use Rattle.forms.specs.declared.cause.Cause.TheVariants.{Syntax, Range}
 use Rattle.forms.specs.declared.form.Form.{Form}
@@ -23,7 +23,7 @@ use Rattle.forms.proofs.Lawful.{HasRows}
 
 -- reading in one style and writing in another
 abbrev TurnsBy : Style → Style → List ℕ → Result (List ℕ) Cause → Type 0
-TurnsBy from to text answer = (value : Result Value Cause) × ReadsBy (Shape from) (Is worth) text value × Then (WritesBy (Is held) (written to)) value answer
+TurnsBy from to text answer = (value : Result Value Cause) × ReadsBy (Shape from) (Is worth) text value × Then (WritesBy (Is held) (style_text to)) value answer
 
 -- the interval of a triple that a text denotes
 held_triple : (from : Style) → IsDenotedInRange from → (text : List ℕ) (t : Interval) → Denotes (Shape from) text t
@@ -34,13 +34,13 @@ held_triple from in_range text t h =
 
 -- its text
 written_triple : (from to : Style) → IsDenotedInRange from → (text : List ℕ) (t : Interval) → Denotes (Shape from) text t
-    → WritesBy (Is held) (written to) (triple t) (Ok (written to t))
+    → WritesBy (Is held) (style_text to) (triple t) (Ok (style_text to t))
 written_triple from to in_range text t h = (Ok t, held_triple from in_range text t h, refl)
 
 onto_turn : (from to : Style) → IsDenotedInRange from → (text : List ℕ) (answer : Result (List ℕ) Cause)
     → IsIntervalAnswer from to text answer → TurnsBy from to text answer
 onto_turn from to in_range text (Ok out) h =
-    let P : List ℕ → Type 0 = λ l. WritesBy (Is held) (written to) (triple h.0) (Ok l) in
+    let P : List ℕ → Type 0 = λ l. WritesBy (Is held) (style_text to) (triple h.0) (Ok l) in
     (Ok (triple h.0), reads_interval from text h.0 h.1, subst P (sym h.2) (written_triple from to in_range text h.0 h.1))
 onto_turn from to in_range text (Err Syntax) h = (Err Syntax, reads_no_shape from text h, refl)
 onto_turn from to in_range text (Err Range) h = (Err Range, reads_misfit from text h.0 h.1, refl)
@@ -49,16 +49,16 @@ onto_turn from to in_range text (Err _) h = absurd h
 -- counts that are spelled, by whether they fit
 by_fit : (from to : Style) → IsDenotedInRange from → (text : List ℕ) (counts : List Count) → Shape from text counts
     → (test : Bool) → test ≡ fits counts → (value : Result Value Cause) → value ≡ worth counts
-    → (answer : Result (List ℕ) Cause) → Then (WritesBy (Is held) (written to)) value answer → IsIntervalAnswer from to text answer
+    → (answer : Result (List ℕ) Cause) → Then (WritesBy (Is held) (style_text to)) value answer → IsIntervalAnswer from to text answer
 by_fit from to in_range text counts spelled true all value h answer turned =
     let denoted : Denotes (Shape from) text (sum_of counts) = (counts, spelled, sym all, refl) in
-    let P : Result Value Cause → Type 0 = λ v. Then (WritesBy (Is held) (written to)) v answer in
-    let w : WritesBy (Is held) (written to) (triple (sum_of counts)) answer = subst P (h ∙ worth_fits counts (sym all)) turned in
-    let is : answer ≡ Ok (written to (sum_of counts)) = w.2 ∙ ap (result_map (written to)) (w.1 ∙ sym (held_triple from in_range text (sum_of counts) denoted)) in
+    let P : Result Value Cause → Type 0 = λ v. Then (WritesBy (Is held) (style_text to)) v answer in
+    let w : WritesBy (Is held) (style_text to) (triple (sum_of counts)) answer = subst P (h ∙ worth_fits counts (sym all)) turned in
+    let is : answer ≡ Ok (style_text to (sum_of counts)) = w.2 ∙ ap (result_map (style_text to)) (w.1 ∙ sym (held_triple from in_range text (sum_of counts) denoted)) in
     subst (IsIntervalAnswer from to text) (sym is) (sum_of counts, denoted, refl)
 by_fit from to in_range text counts spelled false all value h answer turned =
     let m = misfit_of counts (sym all) in
-    let P : Result Value Cause → Type 0 = λ v. Then (WritesBy (Is held) (written to)) v answer in
+    let P : Result Value Cause → Type 0 = λ v. Then (WritesBy (Is held) (style_text to)) v answer in
     let is : answer ≡ Err Range = subst P (h ∙ m.1) turned in
     subst (IsIntervalAnswer from to text) (sym is) (m.0, (counts, spelled, m.2))
 
@@ -67,13 +67,13 @@ onto_answer : (from to : Style) → IsDenotedInRange from → (text : List ℕ) 
 onto_answer from to in_range text answer (value, inl read, h) =
     by_fit from to in_range text read.0 read.1 (fits read.0) refl value read.2 answer h
 onto_answer from to in_range text answer (value, inr read, h) =
-    let P : Result Value Cause → Type 0 = λ v. Then (WritesBy (Is held) (written to)) v answer in
+    let P : Result Value Cause → Type 0 = λ v. Then (WritesBy (Is held) (style_text to)) v answer in
     let is : answer ≡ Err Syntax = subst P read.1 h in
     subst (IsIntervalAnswer from to text) (sym is) read.0
 
 -- the rows of an interval form are those of its style
 abbrev HasStyle : Form → Style → Type 0
-HasStyle form s = HasRows form (Shape s) (Is worth) (Is held) (written s)
+HasStyle form s = HasRows form (Shape s) (Is worth) (Is held) (style_text s)
 
 pub of_style : (form : Form) (s : Style) → style_of form ≡ Some s → HasStyle form s
 of_style PgIso s h = let e : style.Iso ≡ s = cc in subst (HasStyle PgIso) e (record { reads = λ text a r. r; read = λ text a r. r; writes = λ value a w. w; written = λ value a w. w })
@@ -84,7 +84,7 @@ of_style IsoStrict s h = let e : style.IsoStrict ≡ s = cc in subst (HasStyle I
 of_style _ s h = absurd (let e : None ≡ Some s = h in cc)
 
 then_writes : (to : Form) (t : Style) → HasStyle to t → (value : Result Value Cause) (answer : Result (List ℕ) Cause)
-    → (Then (WritesBy (Is held) (written t)) value answer → Then (Writes to) value answer) × (Then (Writes to) value answer → Then (WritesBy (Is held) (written t)) value answer)
+    → (Then (WritesBy (Is held) (style_text t)) value answer → Then (Writes to) value answer) × (Then (Writes to) value answer → Then (WritesBy (Is held) (style_text t)) value answer)
 then_writes to t rows (Ok value) answer = (rows.written value answer, rows.writes value answer)
 then_writes to t rows (Err cause) answer = (λ h. h, λ h. h)
 

@@ -7,7 +7,7 @@ use Rattle.std.specs.Prelude.{if◌then◌else◌}
 use Rattle.scan_core.proofs.Joins.{join_push}
 use Rattle.pg_interval_2.specs.Alphabet.{is_no_feed}
 use Rattle.pg_interval_2.specs.Ranges.{IsInRange}
-use Rattle.pg_interval_2.specs.Styles.{written}
+use Rattle.pg_interval_2.specs.Styles.{style_text}
 use Rattle.pg_interval_2.specs.declared.interval.Interval.{Interval}
 use Rattle.pg_interval_2.specs.declared.style.Style.{Style}
 use Rattle.pg_interval_2.specs.declared.style.Style.TheVariants as style
@@ -84,14 +84,14 @@ each_mark p h false = refl
 
 -- what holds of names, the mark and a space, and of a written text, holds of a line
 pub each_of_line : (p : ℕ → Bool) → ((s : Style) → list_all p (name_of (form_of s)) ≡ true) → list_all p (codes " ") ≡ true → list_all p (codes "x") ≡ true
-    → (index : ℕ) (t : Interval) → list_all p (written (style_from index) t) ≡ true → list_all p (line_of index t) ≡ true
+    → (index : ℕ) (t : Interval) → list_all p (style_text (style_from index) t) ≡ true → list_all p (line_of index t) ≡ true
 unfolding line_of mark_of
 each_of_line p names space mark index t text =
     let end : List ℕ = if index % 10 == 9 then codes "x" else [] in
     let marked : list_all p end ≡ true = each_mark p mark (index % 10 == 9) in
-    let body = each p (codes " ") (written (style_from index) t ++ end) space (each p (written (style_from index) t) end text marked) in
-    let second = each p (name_of (form_of (style_to index))) (codes " " ++ (written (style_from index) t ++ end)) (names (style_to index)) body in
-    let rest : List ℕ = name_of (form_of (style_to index)) ++ (codes " " ++ (written (style_from index) t ++ end)) in
+    let body = each p (codes " ") (style_text (style_from index) t ++ end) space (each p (style_text (style_from index) t) end text marked) in
+    let second = each p (name_of (form_of (style_to index))) (codes " " ++ (style_text (style_from index) t ++ end)) (names (style_to index)) body in
+    let rest : List ℕ = name_of (form_of (style_to index)) ++ (codes " " ++ (style_text (style_from index) t ++ end)) in
     each p (name_of (form_of (style_from index))) (codes " " ++ rest) (names (style_from index)) (each p (codes " ") rest space second)
 
 -- ---- a line has no line feed
@@ -113,7 +113,7 @@ names_no_feed style.IsoStrict = refl
 
 -- what the law of the crate below says of written texts
 abbrev pub OneLineEach : Type 0
-OneLineEach = (s : Style) (t : Interval) → IsInRange t → IsTrue (list_all is_no_feed (written s t))
+OneLineEach = (s : Style) (t : Interval) → IsInRange t → IsTrue (list_all is_no_feed (style_text s t))
 
 line_no_feed : OneLineEach → (index : ℕ) → NoFeed (line_of index (sample_interval index))
 line_no_feed one_line index =
@@ -142,7 +142,7 @@ unfolding interval_of_draws
 made_of_draws made m d u a b c is me de ue = is ∙ rw (me, de, ue) refl
 
 pub line_pushed : (index : ℕ) (t : Interval) (from to : Style) (text a b c d e f : List ℕ) → from ≡ style_from index → to ≡ style_to index → a ≡ [] → b ≡ a ++ (name_of (form_of from) ++ codes " ")
-    → c ≡ b ++ (name_of (form_of to) ++ codes " ") → text ≡ written from t → d ≡ c ++ text → e ≡ d ++ mark_of index → f ≡ e ++ codes "\n" → f ≡ line_of index t ++ codes "\n"
+    → c ≡ b ++ (name_of (form_of to) ++ codes " ") → text ≡ style_text from t → d ≡ c ++ text → e ≡ d ++ mark_of index → f ≡ e ++ codes "\n" → f ≡ line_of index t ++ codes "\n"
 unfolding line_of
 line_pushed index t from to text a b c d e f hs hu ha hb hc ht hd he hf =
     let first : List ℕ = name_of (form_of from) in
@@ -154,12 +154,12 @@ line_pushed index t from to text a b c d e f hs hu ha hb hc ht hd he hf =
     let both : b ++ (second ++ (codes " " ++ (text ++ end))) ≡ a ++ (first ++ (codes " " ++ (second ++ (codes " " ++ (text ++ end))))) = pushed a b first (codes " ") (second ++ (codes " " ++ (text ++ end))) hb in
     let all : f ≡ first ++ (codes " " ++ (second ++ (codes " " ++ (text ++ end)))) =
     hf ∙ (marked ∙ (texted ∙ (named ∙ (both ∙ ap (λ (l : List ℕ). l ++ (first ++ (codes " " ++ (second ++ (codes " " ++ (text ++ end)))))) ha)))) in
-    let body : List ℕ = written from t ++ mark_of index in
-    let inner : (second ++ (codes " " ++ body)) ++ codes "\n" ≡ second ++ (codes " " ++ (written from t ++ end)) =
-    joined_on second (codes " ") body (codes "\n") ∙ ap (λ (l : List ℕ). second ++ (codes " " ++ l)) (append_assoc (written from t) (mark_of index) (codes "\n")) in
-    let outer : (first ++ (codes " " ++ (second ++ (codes " " ++ body)))) ++ codes "\n" ≡ first ++ (codes " " ++ (second ++ (codes " " ++ (written from t ++ end)))) =
+    let body : List ℕ = style_text from t ++ mark_of index in
+    let inner : (second ++ (codes " " ++ body)) ++ codes "\n" ≡ second ++ (codes " " ++ (style_text from t ++ end)) =
+    joined_on second (codes " ") body (codes "\n") ∙ ap (λ (l : List ℕ). second ++ (codes " " ++ l)) (append_assoc (style_text from t) (mark_of index) (codes "\n")) in
+    let outer : (first ++ (codes " " ++ (second ++ (codes " " ++ body)))) ++ codes "\n" ≡ first ++ (codes " " ++ (second ++ (codes " " ++ (style_text from t ++ end)))) =
     joined_on first (codes " ") (second ++ (codes " " ++ body)) (codes "\n") ∙ ap (λ (l : List ℕ). first ++ (codes " " ++ l)) inner in
     let line : f ≡ (first ++ (codes " " ++ (second ++ (codes " " ++ body)))) ++ codes "\n" =
     all ∙ (ap (λ (l : List ℕ). first ++ (codes " " ++ (second ++ (codes " " ++ (l ++ end))))) ht ∙ sym outer) in
-    subst (λ (s : Style). f ≡ (name_of (form_of s) ++ (codes " " ++ (name_of (form_of (style_to index)) ++ (codes " " ++ (written s t ++ mark_of index))))) ++ codes "\n") hs
+    subst (λ (s : Style). f ≡ (name_of (form_of s) ++ (codes " " ++ (name_of (form_of (style_to index)) ++ (codes " " ++ (style_text s t ++ mark_of index))))) ++ codes "\n") hs
     (subst (λ (u : Style). f ≡ (first ++ (codes " " ++ (name_of (form_of u) ++ (codes " " ++ body)))) ++ codes "\n") hu line)

@@ -14,7 +14,7 @@ use Rattle.scan_core.proofs.Joins.{join_push}
 use Rattle.pg_interval_2.specs.Alphabet.{is_in_alphabet}
 use Rattle.pg_interval_2.specs.Denotes.{Denotes, HasNoShape}
 use Rattle.pg_interval_2.specs.Ranges.{IsInRange}
-use Rattle.pg_interval_2.specs.Styles.{Shape, written}
+use Rattle.pg_interval_2.specs.Styles.{Shape, style_text}
 use Rattle.pg_interval_2.specs.declared.interval.Interval.{Interval}
 use Rattle.pg_interval_2.specs.declared.style.Style.{Style}
 use Rattle.pg_interval_2.specs.declared.style.Style.TheVariants as style
@@ -33,10 +33,10 @@ use Rattle.forms.proofs.SampleLines.{OneLineEach, each_of_line, no_feed_each, sa
 pub record Texts : Type 0 where
   pub one_line : OneLineEach
   pub alphabet : (s : Style) (text : List ℕ) (counts : List Count) → Shape s text counts → IsTrue (list_all is_in_alphabet text)
-  pub back : (s : Style) (t : Interval) → IsInRange t → Denotes (Shape s) (written s t) t
+  pub back : (s : Style) (t : Interval) → IsInRange t → Denotes (Shape s) (style_text s t) t
 
-written_in : Texts → (s : Style) (t : Interval) → IsInRange t → list_all is_in_alphabet (written s t) ≡ true
-written_in texts s t range = let d = texts.back s t range in texts.alphabet s (written s t) d.0 d.1
+written_in : Texts → (s : Style) (t : Interval) → IsInRange t → list_all is_in_alphabet (style_text s t) ≡ true
+written_in texts s t range = let d = texts.back s t range in texts.alphabet s (style_text s t) d.0 d.1
 
 -- ---- a line is a request
 
@@ -68,11 +68,11 @@ all_small (b ∷ bs) h =
 line_utf8 : Texts → (index : ℕ) (t : Interval) → IsInRange t → IsUtf8 (line_of index t)
 line_utf8 texts index t range =
     IsUtf8-from_ascii (line_of index t)
-    (ascii (line_of index t) (each_of_line is_small (λ s. small_name (form_of s)) refl refl index t (all_small (written (style_from index) t) (written_in texts (style_from index) t range))))
+    (ascii (line_of index t) (each_of_line is_small (λ s. small_name (form_of s)) refl refl index t (all_small (style_text (style_from index) t) (written_in texts (style_from index) t range))))
 
 -- the text that a line asks for
 abbrev text_of : ℕ → Interval → List ℕ
-text_of index t = written (style_from index) t ++ mark_of index
+text_of index t = style_text (style_from index) t ++ mark_of index
 
 spelled : (index : ℕ) (t : Interval) → line_of index t ≡ name_of (form_of (style_from index)) ++ (codes " " ++ (name_of (form_of (style_to index)) ++ (codes " " ++ text_of index t)))
 unfolding line_of
@@ -105,7 +105,7 @@ no_shape texts s text counts h =
 
 -- the reply to a line
 abbrev reply_when : Bool → ℕ → List ℕ
-reply_when tenth index = if tenth then codes "refused Syntax" else written (style_to index) (sample_interval index)
+reply_when tenth index = if tenth then codes "refused Syntax" else style_text (style_to index) (sample_interval index)
 
 abbrev sample_reply : ℕ → List ℕ
 sample_reply index = reply_when (index % 10 == 9) index
@@ -117,8 +117,8 @@ mark_is index tenth h = rw h refl
 answered : Texts → (index : ℕ) (tenth : Bool) → (index % 10 == 9) ≡ tenth → AnswersRequest (line_of index (sample_interval index)) (reply_when tenth index)
 answered texts index true h =
     let t : Interval = sample_interval index in
-    let text : text_of index t ≡ written (style_from index) t ++ codes "x" = ap (λ (l : List ℕ). written (style_from index) t ++ l) (mark_is index true h) in
-    let none : HasNoShape (Shape (style_from index)) (text_of index t) = subst (HasNoShape (Shape (style_from index))) (sym text) (no_shape texts (style_from index) (written (style_from index) t)) in
+    let text : text_of index t ≡ style_text (style_from index) t ++ codes "x" = ap (λ (l : List ℕ). style_text (style_from index) t ++ l) (mark_is index true h) in
+    let none : HasNoShape (Shape (style_from index)) (text_of index t) = subst (HasNoShape (Shape (style_from index))) (sym text) (no_shape texts (style_from index) (style_text (style_from index) t)) in
     record {
       from = form_of (style_from index);
       to = form_of (style_to index);
@@ -130,15 +130,15 @@ answered texts index true h =
     }
 answered texts index false h =
     let t : Interval = sample_interval index in
-    let text : text_of index t ≡ written (style_from index) t = ap (λ (l : List ℕ). written (style_from index) t ++ l) (mark_is index false h) ∙ append-nil (written (style_from index) t) in
+    let text : text_of index t ≡ style_text (style_from index) t = ap (λ (l : List ℕ). style_text (style_from index) t ++ l) (mark_is index false h) ∙ append-nil (style_text (style_from index) t) in
     let back : Denotes (Shape (style_from index)) (text_of index t) t = subst (λ (l : List ℕ). Denotes (Shape (style_from index)) l t) (sym text) (texts.back (style_from index) t (sample_in_range index)) in
     record {
       from = form_of (style_from index);
       to = form_of (style_to index);
       text = text_of index t;
-      answer = Ok (written (style_to index) t);
+      answer = Ok (style_text (style_to index) t);
       asked = asked texts index t (sample_in_range index);
-      answered = is_answer (style_from index) (style_to index) (text_of index t) (Ok (written (style_to index) t)) (t, back, refl);
+      answered = is_answer (style_from index) (style_to index) (text_of index t) (Ok (style_text (style_to index) t)) (t, back, refl);
       told = refl;
     }
 
@@ -176,11 +176,11 @@ no_refusal (a ∷ b ∷ c ∷ bytes) h =
 
 refused_when : Texts → (index : ℕ) (tenth : Bool) → is_refusal (reply_when tenth index) ≡ tenth
 refused_when texts index true = refl
-refused_when texts index false = no_refusal (written (style_to index) (sample_interval index)) (written_in texts (style_to index) (sample_interval index) (sample_in_range index))
+refused_when texts index false = no_refusal (style_text (style_to index) (sample_interval index)) (written_in texts (style_to index) (sample_interval index) (sample_in_range index))
 
 reply_no_feed : Texts → (index : ℕ) (tenth : Bool) → NoFeed (reply_when tenth index)
 reply_no_feed texts index true = no_feed_each (codes "refused Syntax") refl
-reply_no_feed texts index false = no_feed_each (written (style_to index) (sample_interval index)) (texts.one_line (style_to index) (sample_interval index) (sample_in_range index))
+reply_no_feed texts index false = no_feed_each (style_text (style_to index) (sample_interval index)) (texts.one_line (style_to index) (sample_interval index) (sample_in_range index))
 
 -- ---- all replies
 

@@ -11,7 +11,7 @@ use Rattle.fancy_duration.specs.Meanings.{Denotes, IsTooBig}
 use Rattle.fancy_duration.specs.Strict.{IsStrict}
 use Rattle.fancy_duration.specs.Sums.{SumsTo}
 use Rattle.fancy_duration.specs.Times.{nanos_of, times_of}
-use Rattle.fancy_duration.specs.Written.{written}
+use Rattle.fancy_duration.specs.Written.{length_text}
 use Rattle.fancy_duration.specs.declared.error.FancyError.{FancyError}
 use Rattle.fancy_duration.specs.declared.error.FancyError.TheVariants.{TooBig, NotHeld}
 use Rattle.fancy_duration.specs.declared.part.DurationPart.TheVariants.{Months, Weeks, Days, Hours, Minutes}
@@ -126,20 +126,20 @@ length_held (pos n) nanos h =
 
 -- what the laws of the crate below say of written texts
 abbrev pub AreStrict : Type 0
-AreStrict = (nanos : ℕ) → nanos < 2 ^ 64 * 1_000_000_000 → IsStrict (written nanos)
+AreStrict = (nanos : ℕ) → nanos < 2 ^ 64 * 1_000_000_000 → IsStrict (length_text nanos)
 
 abbrev pub AreReadBack : Type 0
-AreReadBack = (times : ℕ × ℕ) → times.0 < 2 ^ 64 → times.1 < 1_000_000_000 → Denotes (written (nanos_of times)) times ↔ (MonthsStandAlone (nanos_of times) → ⊥)
+AreReadBack = (times : ℕ × ℕ) → times.0 < 2 ^ 64 → times.1 < 1_000_000_000 → Denotes (length_text (nanos_of times)) times ↔ (MonthsStandAlone (nanos_of times) → ⊥)
 
 sums_back : AreReadBack → (nanos : ℕ) → nanos < 2 ^ 64 * 1_000_000_000 → (MonthsStandAlone nanos → ⊥)
-    → SumsTo (written nanos) nanos
+    → SumsTo (length_text nanos) nanos
 sums_back back nanos fits clear =
     let same : nanos_of (times_of nanos) ≡ nanos = omega arith in
     let denoted = (back (times_of nanos) (omega arith) (omega arith)).1 (λ alone. clear (subst MonthsStandAlone same alone)) in
-    subst (λ (n : ℕ). SumsTo (written n) n) same denoted.sums
+    subst (λ (n : ℕ). SumsTo (length_text n) n) same denoted.sums
 
 held_by : AreStrict → AreReadBack → (value : Value) (z : ℤ) (nanos : ℕ) → length_of z ≡ Ok nanos
-    → Same value (Length nanos) → IsHeldBack Spells (Is worth) (Is held) (written nanos) value nanos
+    → Same value (Length nanos) → IsHeldBack Spells (Is worth) (Is held) (length_text nanos) value nanos
 held_by strict back value z nanos h same =
     let found = length_held z nanos h in
     record {
@@ -171,7 +171,7 @@ triple_held months days micros nanos h =
     (is_int months (pos 0) first.0, first.1)
 
 held_back : AreStrict → AreReadBack → (value : Value) (nanos : ℕ) → IsWithinBounds value → held value ≡ Ok nanos
-    → IsHeldBack Spells (Is worth) (Is held) (written nanos) value nanos
+    → IsHeldBack Spells (Is worth) (Is held) (length_text nanos) value nanos
 held_back strict back (Length n) nanos w h =
     let found = length_held (pos n) nanos h in
     let same : n ≡ nanos = let e = found.is in omega (arith, ints) in
@@ -185,7 +185,7 @@ held_back strict back _ nanos w h = absurd (let e : Err Kind ≡ Ok nanos = h in
 pub short_durations : ((text : List ℕ) (a b : ℕ) → SumsTo text a → SumsTo text b → a ≡ b) → AreStrict → AreReadBack
     → Lawful Fancy
 short_durations one strict back =
-    lawful_by Fancy Spells (Is worth) (Is held) written (record { reads = λ text a h. h; read = λ text a h. h; writes = λ value a h. h; written = λ value a h. h })
+    lawful_by Fancy Spells (Is worth) (Is held) length_text (record { reads = λ text a h. h; read = λ text a h. h; writes = λ value a h. h; written = λ value a h. h })
     (record {
       one = λ text a b h k. one text a b h.1 k.1;
       one_worth = one_image worth;

@@ -1,10 +1,10 @@
 -- The forms, a row each: what reading a text answers, and what writing a value does.
 use Rattle.std.specs.Prelude.{ℕ, List, decimal, Result}
-use Rattle.fancy_duration.specs.Written.{written as short_text}
+use Rattle.fancy_duration.specs.Written.{length_text}
 use Rattle.iso8601.specs.Written.{date_text, date_time_text}
 use Rattle.iso8601.specs.WrittenDurations.{duration_text}
 use Rattle.port_toml_datetime.specs.Texts.{text_of}
-use Rattle.pg_interval_2.specs.Styles.{Shape, written}
+use Rattle.pg_interval_2.specs.Styles.{Shape, style_text}
 use Rattle.pg_interval_2.specs.declared.style.Style.TheVariants as style
 use Rattle.forms.specs.declared.cause.Cause.{Cause}
 use Rattle.forms.specs.declared.form.Form.{Form}
@@ -40,9 +40,9 @@ Writes IsoDateTime = WritesBy iso_date_time.Holds date_time_text
 Writes IsoDate = WritesBy iso_date.Holds date_text
 Writes IsoDuration = WritesBy (Is iso_duration.held) duration_text
 Writes Toml = WritesBy toml.Holds text_of
-Writes Fancy = WritesBy (Is fancy.held) short_text
-Writes PgIso = WritesBy (Is interval.held) (written style.Iso)
-Writes Postgres = WritesBy (Is interval.held) (written style.Postgres)
-Writes PgVerbose = WritesBy (Is interval.held) (written style.Verbose)
-Writes PgSql = WritesBy (Is interval.held) (written style.Sql)
-Writes IsoStrict = WritesBy (Is interval.held) (written style.IsoStrict)
+Writes Fancy = WritesBy (Is fancy.held) length_text
+Writes PgIso = WritesBy (Is interval.held) (style_text style.Iso)
+Writes Postgres = WritesBy (Is interval.held) (style_text style.Postgres)
+Writes PgVerbose = WritesBy (Is interval.held) (style_text style.Verbose)
+Writes PgSql = WritesBy (Is interval.held) (style_text style.Sql)
+Writes IsoStrict = WritesBy (Is interval.held) (style_text style.IsoStrict)

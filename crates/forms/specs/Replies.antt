@@ -6,7 +6,7 @@ use Rattle.scan_core.specs.declared.share.Part.{Part}
 use Rattle.pg_interval_2.specs.declared.interval.Interval.{Interval}
 use Rattle.pg_interval_2.specs.declared.style.Style.{Style}
 use Rattle.pg_interval_2.specs.Denotes.{Denotes, HasNoShape, Misfits}
-use Rattle.pg_interval_2.specs.Styles.{Shape, written}
+use Rattle.pg_interval_2.specs.Styles.{Shape, style_text}
 use Rattle.forms.specs.declared.form.Form.{Form}
 use Rattle.forms.specs.declared.cause.Cause.{Cause}
 use Rattle.forms.specs.declared.cause.Cause.TheVariants.{Syntax, Range}
@@ -16,7 +16,7 @@ use Rattle.forms.specs.ReadBack.{Turns}
 -- Between two interval forms: the second form's written text of the one interval that the text denotes by the first form's grammar,
 -- `Syntax` exactly without its shape, and `Range` exactly where a share or a sum doesn't fit.
 abbrev pub IsIntervalAnswer : Style → Style → List ℕ → Result (List ℕ) Cause → Type 0
-IsIntervalAnswer from to text (Ok out) = (t : Interval) × Denotes (Shape from) text t × (out ≡ written to t)
+IsIntervalAnswer from to text (Ok out) = (t : Interval) × Denotes (Shape from) text t × (out ≡ style_text to t)
 IsIntervalAnswer from to text (Err Syntax) = HasNoShape (Shape from) text
 IsIntervalAnswer from to text (Err Range) = (part : Part) × Misfits (Shape from) text part
 IsIntervalAnswer from to text (Err _) = ⊥

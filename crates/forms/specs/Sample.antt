@@ -7,7 +7,7 @@ use Rattle.std.specs.List.{starts_with}
 use Rattle.pg_interval_2.specs.declared.interval.Interval.{Interval}
 use Rattle.pg_interval_2.specs.declared.style.Style.{Style}
 use Rattle.pg_interval_2.specs.declared.style.Style.TheVariants as style
-use Rattle.pg_interval_2.specs.Styles.{written}
+use Rattle.pg_interval_2.specs.Styles.{style_text}
 use Rattle.forms.specs.declared.form.Form.{Form}
 use Rattle.forms.specs.declared.form.Form.TheVariants.{PgIso, Postgres, PgVerbose, PgSql, IsoStrict}
 use Rattle.forms.specs.declared.run_end.RunEnd.{RunEnd}
@@ -76,7 +76,7 @@ mark_of index = if index % 10 == 9 then codes "x" else []
 -- a line: the names of two forms, and the text of its interval in the first
 unfoldable pub line_of : ℕ → Interval → List ℕ
 line_of index t =
-    name_of (form_of (style_from index)) ++ (codes " " ++ (name_of (form_of (style_to index)) ++ (codes " " ++ (written (style_from index) t ++ mark_of index))))
+    name_of (form_of (style_from index)) ++ (codes " " ++ (name_of (form_of (style_to index)) ++ (codes " " ++ (style_text (style_from index) t ++ mark_of index))))
 
 -- the first lines, in order
 abbrev pub sample_lines : ℕ → List (List ℕ)

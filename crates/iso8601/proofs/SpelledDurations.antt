@@ -3,7 +3,7 @@ use Rattle.std.proofs.Common.{◌≡◌, ◌≢◌, ℕ, ◌<◌, ◌≤◌, ◌
 use Rattle.std.proofs.lemmas.Bool.{eqb-true, and_parts}
 use Rattle.std.proofs.lemmas.Bool.Decides.{nat_tests}
 use Rattle.std.proofs.lemmas.Fmt.{decimal_nonempty}
-use Rattle.scan_core.specs.Padded.{padded}
+use Rattle.scan_core.specs.Padded.{padded_digits}
 use Rattle.scan_core.proofs.DigitFacts.{digits_decimal, number_of-decimal}
 use Rattle.iso8601.specs.Fields.{IsOrZero}
 use Rattle.iso8601.specs.Durations.{IsNumber, IsCount, IsSeconds, IsPerhapsClock, IsCounted, IsDuration}
@@ -32,10 +32,10 @@ unfolding count_text
 count_spelled unit n small = count_if unit n (n == 0) refl small
 
 seconds_if : (s ms : ℕ) (t : Bool) → (ms == 0) ≡ t → s < 2 ^ 32 → ms ≤ 999
-    → IsSeconds (cond t (count_text s (codes "S")) (decimal s ++ (codes "." ++ (padded 3 ms ++ codes "S")))) (s, ms)
+    → IsSeconds (cond t (count_text s (codes "S")) (decimal s ++ (codes "." ++ (padded_digits 3 ms ++ codes "S")))) (s, ms)
 seconds_if s ms true h small most = inl (count_spelled (codes "S") s small, eqb-true ms 0 h)
 seconds_if s ms false h small most =
-    inr (record { digits = decimal s; fraction = codes "." ++ padded 3 ms; number = number_spelled s small; millis = fraction_spelled ms most; joined = refl })
+    inr (record { digits = decimal s; fraction = codes "." ++ padded_digits 3 ms; number = number_spelled s small; millis = fraction_spelled ms most; joined = refl })
 
 seconds_spelled : (s ms : ℕ) → s < 2 ^ 32 → ms ≤ 999 → IsSeconds (second_text s ms) (s, ms)
 unfolding second_text

@@ -3,7 +3,7 @@ use Rattle.std.proofs.Common.{◌≡◌, ℕ, zero, suc, ◌≤◌, ◌||◌, �
 use Rattle.std.specs.Prelude.{unsigned_abs, neg_ℤ}
 use Rattle.std.specs.Int.{is_negative}
 use Rattle.std.proofs.lemmas.Int.{ints}
-use Rattle.scan_core.specs.Padded.{padded}
+use Rattle.scan_core.specs.Padded.{padded_digits}
 use Rattle.scan_core.specs.Number.{sign_text}
 use Rattle.scan_core.specs.Shares.{signed}
 use Rattle.iso8601.specs.Dates.{IsDate}
@@ -28,11 +28,11 @@ date_spelled (YMD year month day) r =
     record {
       year_text = year_text year;
       hyphen = codes "-";
-      day_text = padded 2 month ++ (codes "-" ++ padded 2 day);
+      day_text = padded_digits 2 month ++ (codes "-" ++ padded_digits 2 day);
       year = year;
       years = year_spelled year r.0;
       mark = inr refl;
-      days = inl (record { month_text = padded 2 month; day_text = codes "-" ++ padded 2 day; month = month; day = day; months = months; days = days; joined = refl; value = refl });
+      days = inl (record { month_text = padded_digits 2 month; day_text = codes "-" ++ padded_digits 2 day; month = month; day = day; months = months; days = days; joined = refl; value = refl });
       joined = refl;
     }
 date_spelled (Week year ww d) r =
@@ -41,18 +41,18 @@ date_spelled (Week year ww d) r =
     record {
       year_text = year_text year;
       hyphen = codes "-";
-      day_text = codes "W" ++ (padded 2 ww ++ (codes "-" ++ padded 1 d));
+      day_text = codes "W" ++ (padded_digits 2 ww ++ (codes "-" ++ padded_digits 1 d));
       year = year;
       years = year_spelled year r.0;
       mark = inr refl;
-      days = inr (inl (record { week_text = padded 2 ww; day_text = codes "-" ++ padded 1 d; week = ww; day = d; weeks = weeks; days = days; joined = refl; value = refl }));
+      days = inr (inl (record { week_text = padded_digits 2 ww; day_text = codes "-" ++ padded_digits 1 d; week = ww; day = d; weeks = weeks; days = days; joined = refl; value = refl }));
       joined = refl;
     }
 date_spelled (Ordinal year ddd) r =
     record {
       year_text = year_text year;
       hyphen = codes "-";
-      day_text = padded 3 ddd;
+      day_text = padded_digits 3 ddd;
       year = year;
       years = year_spelled year r.0;
       mark = inr refl;
@@ -63,12 +63,12 @@ date_spelled (Ordinal year ddd) r =
 -- ---- offsets
 
 -- a text of a sign and two magnitudes
-parts_spelled : (negative : Bool) (h m : ℕ) → h ≤ 24 → m ≤ 59 → IsOffset (sign_text negative ++ (padded 2 h ++ (codes ":" ++ padded 2 m))) (signed negative h, signed negative m)
+parts_spelled : (negative : Bool) (h m : ℕ) → h ≤ 24 → m ≤ 59 → IsOffset (sign_text negative ++ (padded_digits 2 h ++ (codes ":" ++ padded_digits 2 m))) (signed negative h, signed negative m)
 parts_spelled negative h m p q =
     inr (inr (record {
       negative = negative;
-      hour_text = padded 2 h;
-      minute_text = codes ":" ++ padded 2 m;
+      hour_text = padded_digits 2 h;
+      minute_text = codes ":" ++ padded_digits 2 m;
       hour = h;
       minute = m;
       hours = field_spelled 2 0 24 h (omega arith) (omega arith) (omega arith) (omega arith) p;
@@ -110,17 +110,17 @@ pub time_spelled : (t : Time) → IsTimeInRange t → IsTime (time_text t) t
 unfolding time_text clock_text
 time_spelled t r =
     record {
-      hour_text = padded 2 t.hour;
-      minute_text = codes ":" ++ padded 2 t.minute;
-      second_text = codes ":" ++ padded 2 t.second;
-      fraction = codes "." ++ padded 3 t.millisecond;
+      hour_text = padded_digits 2 t.hour;
+      minute_text = codes ":" ++ padded_digits 2 t.minute;
+      second_text = codes ":" ++ padded_digits 2 t.second;
+      fraction = codes "." ++ padded_digits 3 t.millisecond;
       offset = offset_text t.tz_offset_hours t.tz_offset_minutes;
       hours = field_spelled 2 0 24 t.hour (omega arith) (omega (arith, r.0)) (omega (arith, r.0)) (omega arith) r.0;
       minutes = marked_spelled (codes ":") 2 0 59 t.minute (omega arith) (omega (arith, r.1)) (omega (arith, r.1)) (omega arith) r.1;
       seconds = inr (marked_spelled (codes ":") 2 0 60 t.second (omega arith) (omega (arith, r.2)) (omega (arith, r.2)) (omega arith) r.2);
       fractions = inr (fraction_spelled t.millisecond r.3);
       offsets = offset_spelled t.tz_offset_hours t.tz_offset_minutes r.4 r.5 r.6;
-      joined = joins (padded 2 t.hour) (padded 2 t.minute) (padded 2 t.second) (padded 3 t.millisecond) (offset_text t.tz_offset_hours t.tz_offset_minutes);
+      joined = joins (padded_digits 2 t.hour) (padded_digits 2 t.minute) (padded_digits 2 t.second) (padded_digits 3 t.millisecond) (offset_text t.tz_offset_hours t.tz_offset_minutes);
     }
 
 pub date_time_spelled : (t : DateTime) → IsDateTimeInRange t → IsDateTime (date_time_text t) t

@@ -4,7 +4,7 @@ use Rattle.std.proofs.lemmas.Fmt.{length-decimal-le}
 use Rattle.std.proofs.lemmas.Bool.Decides.{nat_tests}
 use Rattle.std.specs.Int.{is_negative}
 use Rattle.std.specs.Prelude.{unsigned_abs, neg_ℤ}
-use Rattle.scan_core.specs.Padded.{padded}
+use Rattle.scan_core.specs.Padded.{padded_digits}
 use Rattle.scan_core.proofs.PaddedFacts.{length-padded}
 use Rattle.iso8601.specs.Written.{two_wide, offset_text}
 
@@ -20,11 +20,11 @@ not_negative n = grind (arith, nat_tests)
 pub negative : (n : ℕ) → is_negative (negsuc n) ≡ true
 negative n = refl
 
-pub wide_positive : (n : ℕ) → two_wide (pos n) ≡ padded 2 n
+pub wide_positive : (n : ℕ) → two_wide (pos n) ≡ padded_digits 2 n
 unfolding two_wide
 wide_positive n = rw (not_negative n) refl
 
-pub wide_negative : (n : ℕ) → two_wide (negsuc n) ≡ codes "-" ++ padded 1 (suc n)
+pub wide_negative : (n : ℕ) → two_wide (negsuc n) ≡ codes "-" ++ padded_digits 1 (suc n)
 unfolding two_wide
 wide_negative n = refl
 
@@ -34,7 +34,7 @@ length_positive n small = let short = length_decimal_u32 n small in rw (wide_pos
 length_negative : (n : ℕ) → suc n < 2 ^ 32 → length (two_wide (negsuc n)) ≤ 11
 length_negative n small =
     let short = length_decimal_u32 (suc n) small in
-    rw (wide_negative n) (omega (arith, length-padded 1 (suc n), length-append (codes "-") (padded 1 (suc n))))
+    rw (wide_negative n) (omega (arith, length-padded 1 (suc n), length-append (codes "-") (padded_digits 1 (suc n))))
 
 length_turned : (n : ℕ) → n < 2 ^ 32 → length (two_wide (neg_ℤ (pos n))) ≤ 11
 length_turned zero small = let short = length_positive zero small in omega arith

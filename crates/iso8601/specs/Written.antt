@@ -3,7 +3,7 @@
 -- written with as many digits as they have.
 use Rattle.std.specs.Prelude.{ℕ, ℤ, neg_ℤ, unsigned_abs, Bool, ◌||◌, List, [], ◌++◌, codes, if◌then◌else◌}
 use Rattle.std.specs.Int.{is_negative}
-use Rattle.scan_core.specs.Padded.{padded}
+use Rattle.scan_core.specs.Padded.{padded_digits}
 use Rattle.iso8601.specs.declared.types.Date.{Date}
 use Rattle.iso8601.specs.declared.types.Date.TheVariants.{YMD, Week, Ordinal}
 use Rattle.iso8601.specs.declared.types.Time.{Time}
@@ -15,26 +15,26 @@ minus negative = if negative then codes "-" else []
 
 -- the magnitude of a year in at least four digits, behind a minus where the year is negative
 unfoldable pub year_text : ℤ → List ℕ
-year_text year = minus (is_negative year) ++ padded 4 (unsigned_abs year)
+year_text year = minus (is_negative year) ++ padded_digits 4 (unsigned_abs year)
 
 -- `2015-06-26`, `2015-W26-5`, `2015-177`
 unfoldable pub date_text : Date → List ℕ
 date_text (YMD year month day) =
-    year_text year ++ (codes "-" ++ (padded 2 month ++ (codes "-" ++ padded 2 day)))
+    year_text year ++ (codes "-" ++ (padded_digits 2 month ++ (codes "-" ++ padded_digits 2 day)))
 date_text (Week year ww d) =
-    year_text year ++ (codes "-W" ++ (padded 2 ww ++ (codes "-" ++ padded 1 d)))
-date_text (Ordinal year ddd) = year_text year ++ (codes "-" ++ padded 3 ddd)
+    year_text year ++ (codes "-W" ++ (padded_digits 2 ww ++ (codes "-" ++ padded_digits 1 d)))
+date_text (Ordinal year ddd) = year_text year ++ (codes "-" ++ padded_digits 3 ddd)
 
 -- `16:43:16.123`
 unfoldable pub clock_text : ℕ → ℕ → ℕ → ℕ → List ℕ
 clock_text hour minute second millisecond =
-    padded 2 hour ++ (codes ":" ++ (padded 2 minute ++ (codes ":" ++ (padded 2 second
-    ++ (codes "." ++ padded 3 millisecond)))))
+    padded_digits 2 hour ++ (codes ":" ++ (padded_digits 2 minute ++ (codes ":" ++ (padded_digits 2 second
+    ++ (codes "." ++ padded_digits 3 millisecond)))))
 
 -- a number in at least two characters, of which its minus is one
 unfoldable pub two_wide : ℤ → List ℕ
 two_wide z =
-    if is_negative z then (codes "-" ++ padded 1 (unsigned_abs z)) else padded 2 (unsigned_abs z)
+    if is_negative z then (codes "-" ++ padded_digits 1 (unsigned_abs z)) else padded_digits 2 (unsigned_abs z)
 
 -- a part of an offset, negated where a minus governs the parts
 abbrev pub governed_part : Bool → ℤ → ℤ

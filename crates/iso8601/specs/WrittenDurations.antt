@@ -1,7 +1,7 @@
 -- The texts that are written of durations, in the format with designators of ISO 8601-1:2019, 5.5.2:
 -- `P1Y2M3DT4H5M6.007S`, `P5W`, and `P0D` where every count is 0.
 use Rattle.std.specs.Prelude.{ℕ, Bool, ◌&&◌, List, [], ◌++◌, codes, decimal, ◌==◌, if◌then◌else◌}
-use Rattle.scan_core.specs.Padded.{padded}
+use Rattle.scan_core.specs.Padded.{padded_digits}
 use Rattle.iso8601.specs.declared.types.Duration.{Duration}
 use Rattle.iso8601.specs.declared.types.Duration.TheVariants.{YMDHMS, Weeks}
 
@@ -13,7 +13,7 @@ count_text count letter = if count == 0 then [] else (decimal count ++ letter)
 unfoldable pub second_text : ℕ → ℕ → List ℕ
 second_text second millisecond =
     if millisecond == 0 then count_text second (codes "S")
-    else (decimal second ++ (codes "." ++ (padded 3 millisecond ++ codes "S")))
+    else (decimal second ++ (codes "." ++ (padded_digits 3 millisecond ++ codes "S")))
 
 abbrev pub are_zero : ℕ → ℕ → ℕ → ℕ → Bool
 are_zero hour minute second millisecond =

@@ -1,7 +1,7 @@
 //! The texts of dates, times and date-times.
 ghost use Rattle.std.specs.Prelude.{◌≡◌, ◌+◌, ◌≤◌, ◌++◌, length, Some};
 ghost use Rattle.arrayvec.specs.ArrayString.{array_string_len};
-ghost use Rattle.scan_core.specs.Padded.{padded};
+ghost use Rattle.scan_core.specs.Padded.{padded_digits};
 ghost use Rattle.std.specs.Int.{is_negative};
 ghost use Rattle.iso8601.specs.Written.{clock_text, date_text, date_time_text, governed_part, minus, offset_text, time_text, two_wide, year_text};
 
@@ -16,7 +16,7 @@ use std::fmt::Display;
 pub(crate) fn push_digits(out: &mut Short, value: u32, width: usize)
     requires width { width ≤ 10 }
     requires room { array_string_len out.old + 10 ≤ 128 }
-    ensures bytes { out.new.bytes ≡ out.old.bytes ++ padded width value }
+    ensures bytes { out.new.bytes ≡ out.old.bytes ++ padded_digits width value }
     ensures len { array_string_len out.new ≤ array_string_len out.old + 10 }
 {
     push_padded(out, u64::from(value), width);
@@ -40,7 +40,7 @@ fn push_field(out: &mut Short, mark: &str, value: u32, width: usize)
     requires mark { length mark.now ≤ 2 }
     requires width { width ≤ 10 }
     requires room { array_string_len out.old + length mark.now + 10 ≤ 128 }
-    ensures bytes { out.new.bytes ≡ out.old.bytes ++ (mark.now ++ padded width value) }
+    ensures bytes { out.new.bytes ≡ out.old.bytes ++ (mark.now ++ padded_digits width value) }
     ensures len { array_string_len out.new ≤ array_string_len out.old + length mark.now + 10 }
 {
     push_text(out, mark);

@@ -8,7 +8,7 @@ use Rattle.std.specs.Int.{is_negative}
 use Rattle.std.specs.List.{list_all}
 use Rattle.scan_core.specs.Count.{Count, count_of}
 use Rattle.scan_core.specs.Digits.{number_of}
-use Rattle.scan_core.specs.Padded.{padded}
+use Rattle.scan_core.specs.Padded.{padded_digits}
 use Rattle.scan_core.specs.Shares.{share, signed, magnitude, scale_of, rounded, fits_type}
 use Rattle.scan_core.specs.Sums.{total}
 use Rattle.scan_core.specs.declared.share.Unit.TheVariants.{Hour, Minute, Second}
@@ -66,13 +66,13 @@ AddsUp-filter part counts z sums = record {
 
 -- the fraction digits of microseconds
 abbrev pub micros_digits : ℕ → List ℕ
-micros_digits micros = if micros == 0 then [] else padded 6 micros
+micros_digits micros = if micros == 0 then [] else padded_digits 6 micros
 
 -- six digits at most are left by a cut after six
 pub uncut_micros : (micros : ℕ) → micros < 1_000_000 → take 6 (micros_digits micros) ≡ micros_digits micros
 uncut_micros micros below =
     cond_both (micros == 0) _ _ (λ (digits : List ℕ). take 6 digits ≡ digits) (λ _. refl)
-    (λ _. take_all 6 (padded 6 micros) (omega (arith, length-padded 6 micros, length_decimal_micros micros below)))
+    (λ _. take_all 6 (padded_digits 6 micros) (omega (arith, length-padded 6 micros, length_decimal_micros micros below)))
 
 cut_micros : (micros : ℕ) → micros < 1_000_000 → rounded 1_000_000 (take 6 (micros_digits micros)) ≡ micros
 cut_micros micros below =
@@ -80,13 +80,13 @@ cut_micros micros below =
     ∙ cond_both (micros == 0) _ _ (λ digits. rounded 1_000_000 digits ≡ micros) (λ zero_is. rounded-nil 1_000_000 ∙ sym (eqb-true micros 0 zero_is)) (λ _. rounded-padded micros below)
 
 abbrev pub hour_count : Bool → ℕ → ℤ → Count
-hour_count negative width micros = count_of negative (padded width (hours_of micros)) [] Hour
+hour_count negative width micros = count_of negative (padded_digits width (hours_of micros)) [] Hour
 
 abbrev pub minute_count : Bool → ℤ → Count
-minute_count negative micros = count_of negative (padded 2 (minutes_of micros)) [] Minute
+minute_count negative micros = count_of negative (padded_digits 2 (minutes_of micros)) [] Minute
 
 abbrev pub second_count : Bool → ℤ → Count
-second_count negative micros = count_of negative (padded 2 (seconds_of micros)) (take 6 (micros_digits (subsecond_of micros))) Second
+second_count negative micros = count_of negative (padded_digits 2 (seconds_of micros)) (take 6 (micros_digits (subsecond_of micros))) Second
 
 -- one field of a part of a number
 pub field_sum : (part : Part) (c : Count) (w r : ℕ) (z : ℤ) → number_of c.whole ≡ w → rounded (scale_of c.unit) c.fraction ≡ r

@@ -5,7 +5,7 @@ use Rattle.std.proofs.lemmas.Fmt.{decimal_nonempty}
 use Rattle.std.specs.Int.{is_negative}
 use Rattle.scan_core.specs.Count.{Count}
 use Rattle.scan_core.specs.Digits.{AreDigits}
-use Rattle.scan_core.specs.Padded.{padded}
+use Rattle.scan_core.specs.Padded.{padded_digits}
 use Rattle.scan_core.specs.declared.share.Unit.{Unit as TimeUnit}
 use Rattle.scan_core.specs.declared.share.Unit.TheVariants.{Year, Month, Week, Day, Hour, Minute, Second}
 use Rattle.scan_core.proofs.DigitFacts.{digits_decimal}
@@ -44,12 +44,12 @@ whole_digits n small = cond_both (n == 0) _ _ AreDigits (λ _. tt) (λ _. digits
 -- seconds with microseconds that aren't 0
 point_pair : (negative : Bool) (seconds micros : ℕ) → seconds < 2 ^ 64 → micros < 1_000_000
     → IsPair time_unit (iso_decimal negative seconds micros)
-    (record { negative = negative; whole = nonzero_digits seconds; fraction = padded 6 micros; unit = Second })
+    (record { negative = negative; whole = nonzero_digits seconds; fraction = padded_digits 6 micros; unit = Second })
 unfolding iso_decimal
 point_pair negative seconds micros small below = record {
-  number = minus negative ++ (nonzero_digits seconds ++ (codes "." ++ padded 6 micros));
+  number = minus negative ++ (nonzero_digits seconds ++ (codes "." ++ padded_digits 6 micros));
   letter = 83;
-  digits = IsNumber-point false negative _ (padded 6 micros) (whole_digits seconds small) (digits-padded 6 micros (omega arith)) (omega (arith, length-padded 6 micros));
+  digits = IsNumber-point false negative _ (padded_digits 6 micros) (whole_digits seconds small) (digits-padded 6 micros (omega arith)) (omega (arith, length-padded 6 micros));
   unit = refl;
   joined = simp append_assoc;
 }
@@ -159,7 +159,7 @@ no_seconds : (negative : Bool) (seconds micros : ℕ) → length (iso_seconds ne
 unfolding iso_seconds iso_decimal
 no_seconds negative seconds micros =
     cond_both (micros == 0) _ _ (λ (text : List ℕ). length text ≡ 0 → (seconds ≡ 0) × (micros ≡ 0)) (λ zero_is none. (no_part negative seconds 83 none, eqb-true micros 0 zero_is))
-    (λ _ none. absurd (omega (arith, length-append (minus negative) (nonzero_digits seconds ++ (codes "." ++ (padded 6 micros ++ codes "S"))), length-append (nonzero_digits seconds) (codes "." ++ (padded 6 micros ++ codes "S")))))
+    (λ _ none. absurd (omega (arith, length-append (minus negative) (nonzero_digits seconds ++ (codes "." ++ (padded_digits 6 micros ++ codes "S"))), length-append (nonzero_digits seconds) (codes "." ++ (padded_digits 6 micros ++ codes "S")))))
 
 -- a time that isn't written is 0
 no_body : (micros : ℤ) → length (time_body micros) ≡ 0 → micros ≡ pos 0

@@ -6,7 +6,7 @@ use Rattle.std.specs.Int.{is_negative}
 use Rattle.std.specs.Ordering.{int_eq}
 use Rattle.std.specs.Prelude.{if◌then◌else◌}
 use Rattle.std.specs.List.{list_all, join_with_byte}
-use Rattle.scan_core.specs.Padded.{padded, trimmed}
+use Rattle.scan_core.specs.Padded.{padded_digits, trimmed_digits}
 use Rattle.scan_core.specs.declared.share.Part.TheVariants.{Months, Days, Micros}
 use Rattle.scan_core.proofs.DigitFacts.{digits_decimal}
 use Rattle.scan_core.proofs.PaddedFacts.{digits-padded}
@@ -18,7 +18,7 @@ use Rattle.pg_interval_2.specs.Parts.{minus, years_of, months_of, hours_of, minu
 use Rattle.pg_interval_2.specs.PostgresText.{counted_name, number_words, part_words, clock_words, postgres_words, postgres_text}
 use Rattle.pg_interval_2.specs.Ranges.{IsInRange}
 use Rattle.pg_interval_2.specs.SqlText.{minus_or_plus, has_all_signs, year_month_text, signed_text, months_text, days_text, time_text, plain_text, sql_text}
-use Rattle.pg_interval_2.specs.Styles.{written}
+use Rattle.pg_interval_2.specs.Styles.{style_text}
 use Rattle.pg_interval_2.specs.Turned.{turned_sign}
 use Rattle.pg_interval_2.specs.VerboseText.{behind_spaces, unit_words, second_digits, second_words, verbose_date, verbose_time, parts_text, verbose_text, has_ago}
 use Rattle.pg_interval_2.specs.declared.interval.Interval.{Interval}
@@ -84,11 +84,11 @@ digit_line d h = grind (arith, nat_tests)
 decimal_line : (n : ℕ) → n < 2 ^ 64 → OneLine (decimal n)
 decimal_line n small = each-digits is_no_feed digit_line (decimal n) (digits_decimal n small)
 
-padded_line : (width n : ℕ) → n < 2 ^ 64 → OneLine (padded width n)
-padded_line width n small = each-digits is_no_feed digit_line (padded width n) (digits-padded width n small)
+padded_line : (width n : ℕ) → n < 2 ^ 64 → OneLine (padded_digits width n)
+padded_line width n small = each-digits is_no_feed digit_line (padded_digits width n) (digits-padded width n small)
 
-trimmed_line : (width n : ℕ) → n < 2 ^ 64 → OneLine (trimmed (padded width n))
-trimmed_line width n small = each-digits is_no_feed digit_line (trimmed (padded width n)) (digits-trimmed (padded width n) (digits-padded width n small))
+trimmed_line : (width n : ℕ) → n < 2 ^ 64 → OneLine (trimmed_digits (padded_digits width n))
+trimmed_line width n small = each-digits is_no_feed digit_line (trimmed_digits (padded_digits width n)) (digits-trimmed (padded_digits width n) (digits-padded width n small))
 
 minus_line : (negative : Bool) → OneLine (minus negative)
 minus_line true = lit (codes "-") refl
@@ -98,11 +98,11 @@ minus_line false = lit [] refl
 
 fraction_line : (n : ℕ) → n < 2 ^ 64 → OneLine (fraction_text n)
 unfolding fraction_text
-fraction_line n small = if_line (n == 0) [] (codes "." ++ padded 6 n) (lit [] refl) (append (codes ".") (padded 6 n) (lit (codes ".") refl) (padded_line 6 n small))
+fraction_line n small = if_line (n == 0) [] (codes "." ++ padded_digits 6 n) (lit [] refl) (append (codes ".") (padded_digits 6 n) (lit (codes ".") refl) (padded_line 6 n small))
 
 field_line : (n : ℕ) → n < 2 ^ 64 → OneLine (field_text n)
 unfolding field_text
-field_line n small = append (codes ":") (padded 2 n) (lit (codes ":") refl) (padded_line 2 n small)
+field_line n small = append (codes ":") (padded_digits 2 n) (lit (codes ":") refl) (padded_line 2 n small)
 
 hours_line : (width n : ℕ) → n < 2 ^ 64 → OneLine (hours_text width n)
 unfolding hours_text
@@ -135,8 +135,8 @@ iso_decimal_line : (negative : Bool) (seconds micros : ℕ) → seconds < 2 ^ 64
     → OneLine (iso_decimal negative seconds micros)
 unfolding iso_decimal
 iso_decimal_line negative seconds micros s m =
-    let end : List ℕ = padded 6 micros ++ codes "S" in
-    let fraction = append (codes ".") end (lit (codes ".") refl) (append (padded 6 micros) (codes "S") (padded_line 6 micros m) (lit (codes "S") refl)) in
+    let end : List ℕ = padded_digits 6 micros ++ codes "S" in
+    let fraction = append (codes ".") end (lit (codes ".") refl) (append (padded_digits 6 micros) (codes "S") (padded_line 6 micros m) (lit (codes "S") refl)) in
     let number = append (nonzero_digits seconds) (codes "." ++ end) (nonzero_line seconds s) fraction in
     append (minus negative) (nonzero_digits seconds ++ (codes "." ++ end)) (minus_line negative) number
 
@@ -235,8 +235,8 @@ unit_line negative n name small h = spaced_line (unit_words negative n name) (co
 second_digits_line : (seconds micros : ℕ) → seconds < 2 ^ 64 → micros < 2 ^ 64 → OneLine (second_digits seconds micros)
 unfolding second_digits
 second_digits_line seconds micros s m =
-    let fraction = append (codes ".") (trimmed (padded 6 micros)) (lit (codes ".") refl) (trimmed_line 6 micros m) in
-    append (decimal seconds) (codes "." ++ trimmed (padded 6 micros)) (decimal_line seconds s) fraction
+    let fraction = append (codes ".") (trimmed_digits (padded_digits 6 micros)) (lit (codes ".") refl) (trimmed_line 6 micros m) in
+    append (decimal seconds) (codes "." ++ trimmed_digits (padded_digits 6 micros)) (decimal_line seconds s) fraction
 
 second_words_line : (negative : Bool) (seconds micros : ℕ) → seconds < 2 ^ 64 → micros < 2 ^ 64
     → OneLineEach (second_words negative seconds micros)
@@ -339,14 +339,14 @@ sql_line months days micros m d u =
 
 -- ---- every style
 
-style_line : (style : Style) (t : Interval) → IsSmall t.months → IsSmall t.days → IsSmall t.microseconds → OneLine (written style t)
+style_line : (style : Style) (t : Interval) → IsSmall t.months → IsSmall t.days → IsSmall t.microseconds → OneLine (style_text style t)
 style_line Iso t m d u = iso_line t.months t.days t.microseconds m d u
 style_line Postgres t m d u = postgres_line t.months t.days t.microseconds m d u
 style_line Verbose t m d u = verbose_line t.months t.days t.microseconds m d u
 style_line Sql t m d u = sql_line t.months t.days t.microseconds m d u
 style_line IsoStrict t m d u = iso_line t.months t.days t.microseconds m d u
 
-pub one_line : (style : Style) (t : Interval) → IsInRange t → IsTrue (list_all is_no_feed (written style t))
+pub one_line : (style : Style) (t : Interval) → IsInRange t → IsTrue (list_all is_no_feed (style_text style t))
 one_line style t range =
     let months = abs_fits Months t.months (fits_32 t.months range.months) in
     let days = abs_fits Days t.days (fits_32 t.days range.days) in

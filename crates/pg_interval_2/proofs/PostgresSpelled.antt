@@ -6,7 +6,7 @@ use Rattle.std.specs.Int.{is_negative}
 use Rattle.scan_core.specs.Count.{Count, count_of}
 use Rattle.scan_core.specs.Join.{IsJoin}
 use Rattle.scan_core.specs.Number.{IsFraction}
-use Rattle.scan_core.specs.Padded.{padded}
+use Rattle.scan_core.specs.Padded.{padded_digits}
 use Rattle.scan_core.specs.declared.share.Unit.{Unit as TimeUnit}
 use Rattle.scan_core.specs.declared.share.Unit.TheVariants.{Year, Month, Day}
 use Rattle.scan_core.proofs.DigitFacts.{digits_decimal}
@@ -86,7 +86,7 @@ day_names = (refl, refl)
 
 -- ---- a clock
 
-pub padded_field : (width n : ℕ) → n < 2 ^ 64 → IsField (padded width n)
+pub padded_field : (width n : ℕ) → n < 2 ^ 64 → IsField (padded_digits width n)
 padded_field width n small = (omega (arith, length-padded width n, decimal_nonempty n small), digits-padded width n small)
 
 pub fraction_is : (micros : ℕ) → micros < 2 ^ 64 → IsFraction (micros_digits micros) (fraction_text micros)
@@ -99,9 +99,9 @@ unfolding clock_text hours_text field_text
 clock_is micros small = record {
   negative = is_negative micros;
   sign = minus (is_negative micros);
-  hours = padded 2 (hours_of micros);
-  minutes = padded 2 (minutes_of micros);
-  seconds = padded 2 (seconds_of micros);
+  hours = padded_digits 2 (hours_of micros);
+  minutes = padded_digits 2 (minutes_of micros);
+  seconds = padded_digits 2 (seconds_of micros);
   fraction = micros_digits (subsecond_of micros);
   tail = fraction_text (subsecond_of micros);
   signed = IsSign-minus true (is_negative micros);

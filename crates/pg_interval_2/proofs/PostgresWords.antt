@@ -3,7 +3,7 @@ use Rattle.std.proofs.Common.{ℕ, ◌<◌, ◌^◌, Bool, true, false, List, []
 use Rattle.std.proofs.lemmas.Bool.{cond_both}
 use Rattle.std.proofs.lemmas.Fmt.{decimal_nonempty}
 use Rattle.std.specs.Int.{is_negative}
-use Rattle.scan_core.specs.Padded.{padded}
+use Rattle.scan_core.specs.Padded.{padded_digits}
 use Rattle.scan_core.proofs.DigitFacts.{digits_decimal}
 use Rattle.scan_core.proofs.WordFacts.{NoBlanks}
 use Rattle.scan_core.proofs.PaddedFacts.{digits-padded, length-padded}
@@ -51,29 +51,29 @@ day_words days small = AreWords-part_words (is_negative days) (unsigned_abs days
 
 -- ---- the word of a clock
 
-no_blank-padded : (width n : ℕ) → n < 2 ^ 64 → NoBlanks (padded width n)
-no_blank-padded width n small = digits_no_blanks (padded width n) (digits-padded width n small)
+no_blank-padded : (width n : ℕ) → n < 2 ^ 64 → NoBlanks (padded_digits width n)
+no_blank-padded width n small = digits_no_blanks (padded_digits width n) (digits-padded width n small)
 
 no_blank-field : (n : ℕ) → n < 2 ^ 64 → NoBlanks (field_text n)
 unfolding field_text
-no_blank-field n small = no_blanks-append (codes ":") (padded 2 n) (refl, tt) (no_blank-padded 2 n small)
+no_blank-field n small = no_blanks-append (codes ":") (padded_digits 2 n) (refl, tt) (no_blank-padded 2 n small)
 
 no_blank-fraction : (micros : ℕ) → micros < 2 ^ 64 → NoBlanks (fraction_text micros)
 unfolding fraction_text
 no_blank-fraction micros small =
-    cond_both (micros == 0) _ _ (λ text. NoBlanks text) (λ _. tt) (λ _. no_blanks-append (codes ".") (padded 6 micros) (refl, tt) (no_blank-padded 6 micros small))
+    cond_both (micros == 0) _ _ (λ text. NoBlanks text) (λ _. tt) (λ _. no_blanks-append (codes ".") (padded_digits 6 micros) (refl, tt) (no_blank-padded 6 micros small))
 
 no_blank-clock : (width : ℕ) (micros : ℤ) → unsigned_abs micros ≤ 2 ^ 63 → NoBlanks (clock_text width micros)
 unfolding clock_text hours_text
 no_blank-clock width micros small =
-    no_blanks-append (padded width (hours_of micros)) _ (no_blank-padded width (hours_of micros) (omega arith))
+    no_blanks-append (padded_digits width (hours_of micros)) _ (no_blank-padded width (hours_of micros) (omega arith))
     (no_blanks-append (field_text (minutes_of micros)) _ (no_blank-field (minutes_of micros) (omega arith))
     (no_blanks-append (field_text (seconds_of micros)) _ (no_blank-field (seconds_of micros) (omega arith)) (no_blank-fraction (subsecond_of micros) (omega arith))))
 
 clock_some : (width : ℕ) (micros : ℤ) → unsigned_abs micros ≤ 2 ^ 63 → 0 < length (clock_text width micros)
 unfolding clock_text hours_text
 clock_some width micros small =
-    omega (arith, length-append (padded width (hours_of micros)) (field_text (minutes_of micros) ++ (field_text (seconds_of micros) ++ fraction_text (subsecond_of micros))), length-padded width (hours_of micros), decimal_nonempty (hours_of micros) (omega arith))
+    omega (arith, length-append (padded_digits width (hours_of micros)) (field_text (minutes_of micros) ++ (field_text (seconds_of micros) ++ fraction_text (subsecond_of micros))), length-padded width (hours_of micros), decimal_nonempty (hours_of micros) (omega arith))
 
 pub time_words : (micros : ℤ) → unsigned_abs micros ≤ 2 ^ 63 → AreWords (clock_words micros)
 unfolding clock_words

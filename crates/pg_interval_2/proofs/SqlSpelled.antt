@@ -5,7 +5,7 @@ use Rattle.std.proofs.lemmas.Bool.{cond_both}
 use Rattle.std.specs.Int.{is_negative}
 use Rattle.std.specs.List.{join_with_byte}
 use Rattle.scan_core.specs.Count.{Count, count_of}
-use Rattle.scan_core.specs.Padded.{padded}
+use Rattle.scan_core.specs.Padded.{padded_digits}
 use Rattle.scan_core.specs.declared.share.Unit.TheVariants.{Year, Month, Day, Hour, Minute, Second}
 use Rattle.scan_core.proofs.DigitFacts.{digits_decimal}
 use Rattle.scan_core.proofs.PaddedFacts.{length-padded}
@@ -82,15 +82,15 @@ unfolding clock_text hours_text field_text
 time_is default negative sign micros signed small = record {
   negative = negative;
   sign = sign;
-  hours = padded 1 (hours_of micros);
-  minutes = padded 2 (minutes_of micros);
-  piece = codes ":" ++ (padded 2 (seconds_of micros) ++ fraction_text (subsecond_of micros));
-  second_counts = count_of negative (padded 2 (seconds_of micros)) (micros_digits (subsecond_of micros)) Second ∷ [];
+  hours = padded_digits 1 (hours_of micros);
+  minutes = padded_digits 2 (minutes_of micros);
+  piece = codes ":" ++ (padded_digits 2 (seconds_of micros) ++ fraction_text (subsecond_of micros));
+  second_counts = count_of negative (padded_digits 2 (seconds_of micros)) (micros_digits (subsecond_of micros)) Second ∷ [];
   signed = signed;
   hour_field = padded_field 1 (hours_of micros) (omega arith);
   minute_field = padded_field 2 (minutes_of micros) (omega arith);
   seconds = inr (record {
-    seconds = padded 2 (seconds_of micros);
+    seconds = padded_digits 2 (seconds_of micros);
     fraction = micros_digits (subsecond_of micros);
     tail = fraction_text (subsecond_of micros);
     second_field = padded_field 2 (seconds_of micros) (omega arith);
@@ -100,7 +100,7 @@ time_is default negative sign micros signed small = record {
     counted = refl;
   });
   joined = refl;
-  counted = let whole = uncut_micros (subsecond_of micros) (omega arith) in ap (λ (fraction : List ℕ). count_of negative (padded 1 (hours_of micros)) [] Hour ∷ count_of negative (padded 2 (minutes_of micros)) [] Minute ∷ count_of negative (padded 2 (seconds_of micros)) fraction Second ∷ []) whole;
+  counted = let whole = uncut_micros (subsecond_of micros) (omega arith) in ap (λ (fraction : List ℕ). count_of negative (padded_digits 1 (hours_of micros)) [] Hour ∷ count_of negative (padded_digits 2 (minutes_of micros)) [] Minute ∷ count_of negative (padded_digits 2 (seconds_of micros)) fraction Second ∷ []) whole;
 }
 
 -- ---- texts

@@ -3,7 +3,7 @@ use Rattle.std.proofs.Common.{◌≡◌, ℕ, ◌<◌, ◌≤◌, ◌^◌, Bool,
 use Rattle.std.proofs.lemmas.Bool.{cond_both, and_parts}
 use Rattle.std.specs.Int.{is_negative}
 use Rattle.scan_core.specs.Count.{Count, count_of}
-use Rattle.scan_core.specs.Padded.{padded}
+use Rattle.scan_core.specs.Padded.{padded_digits}
 use Rattle.scan_core.specs.Shares.{signed, magnitude, fits_type}
 use Rattle.scan_core.specs.declared.share.Part.{Part}
 use Rattle.scan_core.specs.declared.share.Part.TheVariants.{Months, Days, Micros}
@@ -79,7 +79,7 @@ second_counts-sum : (part : Part) (negative : Bool) (seconds micros : ℕ) → s
 second_counts-sum part negative seconds micros small below fits =
     cond_both (micros == 0) _ _ (λ counts. AddsUp part counts (signed negative (magnitude part Second seconds micros)))
     (λ zero_is. let none : micros ≡ 0 = eqb-true micros 0 zero_is in rw none (part_counts-sum part negative seconds Second small (rw none at fits)))
-    (λ _. AddsUp-one part _ seconds micros (number_of-decimal seconds small) (rounded-trimmed 1_000_000 (padded 6 micros) ∙ rounded-padded micros below) fits)
+    (λ _. AddsUp-one part _ seconds micros (number_of-decimal seconds small) (rounded-trimmed 1_000_000 (padded_digits 6 micros) ∙ rounded-padded micros below) fits)
 
 has_seconds : (micros : ℤ) → unsigned_abs micros ≤ 2 ^ 63
     → HasSeconds micros (second_counts (is_negative micros) (seconds_of micros) (subsecond_of micros))

@@ -6,7 +6,7 @@ use Rattle.std.specs.Int.{is_negative}
 use Rattle.scan_core.specs.Blanks.{words}
 use Rattle.scan_core.specs.Count.{Count, count_of}
 use Rattle.scan_core.specs.Join.{IsJoin}
-use Rattle.scan_core.specs.Padded.{padded, trimmed}
+use Rattle.scan_core.specs.Padded.{padded_digits, trimmed_digits}
 use Rattle.scan_core.specs.declared.share.Unit.{Unit as TimeUnit}
 use Rattle.scan_core.specs.declared.share.Unit.TheVariants.{Year, Month, Day, Hour, Minute, Second}
 use Rattle.scan_core.proofs.DigitFacts.{digits_decimal}
@@ -38,13 +38,13 @@ unit_are_words negative n name small some clear = AreWords-number_words negative
 
 -- the digits of microseconds behind the point
 abbrev pub micros_behind : ℕ → List ℕ
-micros_behind micros = trimmed (padded 6 micros)
+micros_behind micros = trimmed_digits (padded_digits 6 micros)
 
 no_blank-second : (seconds micros : ℕ) → seconds < 2 ^ 64 → micros < 2 ^ 64 → NoBlanks (second_digits seconds micros)
 unfolding second_digits
 no_blank-second seconds micros small below =
     no_blanks-append (decimal seconds) _ (digits_no_blanks (decimal seconds) (digits_decimal seconds small))
-    (no_blanks-append (codes ".") (micros_behind micros) (refl, tt) (digits_no_blanks (micros_behind micros) (digits-trimmed (padded 6 micros) (digits-padded 6 micros below))))
+    (no_blanks-append (codes ".") (micros_behind micros) (refl, tt) (digits_no_blanks (micros_behind micros) (digits-trimmed (padded_digits 6 micros) (digits-padded 6 micros below))))
 
 some-second : (negative : Bool) (seconds micros : ℕ) → seconds < 2 ^ 64 → 0 < length (minus negative ++ second_digits seconds micros)
 unfolding second_digits
@@ -114,7 +114,7 @@ unfolding second_digits
 second_named negative seconds micros small below some = record {
   number = minus negative ++ second_digits seconds micros;
   name = codes "secs";
-  digits = IsNumber-point true negative (decimal seconds) (micros_behind micros) (digits_decimal seconds small) (digits-trimmed (padded 6 micros) (digits-padded 6 micros below)) (trimmed_some 6 micros (positive micros some) below);
+  digits = IsNumber-point true negative (decimal seconds) (micros_behind micros) (digits_decimal seconds small) (digits-trimmed (padded_digits 6 micros) (digits-padded 6 micros below)) (trimmed_some 6 micros (positive micros some) below);
   unit = second_names.1;
   spelled = inl refl;
 }

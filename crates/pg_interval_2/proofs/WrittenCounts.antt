@@ -5,7 +5,7 @@ use Rattle.std.proofs.lemmas.Int.{ints}
 use Rattle.std.specs.Int.{is_negative}
 use Rattle.scan_core.specs.Count.{Count}
 use Rattle.scan_core.specs.Digits.{number_of}
-use Rattle.scan_core.specs.Padded.{padded}
+use Rattle.scan_core.specs.Padded.{padded_digits}
 use Rattle.scan_core.specs.Shares.{signed, magnitude, fits_type}
 use Rattle.scan_core.specs.declared.share.Unit.{Unit as TimeUnit}
 use Rattle.scan_core.specs.declared.share.Unit.TheVariants.{Year, Month, Week, Day, Hour, Minute, Second}
@@ -30,7 +30,7 @@ part_counts negative n unit = if n == 0 then [] else (record { negative = negati
 -- the count of seconds and microseconds, or none where they are 0
 abbrev pub seconds_counts : Bool → ℕ → ℕ → List Count
 seconds_counts negative seconds micros =
-    if micros == 0 then part_counts negative seconds Second else (record { negative = negative; whole = nonzero_digits seconds; fraction = padded 6 micros; unit = Second } ∷ [])
+    if micros == 0 then part_counts negative seconds Second else (record { negative = negative; whole = nonzero_digits seconds; fraction = padded_digits 6 micros; unit = Second } ∷ [])
 
 -- no seconds, as they are written of zero
 abbrev pub zero_count : Count

@@ -2,7 +2,7 @@
 use Rattle.std.specs.Prelude.{ℕ, ℤ, pos, unsigned_abs, Bool, List, [], ◌++◌, codes, decimal, ◌==◌, ◌&&◌, if◌then◌else◌}
 use Rattle.std.specs.Ordering.{int_eq}
 use Rattle.std.specs.Int.{is_negative}
-use Rattle.scan_core.specs.Padded.{padded}
+use Rattle.scan_core.specs.Padded.{padded_digits}
 use Rattle.pg_interval_2.specs.Parts.{minus, years_of, months_of, hours_of, minutes_of, seconds_of, subsecond_of}
 
 -- a number with its minus and its letter, or nothing where it is 0
@@ -16,7 +16,7 @@ nonzero_digits n = if n == 0 then [] else decimal n
 -- seconds with microseconds: `6.500000S`, and `.500000S` of microseconds alone
 unfoldable pub iso_decimal : Bool → ℕ → ℕ → List ℕ
 iso_decimal negative seconds micros =
-    minus negative ++ (nonzero_digits seconds ++ (codes "." ++ (padded 6 micros ++ codes "S")))
+    minus negative ++ (nonzero_digits seconds ++ (codes "." ++ (padded_digits 6 micros ++ codes "S")))
 
 -- the seconds, with their microseconds where these aren't 0
 unfoldable pub iso_seconds : Bool → ℕ → ℕ → List ℕ

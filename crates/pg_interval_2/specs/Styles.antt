@@ -42,9 +42,9 @@ not_in Sql = not_sql
 not_in IsoStrict = not_iso_strict
 
 -- the written text of an interval
-abbrev pub written : Style → Interval → List ℕ
-written Iso t = iso_text t.months t.days t.microseconds
-written Postgres t = postgres_text t.months t.days t.microseconds
-written Verbose t = verbose_text t.months t.days t.microseconds
-written Sql t = sql_text t.months t.days t.microseconds
-written IsoStrict t = iso_text t.months t.days t.microseconds
+abbrev pub style_text : Style → Interval → List ℕ
+style_text Iso t = iso_text t.months t.days t.microseconds
+style_text Postgres t = postgres_text t.months t.days t.microseconds
+style_text Verbose t = verbose_text t.months t.days t.microseconds
+style_text Sql t = sql_text t.months t.days t.microseconds
+style_text IsoStrict t = iso_text t.months t.days t.microseconds

@@ -3,7 +3,7 @@
 use Rattle.std.specs.Prelude.{ℕ, ℤ, pos, unsigned_abs, int_lt, Bool, not, false, List, [], ◌∷◌, ◌++◌, codes, decimal, ◌==◌, ◌&&◌, if◌then◌else◌}
 use Rattle.std.specs.Ordering.{int_eq}
 use Rattle.std.specs.Int.{is_negative}
-use Rattle.scan_core.specs.Padded.{padded, trimmed}
+use Rattle.scan_core.specs.Padded.{padded_digits, trimmed_digits}
 use Rattle.pg_interval_2.specs.Parts.{minus, has_negative, years_of, months_of, hours_of, minutes_of, seconds_of, subsecond_of}
 use Rattle.pg_interval_2.specs.PostgresText.{counted_name, number_words}
 use Rattle.pg_interval_2.specs.Turned.{turned_sign}
@@ -23,7 +23,7 @@ unit_words negative n name = number_words negative n (counted_name false n name)
 
 -- seconds with microseconds as one exact decimal without zeros at its end: `6.5`
 unfoldable pub second_digits : ℕ → ℕ → List ℕ
-second_digits seconds micros = decimal seconds ++ (codes "." ++ trimmed (padded 6 micros))
+second_digits seconds micros = decimal seconds ++ (codes "." ++ trimmed_digits (padded_digits 6 micros))
 
 -- the seconds with their microseconds, where these aren't 0
 unfoldable pub second_words : Bool → ℕ → ℕ → List (List ℕ)

@@ -12,7 +12,7 @@ ghost use Rattle.pg_interval_2.specs.Iso.{IsIso};
 ghost use Rattle.pg_interval_2.specs.IsoStrict.{IsIsoStrict};
 ghost use Rattle.pg_interval_2.specs.IsoWithoutWeeks.{IsIsoWithoutWeeks, has_week};
 ghost use Rattle.pg_interval_2.specs.Ranges.{IsInRange};
-ghost use Rattle.pg_interval_2.specs.Styles.{Shape, written};
+ghost use Rattle.pg_interval_2.specs.Styles.{Shape, style_text};
 ghost use Rattle.pg_interval_2.specs.Sums.{plus, less};
 
 /// No text spells two lists of counts in one style, so none denotes two intervals.
@@ -24,9 +24,9 @@ pub fn text_has_one_list_of_counts()
 /// The written text of an interval, read in its own style, denotes this interval and no other.
 pub fn written_text_is_read_back()
     ensures denotes { (style : Style) (t : Interval) → IsInRange t
-        → Denotes (Shape style) (written style t) t }
+        → Denotes (Shape style) (style_text style t) t }
     ensures alone { (style : Style) (t u : Interval) → IsInRange t
-        → Denotes (Shape style) (written style t) u → u ≡ t }
+        → Denotes (Shape style) (style_text style t) u → u ≡ t }
 {}
 
 /// What weeks changed of the ISO style: a text without a `W` spells the counts that it spelled before they were read, and a
@@ -45,7 +45,7 @@ pub fn strict_texts_are_iso_texts()
 
 /// What is written in ISO style is in the strict style too, and denotes the interval by it.
 pub fn written_iso_texts_are_strict()
-    ensures { (t : Interval) → IsInRange t → Denotes IsIsoStrict (written Iso t) t }
+    ensures { (t : Interval) → IsInRange t → Denotes IsIsoStrict (style_text Iso t) t }
 {}
 
 /// What a text denotes is within the types of the parts, in every style.
@@ -64,7 +64,7 @@ pub fn texts_are_of_one_alphabet()
 /// The written text of an interval is one line: it has no line feed.
 pub fn written_text_is_one_line()
     ensures { (style : Style) (t : Interval) → IsInRange t
-        → IsTrue (list_all is_no_feed (written style t)) }
+        → IsTrue (list_all is_no_feed (style_text style t)) }
 {}
 
 /// Sums don't hang on the order, and a sum and a difference undo each other. So where `a.checked_add(b)` is `Some(c)`,

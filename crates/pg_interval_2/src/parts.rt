@@ -1,7 +1,7 @@
 //! The parts of an interval's numbers, by magnitude, and how they are appended to a text.
 ghost use Rattle.std.specs.Prelude.{◌≡◌, ◌+◌, ◌≤◌, ◌<◌, ◌++◌, decimal, codes};
 ghost use Rattle.arrayvec.specs.ArrayString.{array_string_len};
-ghost use Rattle.scan_core.specs.Padded.{padded};
+ghost use Rattle.scan_core.specs.Padded.{padded_digits};
 ghost use Rattle.pg_interval_2.specs.Turned.{turned_sign};
 ghost use Rattle.pg_interval_2.specs.Parts.{minus, has_negative, years_of, months_of, hours_of, minutes_of, seconds_of, subsecond_of};
 
@@ -92,7 +92,7 @@ pub fn push_digits<const CAP: usize>(out: &mut ArrayString<CAP>, value: u32)
 pub fn push_fraction<const CAP: usize>(out: &mut ArrayString<CAP>, micros: u32)
     requires micros { micros < 1_000_000 }
     requires room { array_string_len out.old + 7 ≤ CAP }
-    ensures bytes { out.new.bytes ≡ out.old.bytes ++ (codes "." ++ padded 6 micros) }
+    ensures bytes { out.new.bytes ≡ out.old.bytes ++ (codes "." ++ padded_digits 6 micros) }
     ensures len { array_string_len out.new ≤ array_string_len out.old + 7 }
 {
     push_text(out, ".");

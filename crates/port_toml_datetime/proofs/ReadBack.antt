@@ -3,7 +3,7 @@ use Rattle.std.proofs.Common.{◌≡◌, ℕ, zero, suc, ◌+◌, ◌-◌, ◌*�
 use Rattle.std.proofs.lemmas.Fmt.{length-decimal-le}
 use Rattle.std.proofs.lemmas.List.{take_at, length-replicate, replicate-append-replicate}
 use Rattle.scan_core.specs.Digits.{AreDigits, number_of}
-use Rattle.scan_core.specs.Padded.{padded, trimmed}
+use Rattle.scan_core.specs.Padded.{padded_digits, trimmed_digits}
 use Rattle.scan_core.proofs.DigitFacts.{digits_left}
 use Rattle.scan_core.proofs.PaddedFacts.{length-padded, digits-padded, number_of-padded}
 use Rattle.port_toml_datetime.specs.declared.date.Date.{Date}
@@ -22,7 +22,7 @@ use Rattle.port_toml_datetime.specs.WellFormed.{IsRealDay, AreRealSeconds, IsRea
 
 -- ---- fields
 
-padded_field : (count lo hi n : ℕ) → 0 < count → n < 10 ^ count → n < 2 ^ 64 → lo ≤ n → n ≤ hi → IsField count lo hi (padded count n) n
+padded_field : (count lo hi n : ℕ) → 0 < count → n < 10 ^ count → n < 2 ^ 64 → lo ≤ n → n ≤ hi → IsField count lo hi (padded_digits count n) n
 padded_field count lo hi n some small fits least most =
     record {
       long = omega (arith, length-padded count n, length-decimal-le count n some small fits);
@@ -32,7 +32,7 @@ padded_field count lo hi n some small fits least most =
       most = most;
     }
 
-two_field : (lo hi n : ℕ) → hi < 100 → lo ≤ n → n ≤ hi → IsField 2 lo hi (padded 2 n) n
+two_field : (lo hi n : ℕ) → hi < 100 → lo ≤ n → n ≤ hi → IsField 2 lo hi (padded_digits 2 n) n
 two_field lo hi n small least most = padded_field 2 lo hi n (omega arith) (omega arith) (omega arith) least most
 
 -- ---- fractions
@@ -59,12 +59,12 @@ fraction_back : (n : ℕ) → n < 10 ^ 9 → IsSecondFraction (codes "." ++ frac
 unfolding nanoseconds fraction_text
 fraction_back n small =
     let f = padded_field 9 0 (10 ^ 9) n (omega arith) small (omega arith) (omega arith) (omega arith) in
-    let fills = zero_fills (trimmed (padded 9 n)) (padded 9 n) (omega (arith, f.long)) (trimmed_fills (padded 9 n)) in
-    let text : List ℕ = or_zero (trimmed (padded 9 n)) in
-    let whole = filled text (padded 9 n) f.long fills in
+    let fills = zero_fills (trimmed_digits (padded_digits 9 n)) (padded_digits 9 n) (omega (arith, f.long)) (trimmed_fills (padded_digits 9 n)) in
+    let text : List ℕ = or_zero (trimmed_digits (padded_digits 9 n)) in
+    let whole = filled text (padded_digits 9 n) f.long fills in
     record {
       digits = text;
-      some = some_digit (trimmed (padded 9 n));
+      some = some_digit (trimmed_digits (padded_digits 9 n));
       all_digits = digits_left text (replicate fills.0 48) (subst AreDigits fills.1 f.digits);
       joined = refl;
       value = ap (λ (m : ℕ). Some m) (f.number ∙ ap number_of (sym whole));
@@ -86,9 +86,9 @@ date_back : (d : Date) → IsRealDay d → IsDate (date_text d) d
 unfolding date_text
 date_back d r =
     record {
-      year_text = padded 4 d.year;
-      month_text = padded 2 d.month;
-      day_text = padded 2 d.day;
+      year_text = padded_digits 4 d.year;
+      month_text = padded_digits 2 d.month;
+      day_text = padded_digits 2 d.day;
       years = padded_field 4 0 9999 d.year (omega arith) (omega (arith, r.year)) (omega (arith, r.year)) (omega arith) r.year;
       months = two_field 1 12 d.month (omega arith) r.month r.months;
       days = two_field 1 _ d.day (days_short d.year d.month) r.day r.days;
@@ -99,16 +99,16 @@ seconds_back : (s n : Option ℕ) → AreRealSeconds s n → IsPerhapsSeconds (s
 seconds_back None None a = inl (refl, refl, refl)
 seconds_back None (Some n) a = absurd a
 seconds_back (Some s) None a =
-    inr (record { digits = padded 2 s; fraction = []; number = s; field = two_field 0 60 s (omega arith) (omega arith) a; fractions = inl (refl, refl); joined = ap (λ (l : List ℕ). 58 ∷ l) (sym (append-nil (padded 2 s))); value = refl })
+    inr (record { digits = padded_digits 2 s; fraction = []; number = s; field = two_field 0 60 s (omega arith) (omega arith) a; fractions = inl (refl, refl); joined = ap (λ (l : List ℕ). 58 ∷ l) (sym (append-nil (padded_digits 2 s))); value = refl })
 seconds_back (Some s) (Some n) a =
-    inr (record { digits = padded 2 s; fraction = codes "." ++ fraction_text n; number = s; field = two_field 0 60 s (omega arith) (omega arith) a.0; fractions = inr (fraction_back n a.1); joined = refl; value = refl })
+    inr (record { digits = padded_digits 2 s; fraction = codes "." ++ fraction_text n; number = s; field = two_field 0 60 s (omega arith) (omega arith) a.0; fractions = inr (fraction_back n a.1); joined = refl; value = refl })
 
 time_back : (t : Time) → IsRealTime t → IsTime (time_text t) t
 unfolding time_text
 time_back t c =
     record {
-      hour_text = padded 2 t.hour;
-      minute_text = padded 2 t.minute;
+      hour_text = padded_digits 2 t.hour;
+      minute_text = padded_digits 2 t.minute;
       second_text = second_text t.second t.nanosecond;
       hours = two_field 0 23 t.hour (omega arith) (omega arith) c.hour;
       minutes = two_field 0 59 t.minute (omega arith) (omega arith) c.minute;
@@ -128,8 +128,8 @@ offset_back Z near = inl (inl refl, refl)
 offset_back (Custom (pos n)) near =
     inr (record {
       negative = false;
-      hour_text = padded 2 (n / 60);
-      minute_text = padded 2 (n % 60);
+      hour_text = padded_digits 2 (n / 60);
+      minute_text = padded_digits 2 (n % 60);
       hour = n / 60;
       minute = n % 60;
       hours = two_field 0 23 (n / 60) (omega arith) (omega arith) (omega arith);
@@ -140,8 +140,8 @@ offset_back (Custom (pos n)) near =
 offset_back (Custom (negsuc n)) near =
     inr (record {
       negative = true;
-      hour_text = padded 2 ((n + 1) / 60);
-      minute_text = padded 2 ((n + 1) % 60);
+      hour_text = padded_digits 2 ((n + 1) / 60);
+      minute_text = padded_digits 2 ((n + 1) % 60);
       hour = (n + 1) / 60;
       minute = (n + 1) % 60;
       hours = two_field 0 23 ((n + 1) / 60) (omega arith) (omega arith) (omega arith);

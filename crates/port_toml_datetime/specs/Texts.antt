@@ -1,7 +1,7 @@
 -- Written texts, by the same sections of the TOML specification 1.1: `1979-05-27T07:32:00.5-07:00`.
 -- Each width is a least width: a number with more digits is written whole.
 use Rattle.std.specs.Prelude.{ℕ, ◌+◌, ◌/◌, ◌%◌, true, false, ℤ, pos, negsuc, List, [], ◌∷◌, ◌++◌, codes, Option, Some, None}
-use Rattle.scan_core.specs.Padded.{padded, trimmed}
+use Rattle.scan_core.specs.Padded.{padded_digits, trimmed_digits}
 use Rattle.scan_core.specs.Number.{sign_text}
 use Rattle.port_toml_datetime.specs.declared.date.Date.{Date}
 use Rattle.port_toml_datetime.specs.declared.time.Time.{Time}
@@ -15,25 +15,25 @@ or_zero [] = codes "0"
 or_zero (b ∷ bs) = b ∷ bs
 
 unfoldable pub fraction_text : ℕ → List ℕ
-fraction_text nanosecond = or_zero (trimmed (padded 9 nanosecond))
+fraction_text nanosecond = or_zero (trimmed_digits (padded_digits 9 nanosecond))
 
 unfoldable pub date_text : Date → List ℕ
-date_text d = padded 4 d.year ++ (codes "-" ++ (padded 2 d.month ++ (codes "-" ++ padded 2 d.day)))
+date_text d = padded_digits 4 d.year ++ (codes "-" ++ (padded_digits 2 d.month ++ (codes "-" ++ padded_digits 2 d.day)))
 
 -- the second, which is 0 where a nanosecond stands alone, and the fraction
 abbrev pub second_text : Option ℕ → Option ℕ → List ℕ
 second_text None None = []
-second_text (Some s) None = codes ":" ++ padded 2 s
-second_text None (Some n) = codes ":" ++ (padded 2 0 ++ (codes "." ++ fraction_text n))
-second_text (Some s) (Some n) = codes ":" ++ (padded 2 s ++ (codes "." ++ fraction_text n))
+second_text (Some s) None = codes ":" ++ padded_digits 2 s
+second_text None (Some n) = codes ":" ++ (padded_digits 2 0 ++ (codes "." ++ fraction_text n))
+second_text (Some s) (Some n) = codes ":" ++ (padded_digits 2 s ++ (codes "." ++ fraction_text n))
 
 unfoldable pub time_text : Time → List ℕ
 time_text t =
-    padded 2 t.hour ++ (codes ":" ++ (padded 2 t.minute ++ second_text t.second t.nanosecond))
+    padded_digits 2 t.hour ++ (codes ":" ++ (padded_digits 2 t.minute ++ second_text t.second t.nanosecond))
 
 -- `HH:MM` of so many minutes
 abbrev pub minutes_text : ℕ → List ℕ
-minutes_text minutes = padded 2 (minutes / 60) ++ (codes ":" ++ padded 2 (minutes % 60))
+minutes_text minutes = padded_digits 2 (minutes / 60) ++ (codes ":" ++ padded_digits 2 (minutes % 60))
 
 -- a sign, and `HH:MM` of the magnitude
 abbrev pub signed_text : ℤ → List ℕ

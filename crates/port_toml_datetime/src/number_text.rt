@@ -1,7 +1,7 @@
 //! Numbers as decimal digits, each appended to a text.
 ghost use Rattle.std.specs.Prelude.{◌≡◌, ◌+◌, ◌<◌, ◌≤◌, ◌++◌};
 ghost use Rattle.arrayvec.specs.ArrayString.{array_string_len};
-ghost use Rattle.scan_core.specs.Padded.{padded};
+ghost use Rattle.scan_core.specs.Padded.{padded_digits};
 ghost use Rattle.port_toml_datetime.specs.Texts.{fraction_text};
 
 use scan_core::{Short, push_padded, push_trimmed};
@@ -12,7 +12,7 @@ use scan_core::{Short, push_padded, push_trimmed};
 pub(crate) fn push_two(out: &mut Short, value: u16)
     requires value { value < 1000 }
     requires room { array_string_len out.old + 3 ≤ 128 }
-    ensures bytes { out.new.bytes ≡ out.old.bytes ++ padded 2 value }
+    ensures bytes { out.new.bytes ≡ out.old.bytes ++ padded_digits 2 value }
     ensures len { array_string_len out.new ≤ array_string_len out.old + 3 }
     ensures two { value < 100 → array_string_len out.new ≡ array_string_len out.old + 2 }
 {
@@ -24,7 +24,7 @@ pub(crate) fn push_two(out: &mut Short, value: u16)
 #[tactic(auto, using(crate::proofs::TextFacts::short_year))]
 pub(crate) fn push_four(out: &mut Short, value: u16)
     requires { array_string_len out.old + 5 ≤ 128 }
-    ensures bytes { out.new.bytes ≡ out.old.bytes ++ padded 4 value }
+    ensures bytes { out.new.bytes ≡ out.old.bytes ++ padded_digits 4 value }
     ensures len { array_string_len out.new ≤ array_string_len out.old + 5 }
 {
     push_padded(out, u64::from(value), 4);

@@ -1,7 +1,7 @@
 //! The written texts, piece by piece.
 ghost use Rattle.std.specs.Prelude.{◌≡◌, ◌+◌, ◌<◌, ◌≤◌, ◌++◌, codes};
 ghost use Rattle.arrayvec.specs.ArrayString.{array_string_len};
-ghost use Rattle.scan_core.specs.Padded.{padded};
+ghost use Rattle.scan_core.specs.Padded.{padded_digits};
 ghost use Rattle.port_toml_datetime.specs.Texts.{date_text, delimiter_text, fraction_text, minutes_text, offset_text, part_text, second_text, signed_text, text_of, time_text};
 
 use crate::number_text::{push_four, push_fraction, push_two};
@@ -25,7 +25,7 @@ fn push_date(out: &mut Short, date: Date)
 /// A colon, and at least two digits.
 fn push_colon_two(out: &mut Short, value: u8)
     requires { array_string_len out.old + 4 ≤ 128 }
-    ensures bytes { out.new.bytes ≡ out.old.bytes ++ (codes ":" ++ padded 2 value) }
+    ensures bytes { out.new.bytes ≡ out.old.bytes ++ (codes ":" ++ padded_digits 2 value) }
     ensures len { array_string_len out.new ≤ array_string_len out.old + 4 }
 {
     push_text(out, ":");

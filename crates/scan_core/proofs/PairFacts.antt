@@ -6,7 +6,7 @@ use Rattle.std.proofs.lemmas.Bool.Decides.{Decides-below_and, Decides-by_and, De
 use Rattle.std.proofs.lemmas.Fmt.{decimal_digit}
 use Rattle.std.proofs.lemmas.Slice.Eq.{bytes_eq-Decides}
 use Rattle.std.proofs.lemmas.Str.Ascii.{IsAscii-from_all}
-use Rattle.scan_core.specs.Padded.{padded}
+use Rattle.scan_core.specs.Padded.{padded_digits}
 use Rattle.scan_core.specs.declared.text.TheConstants.{PAIRS}
 use Rattle.scan_core.proofs.PaddedFacts.{padded_more, padded_digit}
 
@@ -34,7 +34,7 @@ pub pairs_ascii : IsAscii PAIRS.now
 pairs_ascii =
     IsAscii-from_all PAIRS.now ((Decides-by_and (λ b. ltb b 128) (λ b. b < 128) all_ascii (λ b. Decides-ltb b 128) refl (λ _ _. refl) PAIRS.now).0 refl)
 
-padded_two : (n : ℕ) → n < 100 → padded 2 n ≡ pair n
+padded_two : (n : ℕ) → n < 100 → padded_digits 2 n ≡ pair n
 padded_two n h =
     elim (cases_lt n 10) [
       | inl small ↦
@@ -45,7 +45,7 @@ padded_two n h =
     ]
 
 -- the two bytes at twice a number below 100 are its digits
-pub pair_at : (n : ℕ) → n < 100 → take 2 (drop (n * 2) PAIRS.now) ≡ padded 2 n
+pub pair_at : (n : ℕ) → n < 100 → take 2 (drop (n * 2) PAIRS.now) ≡ padded_digits 2 n
 pair_at n h = entry_is n h ∙ sym (padded_two n h)
 
 abbrev second : ℕ → List ℕ
@@ -72,7 +72,7 @@ zeros_end zero m h = rw h refl
 zeros_end (suc k) m h = rw h (ap (λ (l : List ℕ). 48 ∷ l) (zeros_end k (suc k) refl))
 
 -- the last digit of a number that has another before it
-one_behind : (width n : ℕ) → HasMore 10 2 width n → n < 2 ^ 64 → padded width n ≡ padded (width - 1) (n / 10) ++ ((48 + n % 10) ∷ [])
+one_behind : (width n : ℕ) → HasMore 10 2 width n → n < 2 ^ 64 → padded_digits width n ≡ padded_digits (width - 1) (n / 10) ++ ((48 + n % 10) ∷ [])
 one_behind width n (inr ten) fits = padded_more width n ten fits
 one_behind width n (inl (small, wide)) fits =
     let tens : n / 10 ≡ 0 = omega (arith, small) in
@@ -81,19 +81,19 @@ one_behind width n (inl (small, wide)) fits =
     rw (tens, ones, padded_digit width n small, padded_digit (width - 1) 0 (omega arith)) (ap (λ (l : List ℕ). l ++ ((48 + n) ∷ [])) (zeros_end (width - 1 - 1) (width - 1) zeros))
 
 -- a digit alone
-pub one_wide : (width n : ℕ) → width < 2 → n < 10 → padded width n ≡ decimal n
+pub one_wide : (width n : ℕ) → width < 2 → n < 10 → padded_digits width n ≡ decimal n
 one_wide width n narrow small =
     let none : width - 1 ≡ 0 = omega (arith, narrow) in
     padded_digit width n small ∙ rw (none, decimal_digit n small) refl
 
 -- two digits that fill the width
-pub two_wide : (width n : ℕ) → width < 3 → HasMore 10 2 width n → n < 100 → padded width n ≡ padded 2 n
+pub two_wide : (width n : ℕ) → width < 3 → HasMore 10 2 width n → n < 100 → padded_digits width n ≡ padded_digits 2 n
 two_wide width n narrow more h =
     let less : width - 1 - 1 ≡ 0 = omega (arith, narrow) in
-    let front : padded (width - 1) (n / 10) ≡ (48 + n / 10) ∷ [] = padded_digit (width - 1) (n / 10) (omega (arith, h)) ∙ rw less refl in
+    let front : padded_digits (width - 1) (n / 10) ≡ (48 + n / 10) ∷ [] = padded_digit (width - 1) (n / 10) (omega (arith, h)) ∙ rw less refl in
     one_behind width n more (omega (arith, h)) ∙ ap (λ (l : List ℕ). l ++ ((48 + n % 10) ∷ [])) front ∙ sym (padded_two n h)
 
-pub length-two : (n : ℕ) → n < 100 → length (padded 2 n) ≡ 2
+pub length-two : (n : ℕ) → n < 100 → length (padded_digits 2 n) ≡ 2
 length-two n h = ap length (padded_two n h)
 
 fewer : (width n : ℕ) → HasMore 100 3 width n → HasMore 10 2 width n × HasMore 10 2 (width - 1) (n / 10)
@@ -105,7 +105,7 @@ fewer width n (inl (small, wide)) =
     ]
 
 -- the last two digits of a number that has others before them
-pub pair_behind : (width n : ℕ) → HasMore 100 3 width n → n < 2 ^ 64 → padded width n ≡ padded (width - 2) (n / 100) ++ padded 2 (n % 100)
+pub pair_behind : (width n : ℕ) → HasMore 100 3 width n → n < 2 ^ 64 → padded_digits width n ≡ padded_digits (width - 2) (n / 100) ++ padded_digits 2 (n % 100)
 pair_behind width n more fits =
     let each = fewer width n more in
     let less : width - 1 - 1 ≡ width - 2 = omega arith in
@@ -114,7 +114,7 @@ pair_behind width n more fits =
     let ones : n % 10 ≡ n % 100 % 10 = omega arith in
     one_behind width n each.0 fits
     ∙ ap (λ (l : List ℕ). l ++ ((48 + n % 10) ∷ [])) (one_behind (width - 1) (n / 10) each.1 (omega (arith, fits)))
-    ∙ append_assoc (padded (width - 1 - 1) (n / 10 / 10)) ((48 + n / 10 % 10) ∷ []) ((48 + n % 10) ∷ [])
+    ∙ append_assoc (padded_digits (width - 1 - 1) (n / 10 / 10)) ((48 + n / 10 % 10) ∷ []) ((48 + n % 10) ∷ [])
     ∙ rw (less, front, tens, ones, padded_two (n % 100) (omega arith)) refl
 
 half : (width n : ℕ) → HasMore 10000 5 width n → HasMore 100 3 width n × HasMore 100 3 (width - 2) (n / 100)
@@ -127,24 +127,24 @@ half width n (inl (small, wide)) =
 
 -- and the last four
 pub four_behind : (width n : ℕ) → HasMore 10000 5 width n → n < 2 ^ 64
-    → padded width n ≡ (padded (width - 4) (n / 10000) ++ padded 2 (n / 100 % 100)) ++ padded 2 (n % 100)
+    → padded_digits width n ≡ (padded_digits (width - 4) (n / 10000) ++ padded_digits 2 (n / 100 % 100)) ++ padded_digits 2 (n % 100)
 four_behind width n more fits =
     let each = half width n more in
     let less : width - 2 - 2 ≡ width - 4 = omega arith in
     let front : n / 100 / 100 ≡ n / 10000 = omega arith in
     pair_behind width n each.0 fits
-    ∙ ap (λ (l : List ℕ). l ++ padded 2 (n % 100)) (pair_behind (width - 2) (n / 100) each.1 (omega (arith, fits)) ∙ rw (less, front) refl)
+    ∙ ap (λ (l : List ℕ). l ++ padded_digits 2 (n % 100)) (pair_behind (width - 2) (n / 100) each.1 (omega (arith, fits)) ∙ rw (less, front) refl)
 
 pub length-pair_behind : (width n : ℕ) → HasMore 100 3 width n → n < 2 ^ 64
-    → length (padded width n) ≡ length (padded (width - 2) (n / 100)) + 2
+    → length (padded_digits width n) ≡ length (padded_digits (width - 2) (n / 100)) + 2
 length-pair_behind width n more fits =
     ap length (pair_behind width n more fits)
-    ∙ length-append (padded (width - 2) (n / 100)) (padded 2 (n % 100))
-    ∙ ap (λ (k : ℕ). length (padded (width - 2) (n / 100)) + k) (length-two (n % 100) (omega arith))
+    ∙ length-append (padded_digits (width - 2) (n / 100)) (padded_digits 2 (n % 100))
+    ∙ ap (λ (k : ℕ). length (padded_digits (width - 2) (n / 100)) + k) (length-two (n % 100) (omega arith))
 
 pub length-four_behind : (width n : ℕ) → HasMore 10000 5 width n → n < 2 ^ 64
-    → length (padded width n) ≡ length (padded (width - 4) (n / 10000)) + 4
+    → length (padded_digits width n) ≡ length (padded_digits (width - 4) (n / 10000)) + 4
 length-four_behind width n more fits =
-    let split = ap length (four_behind width n more fits) ∙ length-append (padded (width - 4) (n / 10000) ++ padded 2 (n / 100 % 100)) (padded 2 (n % 100)) in
-    let front = length-append (padded (width - 4) (n / 10000)) (padded 2 (n / 100 % 100)) in
+    let split = ap length (four_behind width n more fits) ∙ length-append (padded_digits (width - 4) (n / 10000) ++ padded_digits 2 (n / 100 % 100)) (padded_digits 2 (n % 100)) in
+    let front = length-append (padded_digits (width - 4) (n / 10000)) (padded_digits 2 (n / 100 % 100)) in
     omega (arith, split, front, length-two (n / 100 % 100) (omega arith), length-two (n % 100) (omega arith))

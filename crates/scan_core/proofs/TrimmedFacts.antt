@@ -5,14 +5,14 @@ use Rattle.std.proofs.lemmas.Bool.{cases_lt, eqb-true}
 use Rattle.std.proofs.lemmas.Bool.Decides.{nat_tests}
 use Rattle.std.proofs.lemmas.List.{length_push}
 use Rattle.scan_core.specs.Digits.{AreDigits, number_of}
-use Rattle.scan_core.specs.Padded.{padded, onto_trimmed, trimmed}
+use Rattle.scan_core.specs.Padded.{padded_digits, onto_trimmed, trimmed_digits}
 use Rattle.scan_core.specs.Shares.{rounded}
 use Rattle.scan_core.proofs.DigitFacts.{digits_left, number_of-append, number_of-zeros}
 use Rattle.scan_core.proofs.PaddedFacts.{number_of-padded, padded_more, padded_digit}
 
 -- ---- a digit at the end
 
-pub trimmed_zero : (xs : List ℕ) → trimmed (xs ++ (48 ∷ [])) ≡ trimmed xs
+pub trimmed_zero : (xs : List ℕ) → trimmed_digits (xs ++ (48 ∷ [])) ≡ trimmed_digits xs
 trimmed_zero [] = refl
 trimmed_zero (x ∷ xs) = rw (trimmed_zero xs) refl
 
@@ -24,7 +24,7 @@ some_behind : (xs : List ℕ) (c : ℕ) → 0 < length (xs ++ (c ∷ []))
 some_behind [] c = omega arith
 some_behind (x ∷ xs) c = omega arith
 
-pub trimmed_none : (xs : List ℕ) (c : ℕ) → (c == 48) ≡ false → trimmed (xs ++ (c ∷ [])) ≡ xs ++ (c ∷ [])
+pub trimmed_none : (xs : List ℕ) (c : ℕ) → (c == 48) ≡ false → trimmed_digits (xs ++ (c ∷ [])) ≡ xs ++ (c ∷ [])
 trimmed_none [] c h = rw h refl
 trimmed_none (x ∷ xs) c h = rw (trimmed_none xs c h) (onto_some x (xs ++ (c ∷ [])) (some_behind xs c))
 
@@ -35,33 +35,33 @@ not_zero d h = grind (arith, nat_tests)
 
 -- a zero is dropped from the end
 pub zero_dropped : (width n : ℕ) → 0 < n → n < 2 ^ 64 → n % 10 ≡ 0
-    → (trimmed (padded width n) ≡ trimmed (padded (width - 1) (n / 10)))
-    × (length (padded width n) ≡ length (padded (width - 1) (n / 10)) + 1)
+    → (trimmed_digits (padded_digits width n) ≡ trimmed_digits (padded_digits (width - 1) (n / 10)))
+    × (length (padded_digits width n) ≡ length (padded_digits (width - 1) (n / 10)) + 1)
 zero_dropped width n some fits none =
     let split = padded_more width n (omega (arith, some, none)) fits in
     let last = rw none at split in
-    (ap trimmed last ∙ trimmed_zero (padded (width - 1) (n / 10)), ap length last ∙ length_push (padded (width - 1) (n / 10)) 48)
+    (ap trimmed_digits last ∙ trimmed_zero (padded_digits (width - 1) (n / 10)), ap length last ∙ length_push (padded_digits (width - 1) (n / 10)) 48)
 
 -- the digits are kept where the last is no zero
-pub kept : (width n : ℕ) → n < 2 ^ 64 → n % 10 ≢ 0 → trimmed (padded width n) ≡ padded width n
+pub kept : (width n : ℕ) → n < 2 ^ 64 → n % 10 ≢ 0 → trimmed_digits (padded_digits width n) ≡ padded_digits width n
 kept width n fits h =
     elim (cases_lt n 10) [
       | inr ten ↦
           let split = padded_more width n ten fits in
-          ap trimmed split ∙ trimmed_none (padded (width - 1) (n / 10)) (48 + n % 10) (not_zero (n % 10) h) ∙ sym split
+          ap trimmed_digits split ∙ trimmed_none (padded_digits (width - 1) (n / 10)) (48 + n % 10) (not_zero (n % 10) h) ∙ sym split
       | inl small ↦
           let last : n % 10 ≡ n = omega (arith, small) in
           let split = padded_digit width n small in
-          ap trimmed split ∙ trimmed_none (replicate (width - 1) 48) (48 + n) (not_zero n (rw last at h)) ∙ sym split
+          ap trimmed_digits split ∙ trimmed_none (replicate (width - 1) 48) (48 + n) (not_zero n (rw last at h)) ∙ sym split
     ]
 
-trimmed_zeros : (k : ℕ) → trimmed (replicate k 48) ≡ []
+trimmed_zeros : (k : ℕ) → trimmed_digits (replicate k 48) ≡ []
 trimmed_zeros zero = refl
 trimmed_zeros (suc k) = rw (trimmed_zeros k) refl
 
 -- nothing is left of zero
-pub trimmed_nothing : (width : ℕ) → trimmed (padded width 0) ≡ []
-trimmed_nothing width = ap trimmed (padded_digit width 0 (omega arith)) ∙ trimmed_zero (replicate (width - 1) 48) ∙ trimmed_zeros (width - 1)
+pub trimmed_nothing : (width : ℕ) → trimmed_digits (padded_digits width 0) ≡ []
+trimmed_nothing width = ap trimmed_digits (padded_digit width 0 (omega arith)) ∙ trimmed_zero (replicate (width - 1) 48) ∙ trimmed_zeros (width - 1)
 
 -- ---- zeros fill up the digits
 
@@ -77,12 +77,12 @@ onto_fills : (b k : ℕ) (front bs : List ℕ) → bs ≡ front ++ replicate k 4
 onto_fills b k [] bs e = alone_if (b == 48) b k bs (eqb-true b 48) e
 onto_fills b k (c ∷ cs) bs e = (k, ap (λ (l : List ℕ). b ∷ l) e)
 
-pub trimmed_fills : (ds : List ℕ) → Fills (trimmed ds) ds
+pub trimmed_fills : (ds : List ℕ) → Fills (trimmed_digits ds) ds
 trimmed_fills [] = (0, refl)
-trimmed_fills (b ∷ bs) = let r = trimmed_fills bs in onto_fills b r.0 (trimmed bs) bs r.1
+trimmed_fills (b ∷ bs) = let r = trimmed_fills bs in onto_fills b r.0 (trimmed_digits bs) bs r.1
 
-pub digits-trimmed : (ds : List ℕ) → AreDigits ds → AreDigits (trimmed ds)
-digits-trimmed ds are = let fills = trimmed_fills ds in digits_left (trimmed ds) (replicate fills.0 48) (subst AreDigits fills.1 are)
+pub digits-trimmed : (ds : List ℕ) → AreDigits ds → AreDigits (trimmed_digits ds)
+digits-trimmed ds are = let fills = trimmed_fills ds in digits_left (trimmed_digits ds) (replicate fills.0 48) (subst AreDigits fills.1 are)
 
 some_left : (n k : ℕ) (text ds : List ℕ) → number_of ds ≡ n → 0 < n → ds ≡ text ++ replicate k 48 → 0 < length text
 some_left n k [] ds is some e =
@@ -91,10 +91,10 @@ some_left n k [] ds is some e =
 some_left n k (b ∷ bs) ds is some e = omega arith
 
 -- a digit is left of a number that isn't 0
-pub trimmed_some : (width n : ℕ) → 0 < n → n < 2 ^ 64 → 0 < length (trimmed (padded width n))
+pub trimmed_some : (width n : ℕ) → 0 < n → n < 2 ^ 64 → 0 < length (trimmed_digits (padded_digits width n))
 trimmed_some width n some fits =
-    let fills = trimmed_fills (padded width n) in
-    some_left n fills.0 (trimmed (padded width n)) (padded width n) (number_of-padded width n fits) some fills.1
+    let fills = trimmed_fills (padded_digits width n) in
+    some_left n fills.0 (trimmed_digits (padded_digits width n)) (padded_digits width n) (number_of-padded width n fits) some fills.1
 
 -- ---- as a fraction they are the same
 
@@ -120,7 +120,7 @@ rounded-zeros : (scale k : ℕ) (ds : List ℕ) → rounded scale (ds ++ replica
 rounded-zeros scale zero ds = ap (rounded scale) (append-nil ds)
 rounded-zeros scale (suc k) ds = ap (rounded scale) (zeros_turned k ds) ∙ rounded-zeros scale k (ds ++ (48 ∷ [])) ∙ rounded-zero_behind scale ds
 
-pub rounded-trimmed : (scale : ℕ) (ds : List ℕ) → rounded scale (trimmed ds) ≡ rounded scale ds
+pub rounded-trimmed : (scale : ℕ) (ds : List ℕ) → rounded scale (trimmed_digits ds) ≡ rounded scale ds
 rounded-trimmed scale ds =
     let fills = trimmed_fills ds in
-    sym (ap (rounded scale) fills.1 ∙ rounded-zeros scale fills.0 (trimmed ds))
+    sym (ap (rounded scale) fills.1 ∙ rounded-zeros scale fills.0 (trimmed_digits ds))

@@ -2,8 +2,8 @@
 use Rattle.std.specs.Prelude.{ℕ, ◌-◌, ◌==◌, List, [], ◌∷◌, ◌++◌, length, replicate, decimal, if◌then◌else◌}
 
 -- the digits of n, with leading zeros to at least this width
-abbrev pub padded : ℕ → ℕ → List ℕ
-padded width n = replicate (width - length (decimal n)) 48 ++ decimal n
+abbrev pub padded_digits : ℕ → ℕ → List ℕ
+padded_digits width n = replicate (width - length (decimal n)) 48 ++ decimal n
 
 -- a byte in front of digits whose zeros at the end are dropped, but for a zero with nothing behind it
 abbrev pub onto_trimmed : ℕ → List ℕ → List ℕ
@@ -11,6 +11,6 @@ onto_trimmed b [] = if b == 48 then [] else (b ∷ [])
 onto_trimmed b (c ∷ cs) = b ∷ (c ∷ cs)
 
 -- without the zeros at the end
-abbrev pub trimmed : List ℕ → List ℕ
-trimmed [] = []
-trimmed (b ∷ bs) = onto_trimmed b (trimmed bs)
+abbrev pub trimmed_digits : List ℕ → List ℕ
+trimmed_digits [] = []
+trimmed_digits (b ∷ bs) = onto_trimmed b (trimmed_digits bs)

@@ -1,7 +1,7 @@
 //! Short texts, and what is appended to them.
 ghost use Rattle.std.specs.Prelude.{◌≡◌, ◌⊎◌, ◌+◌, ◌-◌, ◌<◌, ◌≤◌, ◌++◌, length, decimal, replicate, max};
 ghost use Rattle.arrayvec.specs.ArrayString.{array_string_len};
-ghost use Rattle.scan_core.specs.Padded.{padded, trimmed};
+ghost use Rattle.scan_core.specs.Padded.{padded_digits, trimmed_digits};
 
 use arrayvec::ArrayString;
 use itoa::Buffer;
@@ -57,8 +57,8 @@ pub fn push_padded<const CAP: usize>(out: &mut ArrayString<CAP>, value: u64, wid
 fn push_many<const CAP: usize>(out: &mut ArrayString<CAP>, value: u64, width: usize)
     requires many { ((value < 10_000) × (5 ≤ width)) ⊎ (10_000 ≤ value) }
     requires width { width ≤ 20 }
-    requires room { array_string_len out.old + length (padded width value) ≤ CAP }
-    ensures bytes { out.new.bytes ≡ out.old.bytes ++ padded width value }
+    requires room { array_string_len out.old + length (padded_digits width value) ≤ CAP }
+    ensures bytes { out.new.bytes ≡ out.old.bytes ++ padded_digits width value }
 {
     if value < 100_000_000 && width < 9 {
         push_up_to_four(out, value / 10_000, width.saturating_sub(4));
@@ -73,7 +73,7 @@ fn push_many<const CAP: usize>(out: &mut ArrayString<CAP>, value: u64, width: us
 fn push_long<const CAP: usize>(out: &mut ArrayString<CAP>, value: u64, width: usize)
     requires width { width ≤ 20 }
     requires room { array_string_len out.old + max width (length (decimal value)) ≤ CAP }
-    ensures bytes { out.new.bytes ≡ out.old.bytes ++ padded width value }
+    ensures bytes { out.new.bytes ≡ out.old.bytes ++ padded_digits width value }
 {
     let mut buffer = Buffer::new();
     let digits = buffer.format(value);
@@ -88,8 +88,8 @@ fn push_long<const CAP: usize>(out: &mut ArrayString<CAP>, value: u64, width: us
 fn push_up_to_four<const CAP: usize>(out: &mut ArrayString<CAP>, value: u64, width: usize)
     requires value { value < 10_000 }
     requires width { width < 5 }
-    requires room { array_string_len out.old + length (padded width value) ≤ CAP }
-    ensures bytes { out.new.bytes ≡ out.old.bytes ++ padded width value }
+    requires room { array_string_len out.old + length (padded_digits width value) ≤ CAP }
+    ensures bytes { out.new.bytes ≡ out.old.bytes ++ padded_digits width value }
 {
     if value < 100 && width < 3 {
         push_up_to_two(out, value, width);
@@ -104,8 +104,8 @@ fn push_up_to_four<const CAP: usize>(out: &mut ArrayString<CAP>, value: u64, wid
 fn push_up_to_two<const CAP: usize>(out: &mut ArrayString<CAP>, value: u64, width: usize)
     requires value { value < 100 }
     requires width { width < 3 }
-    requires room { array_string_len out.old + length (padded width value) ≤ CAP }
-    ensures bytes { out.new.bytes ≡ out.old.bytes ++ padded width value }
+    requires room { array_string_len out.old + length (padded_digits width value) ≤ CAP }
+    ensures bytes { out.new.bytes ≡ out.old.bytes ++ padded_digits width value }
 {
     if value < 10 && width < 2 {
         push_digit(out, value);
@@ -130,7 +130,7 @@ fn push_digit<const CAP: usize>(out: &mut ArrayString<CAP>, value: u64)
 fn push_pair<const CAP: usize>(out: &mut ArrayString<CAP>, value: u64)
     requires value { value < 100 }
     requires room { array_string_len out.old + 2 ≤ CAP }
-    ensures bytes { out.new.bytes ≡ out.old.bytes ++ padded 2 value }
+    ensures bytes { out.new.bytes ≡ out.old.bytes ++ padded_digits 2 value }
 {
     let at = value as usize * 2;
     out.push_str(&PAIRS[at..at + 2]);
@@ -139,7 +139,7 @@ fn push_pair<const CAP: usize>(out: &mut ArrayString<CAP>, value: u64)
 /// The number without the zeros at its end, and how many digits of so many are left.
 fn without_zeros(value: u64, width: usize) -> (u64, usize)
     requires { 0 < value }
-    ensures trimmed { padded result.1 result.0 ≡ trimmed (padded width value) }
+    ensures trimmed { padded_digits result.1 result.0 ≡ trimmed_digits (padded_digits width value) }
     ensures width { result.1 ≤ width }
     ensures len { max result.1 (length (decimal result.0)) ≤ max width (length (decimal value)) }
 {
@@ -157,7 +157,7 @@ fn without_zeros(value: u64, width: usize) -> (u64, usize)
 pub fn push_trimmed<const CAP: usize>(out: &mut ArrayString<CAP>, value: u64, width: usize)
     requires width { width ≤ 20 }
     requires room { array_string_len out.old + max width (length (decimal value)) ≤ CAP }
-    ensures bytes { out.new.bytes ≡ out.old.bytes ++ trimmed (padded width value) }
+    ensures bytes { out.new.bytes ≡ out.old.bytes ++ trimmed_digits (padded_digits width value) }
     ensures len { array_string_len out.new
         ≤ array_string_len out.old + max width (length (decimal value)) }
 {

@@ -5,7 +5,7 @@ use Rattle.std.proofs.Math.Facts.{to_z-of_z}
 use Rattle.scan_core.specs.declared.share.Part.{Part}
 use Rattle.pg_interval_2.specs.Denotes.{Denotes, Misfits}
 use Rattle.pg_interval_2.specs.Ranges.{IsInRange}
-use Rattle.pg_interval_2.specs.Styles.{Shape, written}
+use Rattle.pg_interval_2.specs.Styles.{Shape, style_text}
 use Rattle.pg_interval_2.specs.declared.interval.Interval.{Interval}
 use Rattle.pg_interval_2.specs.declared.style.Style.{Style}
 use Rattle.forms.specs.declared.cause.Cause.{Cause}
@@ -37,7 +37,7 @@ is_range cause code is answered =
     rw (answered, same) refl
 
 -- a text that is written of an interval is written of the same one in the same style
-pub written_again : (s style : Style) (made t : Interval) (bytes : List ℕ) → s ≡ style → made ≡ t → bytes ≡ written s made → bytes ≡ written style t
+pub written_again : (s style : Style) (made t : Interval) (bytes : List ℕ) → s ≡ style → made ≡ t → bytes ≡ style_text s made → bytes ≡ style_text style t
 written_again s style made t bytes same is h = rw (sym same, sym is) h
 
 -- an interval that was made of three numbers as 32, 32 and 64 bits hold them was made of the numbers

@@ -2,7 +2,7 @@
 ghost use Rattle.std.specs.Prelude.{◌≡◌, ◌≢◌, ◌<◌, pos, None, Some, Ok, Err, IsUtf8};
 ghost use Rattle.scan_core.specs.declared.share.Part.{Part};
 ghost use Rattle.pg_interval_2.specs.Denotes.{Denotes, HasNoShape, Misfits};
-ghost use Rattle.pg_interval_2.specs.Styles.{Shape, written};
+ghost use Rattle.pg_interval_2.specs.Styles.{Shape, style_text};
 ghost use Rattle.pg_interval_2.specs.declared.interval.Interval.{Interval as AnyInterval};
 ghost use Rattle.pg_interval_2.specs.declared.style.Style.{Style as AnyStyle};
 ghost use Rattle.forms.specs.Names.{style_of};
@@ -91,7 +91,7 @@ pub extern "C" fn timeforms_interval_to_text(
           days = interval.now.days;
           microseconds = interval.now.microseconds;
         } in
-        Leaves (written style t) out.old out.new result }
+        Leaves (style_text style t) out.old out.new result }
     ensures form { ((f : AnyForm) → form ≡ number_of f → style_of f ≡ None)
         → Refused no_such_form out.old out.new result }
 {

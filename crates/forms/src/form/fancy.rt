@@ -2,7 +2,7 @@
 ghost use Rattle.std.specs.Prelude.{◌≡◌, ◌*◌, ◌^◌, ◌<◌, ◌≤◌, IfOk};
 ghost use Rattle.std.specs.Duration.{as_nanos};
 ghost use Rattle.arrayvec.specs.ArrayString.{array_string_len};
-ghost use Rattle.fancy_duration.specs.Written.{written};
+ghost use Rattle.fancy_duration.specs.Written.{length_text};
 ghost use Rattle.forms.specs.declared.form.Form.{Form as AnyForm};
 ghost use Rattle.forms.specs.Answers.{bytes_of};
 ghost use Rattle.forms.specs.Forms.{Reads, Writes};
@@ -100,7 +100,7 @@ fn length_of(nanos: i128) -> Result<u128, Cause>
 /// The written text of a length.
 fn written(nanos: u128) -> Short
     requires { nanos < 2 ^ 64 * 1_000_000_000 }
-    ensures bytes { result.bytes ≡ written nanos }
+    ensures bytes { result.bytes ≡ length_text nanos }
     ensures len { array_string_len result ≤ 96 }
 {
     duration(nanos).text()

@@ -1,7 +1,7 @@
 //! The interval forms, each a style of intervals.
 ghost use Rattle.std.specs.Prelude.{◌≡◌, ◌+◌, ◌*◌, ◌<◌, ◌≤◌, IfOk, length};
 ghost use Rattle.arrayvec.specs.ArrayString.{array_string_len};
-ghost use Rattle.pg_interval_2.specs.Styles.{Shape, written};
+ghost use Rattle.pg_interval_2.specs.Styles.{Shape, style_text};
 ghost use Rattle.forms.specs.Answers.{Is, ReadsBy, WritesBy, bytes_of};
 ghost use Rattle.forms.specs.Values.{IsWithinBounds};
 ghost use Rattle.forms.specs.form.Intervals.{worth, held, interval_of, interval_of_length};
@@ -64,7 +64,7 @@ pub fn read_counted<L: Ledger>(
 /// The written text of a triple, or of a length in days and microseconds.
 pub fn write(style: Style, value: Value) -> Result<Short, Cause>
     requires { IsWithinBounds value }
-    ensures answer { WritesBy (Is held) (written style) value (bytes_of result) }
+    ensures answer { WritesBy (Is held) (style_text style) value (bytes_of result) }
     ensures len { IfOk result (λ out. array_string_len out ≤ 96) }
 {
     let interval = interval_for(value)?;
@@ -79,7 +79,7 @@ pub fn push<const CAP: usize>(
 ) -> Result<(), Cause>
     requires within { IsWithinBounds value }
     requires room { array_string_len out.old + 96 ≤ CAP }
-    ensures answer { Puts (WritesBy (Is held) (written style) value)
+    ensures answer { Puts (WritesBy (Is held) (style_text style) value)
         out.old.bytes out.new.bytes result }
     ensures len { array_string_len out.new ≤ array_string_len out.old + 96 }
 {

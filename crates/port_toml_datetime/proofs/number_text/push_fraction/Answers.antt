@@ -1,5 +1,5 @@
 use Rattle.std.proofs.Common.{◌≡◌, ℕ, ◌++◌, ◌∙◌, ap, arith}
-use Rattle.scan_core.specs.Padded.{padded, trimmed}
+use Rattle.scan_core.specs.Padded.{padded_digits, trimmed_digits}
 use Rattle.port_toml_datetime.proofs.PaddedFacts.{some_pushed, zero_pushed}
 use Rattle.port_toml_datetime.proofs.number_text.push_fraction.Goals as goal
 
@@ -10,4 +10,4 @@ pub returns-else-nanosecond-eq0-clause-bytes : goal.returns-else-nanosecond-eq0-
 returns-else-nanosecond-eq0-clause-bytes c =
     let same : c.from.result ≡ c.args.nanosecond = c.from.ensures in
     some_pushed _ _ c.args.nanosecond c.if-nanosecond-eq0.false c.ranges.nanosecond.fits
-    (c.push_trimmed.ensures.bytes ∙ ap (λ (n : ℕ). c.args.out.now.bytes ++ trimmed (padded 9 n)) same)
+    (c.push_trimmed.ensures.bytes ∙ ap (λ (n : ℕ). c.args.out.now.bytes ++ trimmed_digits (padded_digits 9 n)) same)
