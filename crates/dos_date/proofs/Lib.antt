@@ -1,3 +1,4 @@
+-- Lemmas by subject.
 pub mod BitFields
 pub mod DateWordLemmas
 pub mod TextLemmas

@@ -1,3 +1,4 @@
+-- What a caller must believe, by subject.
 pub mod Bits
 pub mod DateTime
 pub mod DateWord

@@ -1,3 +1,4 @@
+-- Lemmas by subject.
 pub mod Caps
 pub mod Fronts
 pub mod Units

@@ -1,3 +1,4 @@
+-- What a caller must believe, by subject.
 pub mod Parts
 pub mod Items
 pub mod Times

@@ -1,3 +1,4 @@
+-- What a caller must believe, by subject.
 pub mod Outside
 pub mod Memory
 pub mod Lines

@@ -1,3 +1,4 @@
+-- The words of each form.
 pub mod FileTime
 pub mod IsoDate
 pub mod IsoDateTime

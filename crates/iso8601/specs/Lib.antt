@@ -1,3 +1,4 @@
+-- What a caller must believe, by subject.
 pub mod Prefixes
 pub mod Defaults
 pub mod Fields

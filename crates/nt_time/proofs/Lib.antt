@@ -1,3 +1,4 @@
+-- Lemmas by subject.
 pub mod CivilLemmas
 pub mod TextLemmas
 pub mod TickLemmas

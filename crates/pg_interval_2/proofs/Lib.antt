@@ -1,3 +1,4 @@
+-- Lemmas by subject.
 pub mod Widths
 pub mod WrittenDigits
 pub mod AddsUp

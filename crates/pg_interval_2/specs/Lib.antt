@@ -1,3 +1,4 @@
+-- What a caller must believe, by subject.
 pub mod Denotes
 pub mod Iso
 pub mod IsoWithoutWeeks

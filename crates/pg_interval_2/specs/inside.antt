@@ -1,3 +1,4 @@
+-- What private contracts alone cite, by subject.
 pub mod SqlReading
 pub mod SqlViews
 pub mod Reading

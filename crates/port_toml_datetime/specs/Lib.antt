@@ -1,3 +1,4 @@
+-- What a caller must believe, by subject.
 pub mod Dates
 pub mod Times
 pub mod Offsets

@@ -1,3 +1,4 @@
+-- Lemmas by subject.
 pub mod Joins
 pub mod DigitFacts
 pub mod FrontFacts

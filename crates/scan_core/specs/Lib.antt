@@ -1,3 +1,4 @@
+-- What a caller must believe, by subject.
 pub mod Digits
 pub mod Fronts
 pub mod Fields

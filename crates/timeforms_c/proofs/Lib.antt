@@ -1,3 +1,4 @@
+-- Lemmas by subject.
 pub mod Answered
 pub mod Intervals
 pub mod Names

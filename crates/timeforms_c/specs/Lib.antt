@@ -1,3 +1,4 @@
+-- What a caller must believe, by subject.
 pub mod Codes
 pub mod Numbers
 pub mod Rooms

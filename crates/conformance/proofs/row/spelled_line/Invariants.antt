@@ -1,3 +1,4 @@
+-- The invariant and the measure of the loop of `row::spelled_line`.
 use Rattle.std.proofs.Common.{length}
 use Rattle.conformance.proofs.row.spelled_line.Given as goal
 

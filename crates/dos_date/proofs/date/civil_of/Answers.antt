@@ -1,3 +1,4 @@
+-- Answers to the goals of `date::civil_of`.
 use Rattle.std.proofs.Common.{arith, refl}
 use Rattle.std.proofs.lemmas.Int.{ints}
 use Rattle.dos_date.proofs.DateWordLemmas.{same_day}

@@ -1,3 +1,4 @@
+-- Answers to the goals of `date::word_of`.
 use Rattle.std.proofs.Common.{arith, ◌≡◌, ◌*◌, ◌%◌}
 use Rattle.dos_date.proofs.BitFields.{or_fields}
 use Rattle.dos_date.proofs.date.word_of.Goals as goal

@@ -1,3 +1,4 @@
+-- Answers to the goals of the law `date_words_and_days_are_one_to_one`.
 use Rattle.dos_date.proofs.DateWordLemmas.{one_day, real_date, IsRealDay-date}
 use Rattle.dos_date.proofs.laws.date_words_and_days_are_one_to_one.Goals as goal
 

@@ -1,3 +1,4 @@
+-- Answers to the goals of the law `time_words_and_times_are_one_to_one`.
 use Rattle.std.proofs.Common.{ℕ, ◌*◌, ◌^◌, ◌<◌, refl, arith}
 use Rattle.jiff.specs.Types.{Time}
 use Rattle.dos_date.specs.Bits.{bits}

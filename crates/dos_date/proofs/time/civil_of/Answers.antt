@@ -1,3 +1,4 @@
+-- Answers to the goals of `time::civil_of`.
 use Rattle.std.proofs.Common.{arith}
 use Rattle.std.proofs.lemmas.Int.{ints}
 use Rattle.dos_date.proofs.time.civil_of.Goals as goal

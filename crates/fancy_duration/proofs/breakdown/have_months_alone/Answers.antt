@@ -1,3 +1,4 @@
+-- Answers to the goals of `breakdown::have_months_alone`.
 use Rattle.std.proofs.Common.{arith}
 use Rattle.std.proofs.lemmas.Bool.Decides.{nat_tests}
 use Rattle.fancy_duration.proofs.MonthsAlone.{alone_by_remainders}

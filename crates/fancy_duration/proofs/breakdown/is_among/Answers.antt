@@ -1,3 +1,4 @@
+-- Answers to the goals of `breakdown::is_among`.
 use Rattle.std.proofs.Common.{◌≡◌, refl, ◌∙◌, ap, nat_eq}
 use denote.Enum.Declared.{tag_of}
 use Rattle.std.specs.List.{list_any}

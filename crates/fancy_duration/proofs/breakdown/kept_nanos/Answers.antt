@@ -1,3 +1,4 @@
+-- Answers to the goals of `breakdown::kept_nanos`.
 use Rattle.std.proofs.Common.{sym, ◌∙◌, arith}
 use Rattle.fancy_duration.proofs.Breakdowns.{filtered_all, keeps_part, skips_part, kept_in_end, parts_more}
 use Rattle.fancy_duration.proofs.breakdown.kept_nanos.Goals as goal

@@ -1,3 +1,4 @@
+-- The invariant of the loop of `breakdown::kept_nanos`.
 use Rattle.std.proofs.Common.{◌≡◌, ◌+◌, ◌≤◌, drop}
 use Rattle.fancy_duration.specs.Parts.{all_parts}
 use Rattle.fancy_duration.specs.Breakdown.{kept_length}

@@ -1,3 +1,4 @@
+-- Answers to the goals of `breakdown::leading_nanos`.
 use Rattle.fancy_duration.proofs.Breakdowns.{truncated_by}
 use Rattle.fancy_duration.proofs.breakdown.leading_nanos.Goals as goal
 

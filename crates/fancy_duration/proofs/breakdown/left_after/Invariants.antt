@@ -1,3 +1,4 @@
+-- The invariant of the loop of `breakdown::left_after`.
 use Rattle.std.proofs.Common.{◌≡◌, ◌≤◌, drop}
 use Rattle.fancy_duration.specs.inside.Writing.{left_after}
 use Rattle.fancy_duration.proofs.breakdown.left_after.Given as goal

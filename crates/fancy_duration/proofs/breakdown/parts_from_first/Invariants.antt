@@ -1,3 +1,4 @@
+-- The invariant and the measure of the loop of `breakdown::parts_from_first`.
 use Rattle.std.proofs.Common.{◌≡◌, length}
 use Rattle.fancy_duration.specs.Parts.{all_parts}
 use Rattle.fancy_duration.specs.Breakdown.{counts_of, from_first}

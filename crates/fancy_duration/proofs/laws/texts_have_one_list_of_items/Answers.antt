@@ -1,3 +1,4 @@
+-- Answers to the goals of the law `texts_have_one_list_of_items`.
 use Rattle.std.proofs.Common.{sym, ◌∙◌}
 use Rattle.fancy_duration.specs.inside.Reading.{items_of}
 use Rattle.fancy_duration.proofs.ItemLists.{items_unique, items_exist}

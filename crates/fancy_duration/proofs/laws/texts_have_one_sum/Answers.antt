@@ -1,3 +1,4 @@
+-- Answers to the goals of the law `texts_have_one_sum`.
 use Rattle.std.proofs.Common.{sym, ◌∙◌}
 use Rattle.fancy_duration.specs.Sums.{total}
 use Rattle.fancy_duration.specs.inside.Reading.{items_of}

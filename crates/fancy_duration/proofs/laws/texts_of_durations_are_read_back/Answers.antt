@@ -1,3 +1,4 @@
+-- Answers to the goals of the law `texts_of_durations_are_read_back`.
 use Rattle.std.proofs.Common.{◌≡◌, ◌↔◌, ℕ, arith, subst}
 use Rattle.std.specs.Duration.{as_nanos}
 use Rattle.fancy_duration.specs.Times.{nanos_of}

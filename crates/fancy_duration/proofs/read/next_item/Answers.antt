@@ -1,3 +1,4 @@
+-- Answers to the goals of `read::next_item`.
 use Rattle.std.proofs.Common.{◌≡◌, ◌≢◌, ◌<◌, ◌∙◌, true, false, length, sym, ap, rules, arith}
 use Rattle.std.specs.Char.{is_ascii_digit as is_digit}
 use Rattle.std.proofs.lemmas.Bool.Decides.{nat_tests}

@@ -1,3 +1,4 @@
+-- The invariant and the measure of the loop of `read::next_item`.
 use Rattle.std.proofs.Common.{◌≡◌, ◌≤◌, length}
 use Rattle.fancy_duration.specs.inside.Reading.{items_of}
 use Rattle.fancy_duration.proofs.read.next_item.Given as goal

@@ -1,3 +1,4 @@
+-- Answers to the goals of `read::read_times`.
 use Rattle.std.proofs.Common.{◌≤◌, ◌^◌, ◌/◌, refl, ap, Ok, arith}
 use Rattle.fancy_duration.proofs.Totals.{denotes, is_too_big, not_too_big, denotes_unique, not_beyond}
 use Rattle.fancy_duration.proofs.read.read_times.Goals as goal

@@ -1,3 +1,4 @@
+-- Answers to the goals of `read::split_number`.
 use Rattle.std.proofs.Common.{◌≡◌, ◌∙◌, ◌^◌, ◌-◌, sym, ap, rules, arith, true}
 use Rattle.std.specs.Char.{is_ascii_digit as is_digit}
 use Rattle.std.specs.Str.Parse.{digits_value_after}

@@ -1,3 +1,4 @@
+-- The invariant and the measure of the loop of `read::split_number`.
 use Rattle.std.proofs.Common.{◌≡◌, length}
 use Rattle.std.specs.Char.{is_ascii_digit as is_digit}
 use Rattle.std.specs.Str.Parse.{digits_value_after}

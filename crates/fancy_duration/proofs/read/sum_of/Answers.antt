@@ -1,3 +1,4 @@
+-- Answers to the goals of `read::sum_of`.
 use Rattle.std.proofs.Common.{◌∙◌, sym, ap}
 use Rattle.fancy_duration.specs.inside.Reading.{items_of, capped, sum_with}
 use Rattle.fancy_duration.specs.Sums.{total, long_follows}

@@ -1,3 +1,4 @@
+-- The invariant and the measure of the loop of `read::sum_of`.
 use Rattle.std.proofs.Common.{◌≡◌, length}
 use Rattle.fancy_duration.specs.Sums.{total, long_follows}
 use Rattle.fancy_duration.specs.inside.Reading.{items_of, capped, sum_with}

@@ -1,3 +1,4 @@
+-- The invariant and the measure of the loop of `strict::has_counts`.
 use Rattle.std.proofs.Common.{◌↔◌, length}
 use Rattle.fancy_duration.specs.inside.Reading.{HasCounts}
 use Rattle.fancy_duration.proofs.strict.has_counts.Given as goal

@@ -1,3 +1,4 @@
+-- Answers to the goals of `strict::is_strict`.
 use Rattle.std.proofs.Common.{◌≡◌, length, arith, sym, ◌∙◌, ap, not}
 use Rattle.std.proofs.lemmas.Bool.{true≢false}
 use Rattle.std.proofs.lemmas.Bool.Decides.{nat_tests}

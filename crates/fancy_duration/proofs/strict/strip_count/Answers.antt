@@ -1,3 +1,4 @@
+-- Answers to the goals of `strict::strip_count`.
 use Rattle.fancy_duration.proofs.Counts.{count_stripped, counts_none, counts_other, length-stripped}
 use Rattle.fancy_duration.proofs.strict.strip_count.Goals as goal
 

@@ -1,3 +1,4 @@
+-- The invariant and the measure of the loop of `strict::without_blanks`.
 use Rattle.std.proofs.Common.{◌≡◌, length}
 use Rattle.scan_core.specs.Blanks.{is_blank}
 use Rattle.scan_core.specs.Fronts.{behind}

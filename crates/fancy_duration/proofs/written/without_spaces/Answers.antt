@@ -1,3 +1,4 @@
+-- Answers to the goals of `written::without_spaces`.
 use Rattle.std.proofs.Common.{lit<}
 use Rattle.std.proofs.lemmas.Iterator.Splits.{YieldsList-from_str_split}
 use Rattle.fancy_duration.proofs.Spaces.{text_from_pieces, concat-slice_split}

@@ -1,3 +1,4 @@
+-- Answers to the goals of `written::written_text`.
 use Rattle.std.proofs.Common.{◌∙◌, [], sym, ap, codes, ◌++◌, arith, subst, ℕ, refl, length}
 use Rattle.fancy_duration.specs.Parts.{all_parts}
 use Rattle.fancy_duration.specs.inside.Writing.{with_parts, HasRoom}

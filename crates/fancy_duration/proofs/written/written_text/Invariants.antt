@@ -1,3 +1,4 @@
+-- The invariant of the loop of `written::written_text`.
 use Rattle.std.proofs.Common.{◌≡◌, [], drop}
 use Rattle.arrayvec.specs.ArrayString.{array_string_len}
 use Rattle.fancy_duration.specs.Parts.{all_parts}

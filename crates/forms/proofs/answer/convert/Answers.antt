@@ -1,3 +1,4 @@
+-- Answers to the goals of `answer::convert`.
 use Rattle.std.proofs.Common.{Ok, refl}
 use Rattle.forms.proofs.answer.convert.Goals as goal
 

@@ -1,3 +1,4 @@
+-- Answers to the goals of `answer::line_reply`.
 use Rattle.std.proofs.Common.{◌++◌, List, ℕ, ap, sym, subst, ◌∙◌}
 use Rattle.forms.specs.Replies.{IsReply}
 use Rattle.forms.proofs.answer.line_reply.Goals as goal

@@ -1,3 +1,4 @@
+-- Answers to the goals of `answer::push_counted`.
 use Rattle.std.proofs.Common.{Err, refl}
 use Rattle.forms.proofs.answer.push_counted.Goals as goal
 

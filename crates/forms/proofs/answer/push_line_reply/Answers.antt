@@ -1,3 +1,4 @@
+-- Answers to the goals of `answer::push_line_reply`.
 use Rattle.std.proofs.Common.{◌++◌, codes, Ok, Err, inl, inr, refl}
 use Rattle.forms.specs.Names.{cause_name}
 use Rattle.forms.specs.ReadBack.{Turns}

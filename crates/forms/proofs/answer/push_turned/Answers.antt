@@ -1,3 +1,4 @@
+-- Answers to the goals of `answer::push_turned`.
 use Rattle.std.proofs.Common.{Err, refl}
 use Rattle.forms.proofs.answer.push_turned.Goals as goal
 

@@ -1,3 +1,4 @@
+-- Answers to the goals of `answer::reply`.
 use Rattle.std.proofs.Common.{◌≡◌, ◌↔◌, ℕ, List, Result, subst}
 use Rattle.forms.specs.ReadBack.{Turns}
 use Rattle.forms.specs.declared.cause.Cause.{Cause}

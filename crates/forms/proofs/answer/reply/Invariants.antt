@@ -1,3 +1,4 @@
+-- The ghost members of the calls of `answer::reply`.
 use Rattle.forms.proofs.answer.reply.Given as goal
 
 abbrev pub ghosts-reply_alone : goal.ghosts-reply_alone

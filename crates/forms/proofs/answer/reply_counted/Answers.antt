@@ -1,3 +1,4 @@
+-- Answers to the goals of `answer::reply_counted`.
 use Rattle.forms.specs.Answers.{bytes_of}
 use Rattle.forms.proofs.Lawful.{exactly_turned}
 use Rattle.forms.proofs.answer.reply_counted.Goals as goal

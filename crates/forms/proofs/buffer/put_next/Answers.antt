@@ -1,3 +1,4 @@
+-- Answers to the goals of `buffer::put_next`.
 use Rattle.std.proofs.Common.{◌-◌, ◌<◌, length, refl, arith}
 use Rattle.std.proofs.lemmas.Bool.Decides.{nat_tests}
 use Rattle.forms.proofs.Buffers.{stops_at_part, stops_at_long}

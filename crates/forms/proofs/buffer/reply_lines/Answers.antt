@@ -1,3 +1,4 @@
+-- Answers to the goals of `buffer::reply_lines`.
 use Rattle.std.proofs.Common.{ℕ, ◌-◌, List, length, refl, sym, ap, subst, arith, ◌∙◌}
 use Rattle.std.proofs.lemmas.List.{length-append}
 use Rattle.forms.specs.Buffers.{AnswersInto}

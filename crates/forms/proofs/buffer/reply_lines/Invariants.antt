@@ -1,3 +1,4 @@
+-- The invariant and the measure of the loop of `buffer::reply_lines`.
 use Rattle.std.proofs.Common.{◌≤◌, length}
 use Rattle.forms.proofs.Buffers.{IsFilled}
 use Rattle.forms.proofs.buffer.reply_lines.Given as goal

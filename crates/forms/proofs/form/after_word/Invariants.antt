@@ -1,3 +1,4 @@
+-- The invariant of the loop of `form::after_word`.
 use Rattle.std.proofs.Common.{◌≡◌, take}
 use Rattle.forms.proofs.form.after_word.Given as goal
 

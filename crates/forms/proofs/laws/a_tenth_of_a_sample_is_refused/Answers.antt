@@ -1,3 +1,4 @@
+-- Answers to the goals of the law `a_tenth_of_a_sample_is_refused`.
 use Rattle.forms.proofs.SampleReplies.{tenth_refused}
 use Rattle.forms.proofs.laws.a_tenth_of_a_sample_is_refused.Goals as goal
 

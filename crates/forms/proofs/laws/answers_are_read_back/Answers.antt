@@ -1,3 +1,4 @@
+-- Answers to the goals of the law `answers_are_read_back`.
 use Rattle.std.proofs.Common.{Ok}
 use Rattle.forms.proofs.Lawful.{answer_back}
 use Rattle.forms.proofs.laws.answers_are_read_back.Goals as goal

@@ -1,3 +1,4 @@
+-- Answers to the goals of the law `interval_answers_keep_their_interval`.
 use Rattle.std.proofs.Common.{List, ℕ, sym, subst}
 use Rattle.pg_interval_2.specs.Denotes.{Denotes}
 use Rattle.pg_interval_2.specs.Styles.{Shape}

@@ -1,3 +1,4 @@
+-- Answers to the goals of the law `one_output`.
 use Rattle.forms.proofs.OneReply.{one_answer, one_output}
 use Rattle.forms.proofs.laws.one_output.Goals as goal
 

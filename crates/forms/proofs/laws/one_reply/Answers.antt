@@ -1,3 +1,4 @@
+-- Answers to the goals of the law `one_reply`.
 use Rattle.forms.proofs.OneReply.{one_answer, one_reply}
 use Rattle.forms.proofs.laws.one_reply.Goals as goal
 

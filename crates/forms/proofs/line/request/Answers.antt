@@ -1,3 +1,4 @@
+-- Answers to the goals of `line::request`.
 use Rattle.std.proofs.Common.{◌≡◌, ◌++◌, List, ℕ, Some, ap, ◌∙◌}
 use Rattle.forms.specs.Names.{name_of}
 use Rattle.forms.specs.inside.Reading.{IsNamed}

@@ -1,3 +1,4 @@
+-- Answers to the goals of `line::split_line`.
 use Rattle.std.proofs.Common.{length, add-one, arith}
 use Rattle.std.proofs.Math.Seq.{take-length}
 use Rattle.std.proofs.lemmas.List.{take_rest}

@@ -1,3 +1,4 @@
+-- Answers to the goals of `output::answer_last`.
 use Rattle.std.proofs.Common.{◌<◌, length, arith}
 use Rattle.std.proofs.lemmas.Bool.Decides.{nat_tests}
 use Rattle.std.proofs.lemmas.Result.{on_ok_weaker, on_err_weaker}

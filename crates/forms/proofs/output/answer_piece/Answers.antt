@@ -1,3 +1,4 @@
+-- Answers to the goals of `output::answer_piece`.
 use Rattle.std.proofs.Common.{◌≡◌, ◌++◌, List, ℕ, length, sym, ◌∙◌, ap, append_assoc, length-append, rules, arith}
 use Rattle.forms.specs.inside.Pieces.{NoFeed}
 use Rattle.forms.proofs.Writes.{on_err}

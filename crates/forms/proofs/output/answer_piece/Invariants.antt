@@ -1,3 +1,4 @@
+-- The invariant and the measure of the loop of `output::answer_piece`.
 use Rattle.std.proofs.Common.{◌+◌, ◌≤◌, ◌++◌, length, vec_len, vec_capacity}
 use Rattle.forms.specs.inside.Pieces.{NoFeed}
 use Rattle.forms.proofs.Batches.{IsAnswered}

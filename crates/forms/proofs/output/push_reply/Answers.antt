@@ -1,3 +1,4 @@
+-- Answers to the goals of `output::push_reply`.
 use Rattle.std.proofs.Common.{◌++◌, arith, codes, refl, append_assoc}
 use Rattle.forms.proofs.output.push_reply.Goals as goal
 

@@ -1,3 +1,4 @@
+-- Answers to the goals of `output::write_all`.
 use Rattle.std.proofs.Common.{◌≤◌, length, drop, length-drop, arith}
 use Rattle.std.proofs.lemmas.List.{take_rest}
 use Rattle.forms.proofs.Writes.{appends_more, front_written, on_err}

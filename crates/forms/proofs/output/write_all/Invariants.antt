@@ -1,3 +1,4 @@
+-- The invariant and the measure of the loop of `output::write_all`.
 use Rattle.std.proofs.Common.{◌-◌, ◌≤◌, length, take}
 use Rattle.std.specs.Io.KnownBytes.{Appends}
 use Rattle.forms.proofs.output.write_all.Given as goal

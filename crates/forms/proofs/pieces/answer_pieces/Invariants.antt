@@ -1,3 +1,4 @@
+-- The invariant and the measure of the loop of `pieces::answer_pieces`.
 use Rattle.std.proofs.Common.{◌≡◌, ◌+◌, ◌≤◌, [], vec_len, vec_capacity}
 use Rattle.forms.specs.Ends.{streams}
 use Rattle.forms.proofs.Runs.{IsRunning}

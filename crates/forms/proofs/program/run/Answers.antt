@@ -1,3 +1,4 @@
+-- Answers to the goals of `program::run`.
 use Rattle.forms.proofs.Ends.{ends-nowhere}
 use Rattle.forms.proofs.program.run.Goals as goal
 

@@ -1,3 +1,4 @@
+-- Answers to the goals of `program::top`.
 use Rattle.forms.proofs.Ends.{each_end_leaves_a_front, length_decides_the_end, status_within, status_beyond}
 use Rattle.std.proofs.Common.{sym, ◌∙◌}
 use Rattle.forms.proofs.SampleWords.{same_count, done_at_zero}

@@ -1,3 +1,4 @@
+-- Answers to the goals of `sample::answer_sample`.
 use Rattle.std.proofs.Common.{◌∙◌, List, ℕ, Some, refl, ap}
 use Rattle.forms.specs.Memory.{SourceState, SinkState}
 use Rattle.forms.proofs.SampleWords.{done_replies}

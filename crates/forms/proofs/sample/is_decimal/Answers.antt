@@ -1,3 +1,4 @@
+-- Answers to the goals of `sample::is_decimal`.
 use Rattle.std.proofs.Common.{arith, ap, length, List, ℕ}
 use Rattle.std.proofs.lemmas.Fmt.{length-decimal-le}
 use Rattle.forms.proofs.sample.is_decimal.Goals as goal

@@ -1,3 +1,4 @@
+-- Answers to the goals of `sample::sample`.
 use Rattle.std.proofs.Common.{sym, length}
 use Rattle.forms.proofs.sample.sample.Goals as goal
 

@@ -1,3 +1,4 @@
+-- Answers to the goals of `value::read_value`.
 use Rattle.std.proofs.Common.{subst}
 use Rattle.forms.specs.Forms.{Reads}
 use Rattle.forms.specs.Values.{IsWithinBounds}

@@ -1,3 +1,4 @@
+-- Answers to the goals of `value::write_value`.
 use Rattle.forms.specs.Answers.{bytes_of}
 use Rattle.forms.proofs.Lawful.{exactly_written}
 use Rattle.forms.proofs.value.write_value.Goals as goal

@@ -1,3 +1,4 @@
+-- Answers to the goals of `civil::cycle_year`.
 use Rattle.std.proofs.Common.{FitsSigned, arith}
 use Rattle.std.specs.Int.{w32}
 use Rattle.std.proofs.lemmas.Int.{ints, to_z-of_z}

@@ -1,3 +1,4 @@
+-- Answers to the goals of `civil::in_cycle`.
 use Rattle.std.proofs.Common.{rules, FitsSigned}
 use Rattle.std.specs.Int.{w32}
 use Rattle.std.proofs.lemmas.Int.{to_z-of_z}

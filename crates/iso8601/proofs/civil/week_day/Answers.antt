@@ -1,3 +1,4 @@
+-- Answers to the goals of `civil::week_day`.
 use Rattle.std.proofs.Common.{rules, ◌≡◌, ◌<◌, true, false, pos, FitsSigned, ℕ, ℤ, subst, sym, refl, arith}
 use Rattle.std.specs.Prelude.{◌+ℤ◌, ◌≤ℤ◌}
 use Rattle.std.specs.Int.{w8, w16, w32}

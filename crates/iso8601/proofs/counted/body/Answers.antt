@@ -1,3 +1,4 @@
+-- Answers to the goals of `counted::body`.
 use Rattle.std.proofs.Common.{◌≡◌, true, false, sym, subst, ◌∙◌, ap}
 use Rattle.scan_core.specs.Scanning.{Place, ahead}
 use Rattle.iso8601.specs.inside.CountedReading.{BeginsUnit, from_run}

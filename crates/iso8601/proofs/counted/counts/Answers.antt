@@ -1,3 +1,4 @@
+-- Answers to the goals of `counted::counts`.
 use Rattle.iso8601.proofs.CountedBodies.{counts_nothing}
 use Rattle.iso8601.proofs.counted.counts.Goals as goal
 

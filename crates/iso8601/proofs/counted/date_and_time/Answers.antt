@@ -1,3 +1,4 @@
+-- Answers to the goals of `counted::date_and_time`.
 use Rattle.std.proofs.Common.{refl}
 use Rattle.iso8601.proofs.CountedBodies.{dated_stuck}
 use Rattle.iso8601.proofs.counted.date_and_time.Goals as goal

@@ -1,3 +1,4 @@
+-- Answers to the goals of `counted::duration_counted`.
 use Rattle.std.proofs.Common.{refl}
 use Rattle.iso8601.proofs.CountedBodies.{whole_start, whole_body, no_body}
 use Rattle.iso8601.proofs.counted.duration_counted.Goals as goal

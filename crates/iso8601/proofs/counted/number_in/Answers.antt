@@ -1,3 +1,4 @@
+-- Answers to the goals of `counted::number_in`.
 use Rattle.std.proofs.Common.{◌≡◌, ◌≢◌, ℕ, ◌<◌, List, Some, Result, Ok, Err, OkIff, sym, inl, inr, ap, ◌∙◌, arith}
 use Rattle.std.specs.Result.{result_ok}
 use Rattle.scan_core.specs.Runs.{IsRun, digits_of}

@@ -1,3 +1,4 @@
+-- Answers to the goals of `counted::perhaps_clock`.
 use Rattle.iso8601.proofs.CountedBodies.{clock_left}
 use Rattle.iso8601.proofs.counted.perhaps_clock.Goals as goal
 

@@ -1,3 +1,4 @@
+-- Answers to the goals of `counted::seconds`.
 use Rattle.std.proofs.Common.{sym, subst, inl, ◌∙◌}
 use Rattle.scan_core.specs.Scanning.{Place, ahead}
 use Rattle.iso8601.specs.inside.CountedReading.{BeginsNoPoint, IsPointed}

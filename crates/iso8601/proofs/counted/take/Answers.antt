@@ -1,3 +1,4 @@
+-- Answers to the goals of `counted::take`.
 use Rattle.std.proofs.Common.{◌≡◌, ℕ, List, refl, sym, ◌∙◌, drop}
 use Rattle.iso8601.proofs.CountedFacts.{count_taken, count_other, count_none}
 use Rattle.iso8601.proofs.counted.take.Goals as goal

@@ -1,3 +1,4 @@
+-- Answers to the goals of `counted_time::field`.
 use Rattle.std.proofs.Common.{sym, arith}
 use Rattle.iso8601.proofs.CountedFacts.{IsShort, field_passed, field_missing}
 use Rattle.iso8601.proofs.counted_time.field.Goals as goal

@@ -1,3 +1,4 @@
+-- Answers to the goals of `counted_time::later`.
 use Rattle.std.proofs.Common.{◌≡◌, true, false, sym, ◌∙◌}
 use Rattle.iso8601.proofs.CountedFacts.{no_field}
 use Rattle.iso8601.proofs.counted_time.later.Goals as goal

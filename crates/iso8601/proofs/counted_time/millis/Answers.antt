@@ -1,3 +1,4 @@
+-- Answers to the goals of `counted_time::millis`.
 use Rattle.std.proofs.Common.{sym}
 use Rattle.iso8601.proofs.CountedFacts.{IsShort, millis_passed}
 use Rattle.iso8601.proofs.counted_time.millis.Goals as goal

@@ -1,3 +1,4 @@
+-- Answers to the goals of `counted_time::signed`.
 use Rattle.iso8601.proofs.CountedFacts.{signed_stuck}
 use Rattle.iso8601.proofs.counted_time.signed.Goals as goal
 

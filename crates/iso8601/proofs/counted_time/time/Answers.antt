@@ -1,3 +1,4 @@
+-- Answers to the goals of `counted_time::time`.
 use Rattle.iso8601.proofs.CountedFacts.{time_stuck}
 use Rattle.iso8601.proofs.counted_time.time.Goals as goal
 

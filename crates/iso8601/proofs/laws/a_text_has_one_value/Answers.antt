@@ -1,3 +1,4 @@
+-- Answers to the goals of the law `a_text_has_one_value`.
 use Rattle.iso8601.proofs.DateReading.{one_date}
 use Rattle.iso8601.proofs.DateTimeReading.{one_date_time}
 use Rattle.iso8601.proofs.DurationReading.{one_duration}

@@ -1,3 +1,4 @@
+-- Answers to the goals of the law `a_written_text_is_read_back`.
 use Rattle.iso8601.specs.Dates.{IsDate}
 use Rattle.iso8601.specs.DateTimes.{IsDateTime}
 use Rattle.iso8601.specs.Durations.{IsDuration}

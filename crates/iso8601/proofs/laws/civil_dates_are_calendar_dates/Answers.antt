@@ -1,3 +1,4 @@
+-- Answers to the goals of the law `civil_dates_are_calendar_dates`.
 use Rattle.std.proofs.Common.{refl, sym}
 use Rattle.iso8601.proofs.CivilDays.{ymd_day}
 use Rattle.iso8601.proofs.laws.civil_dates_are_calendar_dates.Goals as goal

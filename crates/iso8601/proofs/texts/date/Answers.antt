@@ -1,3 +1,4 @@
+-- Answers to the goals of `texts::date`.
 use Rattle.iso8601.specs.Dates.{IsDate}
 use Rattle.iso8601.proofs.Longest.{longest_of, none_of}
 use Rattle.iso8601.proofs.texts.date.Goals as goal

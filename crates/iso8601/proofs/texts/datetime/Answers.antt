@@ -1,3 +1,4 @@
+-- Answers to the goals of `texts::datetime`.
 use Rattle.iso8601.specs.DateTimes.{IsDateTime}
 use Rattle.iso8601.proofs.Longest.{longest_of, none_of}
 use Rattle.iso8601.proofs.texts.datetime.Goals as goal

@@ -1,3 +1,4 @@
+-- Answers to the goals of `texts::duration`.
 use Rattle.iso8601.specs.Durations.{IsDuration}
 use Rattle.iso8601.proofs.Longest.{longest_of, none_of}
 use Rattle.iso8601.proofs.texts.duration.Goals as goal

@@ -1,3 +1,4 @@
+-- Answers to the goals of `texts::time`.
 use Rattle.iso8601.specs.Times.{IsTime}
 use Rattle.iso8601.proofs.Longest.{longest_of, none_of}
 use Rattle.iso8601.proofs.texts.time.Goals as goal

@@ -1,3 +1,4 @@
+-- Answers to the goals of `written::push_time`.
 use Rattle.std.proofs.Common.{◌≡◌, ℕ, ℤ, List, ◌++◌, ◌≤◌, ◌+◌, ◌<◌, ◌^◌, ap, arith, length, length-append, rules, FitsSigned}
 use Rattle.std.specs.Int.{w32}
 use Rattle.std.specs.Prelude.{unsigned_abs}

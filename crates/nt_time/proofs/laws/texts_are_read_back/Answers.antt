@@ -1,3 +1,4 @@
+-- Answers to the goals of the law `texts_are_read_back`.
 use Rattle.std.proofs.Common.{refl, sym, inl}
 use Rattle.std.proofs.lemmas.Fmt.{decimal_is_IsNumeral}
 use Rattle.nt_time.proofs.laws.texts_are_read_back.Goals as goal

@@ -1,3 +1,4 @@
+-- Answers to the goals of the law `texts_write_one_number`.
 use Rattle.std.proofs.Common.{sym, inl, refl}
 use Rattle.std.proofs.lemmas.Fmt.{decimal_is_IsNumeral}
 use Rattle.nt_time.proofs.laws.texts_write_one_number.Goals as goal

@@ -1,3 +1,4 @@
+-- Answers to the goals of `text::is_number`.
 use Rattle.std.proofs.Common.{◌≡◌, ◌<◌, length, arith}
 use Rattle.std.proofs.lemmas.Bool.Decides.{nat_tests}
 use Rattle.std.specs.Str.Parse.{without_leading_plus}

@@ -1,3 +1,4 @@
+-- Answers to the goals of `utc_date_time::civil_at`.
 use Rattle.std.proofs.Common.{refl, arith}
 use Rattle.std.proofs.lemmas.Int.{ints}
 use Rattle.nt_time.proofs.utc_date_time.civil_at.Goals as goal

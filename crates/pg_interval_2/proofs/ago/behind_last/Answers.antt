@@ -1,3 +1,4 @@
+-- Answers to the goals of `ago::behind_last`.
 use Rattle.std.proofs.Common.{sym}
 use Rattle.pg_interval_2.proofs.TextEnds.{solid_byte}
 use Rattle.pg_interval_2.proofs.ago.behind_last.Goals as goal

@@ -1,3 +1,4 @@
+-- The invariant and the measure of the loop of `ago::behind_last`.
 use Rattle.std.proofs.Common.{◌+◌, ◌-◌, ◌≤◌}
 use Rattle.pg_interval_2.specs.inside.VerboseReading.{AreBlanksBetween}
 use Rattle.pg_interval_2.proofs.ago.behind_last.Given as goal

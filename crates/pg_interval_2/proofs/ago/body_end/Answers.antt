@@ -1,3 +1,4 @@
+-- Answers to the goals of `ago::body_end`.
 use Rattle.std.proofs.Common.{ℕ, refl, subst}
 use Rattle.pg_interval_2.specs.inside.VerboseReading.{AreBlanksBetween}
 use Rattle.pg_interval_2.proofs.TextEnds.{ends_without}

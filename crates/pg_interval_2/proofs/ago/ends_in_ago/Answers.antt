@@ -1,3 +1,4 @@
+-- Answers to the goals of `ago::ends_in_ago`.
 use Rattle.std.proofs.Common.{◌≡◌, ℕ, ◌-◌, ◌++◌, ◌∷◌, [], refl, take, arith, ap, ◌∙◌}
 use Rattle.pg_interval_2.proofs.TextEnds.{no_a}
 use Rattle.pg_interval_2.proofs.ago.ends_in_ago.Goals as goal

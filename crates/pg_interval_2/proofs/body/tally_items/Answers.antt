@@ -1,3 +1,4 @@
+-- Answers to the goals of `body::tally_items`.
 use Rattle.std.proofs.Common.{◌≡◌, ℕ, ◌-◌, List, ap, arith, length, length-drop, ◌∙◌}
 use Rattle.std.proofs.lemmas.Bool.{false≢true}
 use Rattle.scan_core.specs.Scanning.{ahead}

@@ -1,3 +1,4 @@
+-- The invariant and the measure of the loop of `body::tally_items`.
 use Rattle.std.proofs.Common.{◌≡◌, ◌+◌, ◌≤◌, length}
 use Rattle.scan_core.specs.Scanning.{Spends, ahead}
 use Rattle.pg_interval_2.specs.inside.NameSets.{names_in}

@@ -1,3 +1,4 @@
+-- Answers to the goals of `clock::clock_behind`.
 use Rattle.std.proofs.Common.{◌≡◌, ℕ, List, Some, ap, refl, sym, take, ◌∙◌}
 use Rattle.scan_core.specs.Fronts.{front_digits, after_digits}
 use Rattle.scan_core.specs.Runs.{digits_of}

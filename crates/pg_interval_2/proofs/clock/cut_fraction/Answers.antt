@@ -1,3 +1,4 @@
+-- Answers to the goals of `clock::cut_fraction`.
 use Rattle.std.proofs.Common.{ℕ, List, ap, refl, sym, ◌∙◌}
 use Rattle.std.specs.Char.{is_ascii_digit}
 use Rattle.scan_core.specs.Scanning.{ahead}

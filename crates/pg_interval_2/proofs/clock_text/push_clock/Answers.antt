@@ -1,3 +1,4 @@
+-- Answers to the goals of `clock_text::push_clock`.
 use Rattle.std.proofs.Common.{FitsSigned, append_assoc, refl, to_z-of_z, w64}
 use Rattle.pg_interval_2.specs.ClockText.{clock_text}
 use Rattle.pg_interval_2.proofs.clock_text.push_clock.Goals as goal

@@ -1,3 +1,4 @@
+-- Answers to the goals of `iso::spelled`.
 use Rattle.std.proofs.Common.{ℕ, List, ap, false, refl, subst, sym, true, ◌∙◌}
 use Rattle.std.proofs.lemmas.Bool.{false≢true}
 use Rattle.scan_core.specs.Scanning.{ahead}

@@ -1,3 +1,4 @@
+-- Answers to the goals of `iso::take_pairs`.
 use Rattle.std.proofs.Common.{ℕ, List, arith, refl, subst, sym, ◌∙◌, ◌++◌, [], ◌∷◌}
 use Rattle.scan_core.specs.Count.{Count}
 use Rattle.scan_core.specs.Scanning.{ahead}

@@ -1,3 +1,4 @@
+-- Answers to the goals of `iso_strict::tally_of`.
 use Rattle.pg_interval_2.proofs.IsoStrictFacts.{is_iso}
 use Rattle.pg_interval_2.proofs.iso_strict.tally_of.Goals as goal
 

@@ -1,3 +1,4 @@
+-- Answers to the goals of the law `sums_are_undone`.
 use Rattle.pg_interval_2.proofs.SumFacts.{plus-swapped, less-plus, plus-less}
 use Rattle.pg_interval_2.proofs.laws.sums_are_undone.Goals as goal
 

@@ -1,3 +1,4 @@
+-- Answers to the goals of the law `written_iso_texts_are_strict`.
 use Rattle.pg_interval_2.proofs.IsoReadBack.{strict_denotes}
 use Rattle.pg_interval_2.proofs.laws.written_iso_texts_are_strict.Goals as goal
 

@@ -1,3 +1,4 @@
+-- Answers to the goals of the law `written_text_is_read_back`.
 use Rattle.pg_interval_2.proofs.ReadBack.{denotes, alone}
 use Rattle.pg_interval_2.proofs.laws.written_text_is_read_back.Goals as goal
 

@@ -1,3 +1,4 @@
+-- Answers to the goals of `postgres::read_postgres`.
 use Rattle.std.proofs.Common.{ap, refl}
 use Rattle.scan_core.specs.Scanning.{Place, ahead}
 use Rattle.pg_interval_2.specs.Messages.{not_postgres}

@@ -1,3 +1,4 @@
+-- Answers to the goals of `postgres_text::push_words`.
 use Rattle.std.proofs.Common.{◌++◌, List, ℕ, ap, append_assoc, codes, unsigned_abs, FitsSigned, w32, w64, to_z-of_z}
 use Rattle.std.specs.Int.{is_negative}
 use Rattle.pg_interval_2.specs.Parts.{years_of, months_of}

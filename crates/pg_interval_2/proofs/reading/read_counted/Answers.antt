@@ -1,3 +1,4 @@
+-- Answers to the goals of `reading::read_counted`.
 use Rattle.pg_interval_2.specs.Styles.{IsBadPlace, Shape, not_in}
 use Rattle.pg_interval_2.proofs.Answering.{all_from, bad_from, none_from, range_from}
 use Rattle.pg_interval_2.proofs.OneList.{one_list, places}

@@ -1,3 +1,4 @@
+-- Answers to the goals of `reading::read_style`.
 use Rattle.pg_interval_2.proofs.reading.read_style.Goals as goal
 
 pub returns-in-Postgres-clause-err : goal.returns-in-Postgres-clause-err

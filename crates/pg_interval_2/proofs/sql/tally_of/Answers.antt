@@ -1,3 +1,4 @@
+-- Answers to the goals of `sql::tally_of`.
 use Rattle.std.proofs.Common.{sym}
 use Rattle.pg_interval_2.proofs.SqlShape.{is_sql, not_sql}
 use Rattle.pg_interval_2.specs.inside.SqlViews.{text_counts}

@@ -1,3 +1,4 @@
+-- Answers to the goals of `unit_names::unit_named`.
 use Rattle.std.proofs.Common.{◌∙◌}
 use Rattle.pg_interval_2.proofs.UnitWords.{unit_so}
 use Rattle.pg_interval_2.proofs.unit_names.unit_named.Goals as goal

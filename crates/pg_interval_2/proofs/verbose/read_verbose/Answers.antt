@@ -1,3 +1,4 @@
+-- Answers to the goals of `verbose::read_verbose`.
 use Rattle.std.proofs.Common.{refl}
 use Rattle.pg_interval_2.specs.Messages.{not_verbose}
 use Rattle.pg_interval_2.specs.Verbose.{IsVerbose, IsVerboseBadName}

@@ -1,3 +1,4 @@
+-- Answers to the goals of `verbose::tally_behind_at`.
 use Rattle.std.proofs.Common.{ap, arith, refl}
 use Rattle.std.proofs.lemmas.Bool.{false≢true}
 use Rattle.scan_core.specs.Scanning.{Place, ahead, unseen}

@@ -1,3 +1,4 @@
+-- Answers to the goals of the law `checks_are_the_grammar`.
 use Rattle.port_toml_datetime.specs.inside.Values.{value_of}
 use Rattle.port_toml_datetime.proofs.Table.{table_sound, table_exact}
 use Rattle.port_toml_datetime.proofs.laws.checks_are_the_grammar.Goals as goal

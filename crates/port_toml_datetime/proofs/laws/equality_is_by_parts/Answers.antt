@@ -1,3 +1,4 @@
+-- Answers to the goals of the law `equality_is_by_parts`.
 use Rattle.std.proofs.Common.{rules, ◌≡◌, Option, refl, ap}
 use Rattle.std.specs.Prelude.{◌↔◌}
 use Rattle.port_toml_datetime.specs.declared.date.Date.{Date}

@@ -1,3 +1,4 @@
+-- Answers to the goals of `number_text::push_fraction`.
 use Rattle.std.proofs.Common.{◌≡◌, ℕ, ◌++◌, ◌∙◌, ap, arith}
 use Rattle.scan_core.specs.Padded.{padded_digits, trimmed_digits}
 use Rattle.port_toml_datetime.proofs.PaddedFacts.{some_pushed, zero_pushed}

@@ -1,3 +1,4 @@
+-- Answers to the goals of `numbers::leading_nine`.
 use Rattle.std.proofs.Common.{◌<◌, ◌-◌, length, get_or, refl, sym, ◌∙◌, arith}
 use Rattle.port_toml_datetime.proofs.FractionFacts.{one_more}
 use Rattle.port_toml_datetime.proofs.numbers.leading_nine.Goals as goal

@@ -1,3 +1,4 @@
+-- The invariant and the measure of the loop of `numbers::leading_nine`.
 use Rattle.std.proofs.Common.{◌≡◌, ◌≤◌, ◌-◌, ◌++◌, length, take, drop}
 use Rattle.scan_core.specs.Digits.{number_of}
 use Rattle.scan_core.specs.Fronts.{front_digits, after_digits}

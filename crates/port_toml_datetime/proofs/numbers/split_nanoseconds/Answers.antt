@@ -1,3 +1,4 @@
+-- Answers to the goals of `numbers::split_nanoseconds`.
 use Rattle.std.proofs.Common.{arith}
 use Rattle.port_toml_datetime.proofs.FractionFacts.{front_short, scaled_front}
 use Rattle.port_toml_datetime.proofs.numbers.split_nanoseconds.Goals as goal

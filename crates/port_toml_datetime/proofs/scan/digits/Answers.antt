@@ -1,3 +1,4 @@
+-- Answers to the goals of `scan::digits`.
 use Rattle.std.proofs.Common.{◌∙◌}
 use Rattle.scan_core.proofs.FrontFacts.{front_are_digits}
 use Rattle.port_toml_datetime.proofs.TokenFacts.{no_token_found, token_found}

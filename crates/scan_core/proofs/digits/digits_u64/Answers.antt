@@ -1,3 +1,4 @@
+-- Answers to the goals of `digits::digits_u64`.
 use Rattle.std.proofs.Common.{◌+◌, ap, arith}
 use Rattle.std.proofs.lemmas.List.{take_all}
 use Rattle.scan_core.specs.Digits.{number_of}

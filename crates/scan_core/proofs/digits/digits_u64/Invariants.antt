@@ -1,3 +1,4 @@
+-- The invariant of the loop of `digits::digits_u64`.
 use Rattle.std.proofs.Common.{◌≡◌, ◌^◌, ◌<◌, take}
 use Rattle.scan_core.specs.Digits.{number_of}
 use Rattle.scan_core.proofs.digits.digits_u64.Given as goal

@@ -1,3 +1,4 @@
+-- The invariant and the measure of the loop of `front::split_digits`.
 use Rattle.std.proofs.Common.{◌≡◌, ◌≤◌, ◌-◌, ◌++◌, length, take, drop}
 use Rattle.scan_core.specs.Fronts.{front_digits, after_digits}
 use Rattle.scan_core.proofs.front.split_digits.Given as goal

@@ -1,3 +1,4 @@
+-- Answers to the goals of `looked_digits::looked_cut`.
 use Rattle.std.proofs.Common.{List, ℕ, ◌≡◌, ◌+◌, ◌*◌, ◌-◌, ◌/◌, ◌^◌, ap, ap₂, arith, get_or, length, sym, ◌∙◌}
 use Rattle.std.specs.Char.{digit_value}
 use Rattle.scan_core.specs.Digits.{number_of}

@@ -1,3 +1,4 @@
+-- The invariant and the measure of the loop of `looked_digits::looked_cut`.
 use Rattle.std.proofs.Common.{◌≡◌, ◌+◌, ◌-◌, ◌*◌, ◌/◌, ◌^◌, ◌≤◌, length}
 use Rattle.scan_core.specs.Digits.{number_of}
 use Rattle.scan_core.specs.Scanning.{between}

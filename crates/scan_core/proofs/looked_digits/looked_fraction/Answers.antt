@@ -1,3 +1,4 @@
+-- Answers to the goals of `looked_digits::looked_fraction`.
 use Rattle.std.proofs.Common.{ℕ, ◌+◌, ◌*◌, ◌/◌, ap, ap₂, arith, get_or, sym, ◌∙◌}
 use Rattle.std.specs.Char.{digit_value}
 use Rattle.scan_core.specs.Scanning.{between}

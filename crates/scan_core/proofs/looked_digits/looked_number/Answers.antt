@@ -1,3 +1,4 @@
+-- Answers to the goals of `looked_digits::looked_number`.
 use Rattle.std.proofs.Common.{ℕ, ◌^◌, ap, arith, get_or, inl, subst, sym, ◌∙◌}
 use Rattle.scan_core.specs.Digits.{number_of}
 use Rattle.scan_core.specs.Runs.{Knows}

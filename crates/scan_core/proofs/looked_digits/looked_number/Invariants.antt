@@ -1,3 +1,4 @@
+-- The invariant of the loop of `looked_digits::looked_number`.
 use Rattle.std.proofs.Common.{◌≡◌, ◌+◌, ◌-◌, ◌^◌}
 use Rattle.scan_core.specs.Digits.{number_of}
 use Rattle.scan_core.specs.Runs.{Knows}

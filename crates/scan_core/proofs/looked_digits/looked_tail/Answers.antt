@@ -1,3 +1,4 @@
+-- Answers to the goals of `looked_digits::looked_tail`.
 use Rattle.std.proofs.Common.{arith, refl, ◌≡◌, ◌+◌, ◌-◌, []}
 use Rattle.scan_core.proofs.RoundingFacts.{rounded_none}
 use Rattle.scan_core.proofs.looked_digits.looked_tail.Goals as goal

@@ -1,3 +1,4 @@
+-- Answers to the goals of `rounding::cut_fraction`.
 use Rattle.std.proofs.Common.{◌≡◌, ℕ, ◌+◌, ◌*◌, ◌/◌, ◌^◌, ◌<◌, List, [], ◌∷◌, ◌++◌, ap, ap₂, append-nil, arith, length, rules, subst, sym, ◌∙◌}
 use Rattle.std.proofs.lemmas.List.{nil_from_length}
 use Rattle.std.specs.Char.{digit_value}

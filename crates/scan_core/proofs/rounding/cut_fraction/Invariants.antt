@@ -1,3 +1,4 @@
+-- The invariant of the loop of `rounding::cut_fraction`.
 use Rattle.std.proofs.Common.{◌≡◌, ℕ, ◌*◌, ◌/◌, ◌^◌, List, ◌++◌, length}
 use Rattle.scan_core.specs.Digits.{number_of}
 use Rattle.scan_core.proofs.rounding.cut_fraction.Given as goal

@@ -1,3 +1,4 @@
+-- Answers to the goals of `rounding::rounded_fraction`.
 use Rattle.std.proofs.Common.{◌≡◌, ℕ, ◌+◌, ◌-◌, ◌*◌, ◌/◌, ◌^◌, ◌<◌, ◌≤◌, List, ap, ap₂, arith, drop, get_or, length, rules, subst, sym, take, ◌∙◌}
 use Rattle.std.proofs.lemmas.List.{nil_from_length}
 use Rattle.std.specs.Char.{digit_value}

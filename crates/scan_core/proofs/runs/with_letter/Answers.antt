@@ -1,3 +1,4 @@
+-- Answers to the goals of `runs::with_letter`.
 use Rattle.std.proofs.Common.{◌≡◌, rules}
 use Rattle.scan_core.proofs.PackedFacts.{letter_modulo}
 use Rattle.scan_core.proofs.runs.with_letter.Goals as goal

@@ -1,3 +1,4 @@
+-- Answers to the goals of `scanned::add_scanned`.
 use Rattle.std.proofs.Common.{arith}
 use Rattle.scan_core.proofs.scanned.add_scanned.Goals as goal
 

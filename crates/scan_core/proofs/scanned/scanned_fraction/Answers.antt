@@ -1,3 +1,4 @@
+-- Answers to the goals of `scanned::scanned_fraction`.
 use Rattle.std.proofs.Common.{arith, sym, ◌∙◌}
 use Rattle.scan_core.proofs.RoundingFacts.{rounded-le, rounded_none, rounded_is}
 use Rattle.scan_core.proofs.RunFacts.{run_length, run_exact}

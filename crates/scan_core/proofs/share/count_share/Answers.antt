@@ -1,3 +1,4 @@
+-- Answers to the goals of `share::count_share`.
 use Rattle.std.proofs.Common.{arith}
 use Rattle.scan_core.proofs.RoundingFacts.{rounded-le}
 use Rattle.scan_core.proofs.share.count_share.Goals as goal

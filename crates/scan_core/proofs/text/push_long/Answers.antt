@@ -1,3 +1,4 @@
+-- Answers to the goals of `text::push_long`.
 use Rattle.std.proofs.Common.{◌≡◌, ℕ, ◌-◌, ◌++◌, List, ap, ap₂, append_assoc, arith, decimal, length, replicate, ◌∙◌}
 use Rattle.scan_core.proofs.text.push_long.Goals as goal
 

@@ -1,3 +1,4 @@
+-- The invariant of the loop of `text::push_long`.
 use Rattle.std.proofs.Common.{◌≡◌, ◌+◌, ◌-◌, ◌≤◌, ◌++◌, length, max, replicate}
 use Rattle.arrayvec.specs.ArrayString.{array_string_len}
 use Rattle.scan_core.proofs.text.push_long.Given as goal

@@ -1,3 +1,4 @@
+-- Answers to the goals of `text::push_pair`.
 use Rattle.std.proofs.Common.{◌≡◌, ◌+◌, ◌-◌, ◌*◌, ◌++◌, List, ℕ, ap, ◌∙◌, arith}
 use Rattle.std.proofs.lemmas.Str.{IsCharBoundary-from_ascii}
 use Rattle.scan_core.specs.declared.text.TheConstants.{PAIRS}

@@ -1,3 +1,4 @@
+-- Answers to the goals of `text::push_trimmed`.
 use Rattle.std.proofs.Common.{sym, append-nil}
 use Rattle.scan_core.proofs.TrimmedFacts.{trimmed_nothing}
 use Rattle.scan_core.proofs.text.push_trimmed.Goals as goal

@@ -1,3 +1,4 @@
+-- Answers to the goals of `text::push_up_to_four`.
 use Rattle.std.proofs.Common.{◌-◌, ◌/◌, ◌%◌, ◌++◌, List, ℕ, ap, sym, ◌∙◌, append_assoc, length, length-append, refl, arith, rules}
 use Rattle.scan_core.specs.Padded.{padded_digits}
 use Rattle.scan_core.proofs.PairFacts.{length-pair_behind, pair_behind}

@@ -1,3 +1,4 @@
+-- Answers to the goals of `text::push_up_to_two`.
 use Rattle.std.proofs.Common.{◌++◌, List, ℕ, ap, sym, ◌∙◌, length, arith, rules}
 use Rattle.scan_core.proofs.PaddedFacts.{padded_some}
 use Rattle.scan_core.proofs.PairFacts.{length-two, one_wide, two_wide}

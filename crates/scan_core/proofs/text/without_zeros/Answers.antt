@@ -1,3 +1,4 @@
+-- Answers to the goals of `text::without_zeros`.
 use Rattle.std.proofs.Common.{◌-◌, ◌/◌, sym, ◌∙◌, arith}
 use Rattle.scan_core.proofs.PaddedFacts.{length-padded}
 use Rattle.scan_core.proofs.TrimmedFacts.{kept, zero_dropped}

@@ -1,3 +1,4 @@
+-- The invariant and the measure of the loop of `text::without_zeros`.
 use Rattle.std.proofs.Common.{◌≡◌, ◌<◌, ◌≤◌, decimal, length, max}
 use Rattle.scan_core.specs.Padded.{padded_digits, trimmed_digits}
 use Rattle.scan_core.proofs.text.without_zeros.Given as goal

@@ -1,3 +1,4 @@
+-- The invariant of the loop of `streams::read_again`.
 use Rattle.std.specs.Io.KnownBytes.{Keeps}
 use Rattle.timeforms.proofs.streams.read_again.Given as goal
 

@@ -1,3 +1,4 @@
+-- Answers to the goals of `duration::timeforms_duration_from_text`.
 use Rattle.std.proofs.Common.{ℕ, refl, sym, ap, subst, List}
 use Rattle.fancy_duration.specs.Meanings.{Denotes}
 use Rattle.timeforms_c.proofs.Answered.{not_ok, same_ok}

@@ -1,3 +1,4 @@
+-- Answers to the goals of `duration::timeforms_duration_to_text`.
 use Rattle.std.proofs.Common.{rules, FitsSigned, w32}
 use Rattle.forms.specs.Answers.{bytes_of}
 use Rattle.timeforms_c.proofs.Rooms.{answers_as}

@@ -1,3 +1,4 @@
+-- Answers to the goals of `form::form_named`.
 use Rattle.std.proofs.Common.{sym, subst}
 use Rattle.std.specs.Prelude.{IsUtf8}
 use Rattle.timeforms_c.proofs.Answered.{not_none}

@@ -1,3 +1,4 @@
+-- Answers to the goals of `form::timeforms_form_by_name`.
 use Rattle.std.proofs.Common.{refl}
 use Rattle.timeforms_c.proofs.form.timeforms_form_by_name.Goals as goal
 

@@ -1,3 +1,4 @@
+-- Answers to the goals of `form::timeforms_form_name`.
 use Rattle.std.proofs.Common.{refl, sym, ◌∙◌}
 use Rattle.std.proofs.Math.Facts.{to_z-of_z}
 use Rattle.timeforms_c.proofs.form.timeforms_form_name.Goals as goal

@@ -1,3 +1,4 @@
+-- Answers to the goals of `interval::read_alone`.
 use Rattle.std.proofs.Common.{Ok, ap}
 use Rattle.timeforms_c.proofs.Answered.{not_ok, same_ok}
 use Rattle.timeforms_c.proofs.interval.read_alone.Goals as goal

@@ -1,3 +1,4 @@
+-- Answers to the goals of `interval::timeforms_interval_from_text`.
 use Rattle.std.proofs.Common.{refl, ◌∙◌}
 use Rattle.std.proofs.Math.Facts.{to_z-of_z}
 use Rattle.timeforms_c.proofs.Answered.{not_err, not_ok, same_some}

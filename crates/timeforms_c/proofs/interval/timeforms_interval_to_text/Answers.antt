@@ -1,3 +1,4 @@
+-- Answers to the goals of `interval::timeforms_interval_to_text`.
 use Rattle.std.proofs.Common.{rules, ◌∙◌, FitsSigned, w32, w64}
 use Rattle.std.proofs.Math.Facts.{to_z-of_z}
 use Rattle.timeforms_c.proofs.Answered.{same_some}

@@ -1,3 +1,4 @@
+-- Answers to the goals of `reply::timeforms_reply`.
 use Rattle.std.proofs.Common.{refl, sym, ◌∙◌}
 use Rattle.std.proofs.Math.Facts.{to_z-of_z}
 use Rattle.timeforms_c.proofs.reply.timeforms_reply.Goals as goal

@@ -1,3 +1,4 @@
+-- Answers to the goals of `reply::timeforms_reply_by_name`.
 use Rattle.std.proofs.Common.{refl}
 use Rattle.timeforms_c.proofs.reply.timeforms_reply_by_name.Goals as goal
 

@@ -1,3 +1,4 @@
+-- Answers to the goals of `date::Date::from_civil`.
 use Rattle.std.proofs.Common.{arith, ◌-◌, unsigned_abs}
 use Rattle.std.proofs.lemmas.Int.{ints}
 use Rattle.dos_date.proofs.DateWordLemmas.{IsRealDay-date}

@@ -1,3 +1,4 @@
+-- Answers to the goals of `date::DateDisplay::fmt`.
 use Rattle.std.proofs.Common.{append_assoc}
 use Rattle.dos_date.proofs.TextLemmas.{padded_two}
 use Rattle.dos_date.proofs.date.DateDisplay.fmt.Goals as goal

@@ -1,3 +1,4 @@
+-- Answers to the goals of `time::Time::cut_from`.
 use Rattle.std.proofs.Common.{arith, ◌/◌}
 use Rattle.dos_date.proofs.time.Time.cut_from.Goals as goal
 

@@ -1,3 +1,4 @@
+-- Answers to the goals of `fancy::FancyDuration::reads_back`.
 use Rattle.fancy_duration.proofs.MonthsAlone.{tells_read_back}
 use Rattle.fancy_duration.proofs.fancy.FancyDuration.reads_back.Goals as goal
 

@@ -1,3 +1,4 @@
+-- Answers to the goals of `form::Form::by_name`.
 use Rattle.std.proofs.Common.{None, sym, ◌∙◌}
 use Rattle.std.proofs.lemmas.List.{append-nil}
 use Rattle.forms.proofs.NamedForms.{none_is_named}

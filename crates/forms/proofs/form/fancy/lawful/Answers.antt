@@ -1,3 +1,4 @@
+-- Answers to the goals of `form::fancy::lawful`.
 use Rattle.forms.proofs.ShortDurations.{short_durations}
 use Rattle.forms.proofs.form.fancy.lawful.Goals as goal
 

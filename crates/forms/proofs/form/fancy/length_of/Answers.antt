@@ -1,3 +1,4 @@
+-- Answers to the goals of `form::fancy::length_of`.
 use Rattle.std.proofs.Common.{◌≡◌, sym, ap, ◌∙◌, subst, arith}
 use Rattle.std.specs.Prelude.{ℤ, pos, ◌<ℤ◌}
 use Rattle.std.proofs.Math.Facts.{to_z-of_z}

@@ -1,3 +1,4 @@
+-- Answers to the goals of `form::fancy::length_of_triple`.
 use Rattle.std.proofs.Common.{◌≡◌, sym, ap, ◌∙◌, arith, of_z}
 use Rattle.std.specs.Prelude.{ℤ, pos}
 use Rattle.std.specs.Int.{w64}

@@ -1,3 +1,4 @@
+-- Answers to the goals of `form::fancy::read`.
 use Rattle.std.proofs.Common.{refl}
 use Rattle.forms.proofs.ShortDurations.{reads_length, refused}
 use Rattle.forms.proofs.form.fancy.read.Goals as goal

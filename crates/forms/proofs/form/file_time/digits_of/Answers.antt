@@ -1,3 +1,4 @@
+-- Answers to the goals of `form::file_time::digits_of`.
 use Rattle.std.proofs.Common.{arith, ap, length, List, ℕ}
 use Rattle.std.proofs.lemmas.Fmt.{length-decimal-le}
 use Rattle.forms.proofs.form.file_time.digits_of.Goals as goal

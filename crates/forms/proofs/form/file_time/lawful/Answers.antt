@@ -1,3 +1,4 @@
+-- Answers to the goals of `form::file_time::lawful`.
 use Rattle.forms.proofs.FileTimes.{file_times}
 use Rattle.forms.proofs.form.file_time.lawful.Goals as goal
 

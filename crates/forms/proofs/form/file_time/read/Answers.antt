@@ -1,3 +1,4 @@
+-- Answers to the goals of `form::file_time::read`.
 use Rattle.std.proofs.Common.{Ok, arith, subst, sym, ◌∙◌}
 use Rattle.std.specs.Prelude.{ℤ}
 use Rattle.std.proofs.lemmas.Int.{ints}

@@ -1,3 +1,4 @@
+-- Answers to the goals of `form::file_time::ticks_at`.
 use Rattle.std.proofs.Common.{◌≡◌, Ok, Err, ap, sym, subst, ◌∙◌, arith, of_z}
 use Rattle.std.specs.Prelude.{ℤ}
 use Rattle.std.specs.Int.{w128}

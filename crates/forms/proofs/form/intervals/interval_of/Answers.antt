@@ -1,3 +1,4 @@
+-- Answers to the goals of `form::intervals::interval_of`.
 use Rattle.std.proofs.Common.{sym, subst, arith, FitsSigned, w32}
 use Rattle.std.specs.Prelude.{ℤ}
 use Rattle.std.proofs.Math.Facts.{to_z-of_z}

@@ -1,3 +1,4 @@
+-- Answers to the goals of `form::intervals::interval_of_length`.
 use Rattle.std.proofs.Common.{sym, arith}
 use Rattle.std.proofs.lemmas.Int.{ints}
 use Rattle.forms.proofs.Intervals.{made_of_length, no_length_days, no_whole_micros}

@@ -1,3 +1,4 @@
+-- Answers to the goals of `form::intervals::lawful`.
 use Rattle.pg_interval_2.specs.declared.style.Style.TheVariants.{Iso, Postgres, Verbose, Sql, IsoStrict}
 use Rattle.forms.specs.declared.form.Form.TheVariants as form
 use Rattle.forms.proofs.Intervals.{intervals}

@@ -1,3 +1,4 @@
+-- Answers to the goals of `form::intervals::push`.
 use Rattle.std.proofs.Common.{Ok, Err, refl}
 use Rattle.pg_interval_2.specs.Styles.{style_text}
 use Rattle.forms.proofs.form.intervals.push.Goals as goal

@@ -1,3 +1,4 @@
+-- The ghost members of the calls of `form::intervals::read`.
 use Rattle.forms.proofs.form.intervals.read.Given as goal
 
 abbrev pub ghosts-read_alone : goal.ghosts-read_alone

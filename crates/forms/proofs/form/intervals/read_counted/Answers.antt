@@ -1,3 +1,4 @@
+-- Answers to the goals of `form::intervals::read_counted`.
 use Rattle.std.proofs.Common.{arith}
 use Rattle.std.proofs.lemmas.Int.{ints}
 use Rattle.pg_interval_2.specs.Styles.{IsBadPlace, not_in}

@@ -1,3 +1,4 @@
+-- Answers to the goals of `form::iso_date::date_for`.
 use Rattle.std.proofs.Common.{◌≡◌, Ok, ap, subst, ◌∙◌, arith, to_z, of_z}
 use Rattle.std.specs.Int.{w32}
 use Rattle.std.proofs.lemmas.Int.{ints}

@@ -1,3 +1,4 @@
+-- Answers to the goals of `form::iso_date::lawful`.
 use Rattle.forms.proofs.IsoDates.{iso_dates}
 use Rattle.forms.proofs.form.iso_date.lawful.Goals as goal
 

@@ -1,3 +1,4 @@
+-- Answers to the goals of `form::iso_date::read`.
 use Rattle.forms.specs.form.IsoDate.{Spells, Worth}
 use Rattle.forms.proofs.WholeTexts.{reads_whole, reads_part, reads_no_front}
 use Rattle.forms.proofs.form.iso_date.read.Goals as goal

@@ -1,3 +1,4 @@
+-- Answers to the goals of `form::iso_date_time::datetime_at`.
 use Rattle.std.proofs.Common.{◌∙◌, inl, subst, sym}
 use Rattle.std.proofs.Math.Facts.{to_z-of_z}
 use Rattle.jiff_core.specs.DateTime.{IsCivilNanos}

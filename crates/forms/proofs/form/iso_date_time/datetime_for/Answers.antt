@@ -1,3 +1,4 @@
+-- Answers to the goals of `form::iso_date_time::datetime_for`.
 use Rattle.std.proofs.Common.{◌≡◌, subst, arith, to_z, of_z}
 use Rattle.std.specs.Prelude.{ℤ}
 use Rattle.std.specs.Int.{w128}

@@ -1,3 +1,4 @@
+-- Answers to the goals of `form::iso_date_time::in_millis`.
 use Rattle.std.proofs.Common.{Ok, ap, sym, ◌∙◌}
 use Rattle.forms.proofs.IsoDateTimes.{whole_millis, part_millis}
 use Rattle.forms.proofs.form.iso_date_time.in_millis.Goals as goal

@@ -1,3 +1,4 @@
+-- Answers to the goals of `form::iso_date_time::instant_of`.
 use Rattle.std.proofs.Common.{◌≡◌, ap, ◌∙◌, arith}
 use Rattle.std.proofs.lemmas.Int.{ints}
 use Rattle.jiff_core.specs.DateTime.{civil_nanos}

@@ -1,3 +1,4 @@
+-- Answers to the goals of `form::iso_date_time::lawful`.
 use Rattle.forms.proofs.IsoDateTimes.{iso_date_times}
 use Rattle.forms.proofs.form.iso_date_time.lawful.Goals as goal
 

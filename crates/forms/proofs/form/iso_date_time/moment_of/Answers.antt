@@ -1,3 +1,4 @@
+-- Answers to the goals of `form::iso_date_time::moment_of`.
 use Rattle.std.proofs.Common.{◌≡◌, Ok, refl, subst, arith, to_z, of_z}
 use Rattle.std.specs.Prelude.{ℤ, pos, ◌-ℤ◌, ◌*ℤ◌}
 use Rattle.std.specs.Int.{w128}

@@ -1,3 +1,4 @@
+-- Answers to the goals of `form::iso_date_time::read`.
 use Rattle.forms.specs.form.IsoDateTime.{Spells, Worth}
 use Rattle.forms.proofs.WholeTexts.{reads_whole, reads_part, reads_no_front}
 use Rattle.forms.proofs.form.iso_date_time.read.Goals as goal

@@ -1,3 +1,4 @@
+-- Answers to the goals of `form::iso_date_time::utc`.
 use Rattle.std.proofs.Common.{◌≤◌, length, subst, sym}
 use Rattle.iso8601.specs.Written.{date_time_text}
 use Rattle.iso8601.specs.declared.types.Date.{Date}

@@ -1,3 +1,4 @@
+-- Answers to the goals of `form::iso_duration::counts_of`.
 use Rattle.std.proofs.Common.{Ok, ap, sym, ◌∙◌, arith}
 use Rattle.forms.proofs.IsoDurations.{counts_fit, counts_part, counts_beyond}
 use Rattle.forms.proofs.form.iso_duration.counts_of.Goals as goal

@@ -1,3 +1,4 @@
+-- Answers to the goals of `form::iso_duration::held_length`.
 use Rattle.std.proofs.Common.{Ok, ap, sym, ◌∙◌, arith}
 use Rattle.forms.proofs.IsoDurations.{length_fits, length_part, length_beyond}
 use Rattle.forms.proofs.form.iso_duration.held_length.Goals as goal

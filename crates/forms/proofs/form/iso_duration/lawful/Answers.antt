@@ -1,3 +1,4 @@
+-- Answers to the goals of `form::iso_duration::lawful`.
 use Rattle.forms.proofs.IsoDurations.{iso_durations}
 use Rattle.forms.proofs.form.iso_duration.lawful.Goals as goal
 

@@ -1,3 +1,4 @@
+-- Answers to the goals of `form::iso_duration::read`.
 use Rattle.std.proofs.Common.{ℕ, List, subst}
 use Rattle.forms.specs.Answers.{Is, ReadsBy}
 use Rattle.forms.specs.form.IsoDuration.{Spells, worth}

@@ -1,3 +1,4 @@
+-- Answers to the goals of `form::iso_duration::triple_of`.
 use Rattle.std.proofs.Common.{◌≡◌, sym, arith, to_z}
 use Rattle.std.specs.Prelude.{pos}
 use Rattle.std.specs.Int.{w64}

@@ -1,3 +1,4 @@
+-- Answers to the goals of `form::toml::date_of`.
 use Rattle.std.proofs.Common.{sym, ◌∙◌, subst}
 use Rattle.std.specs.Prelude.{ℤ, pos, ◌<ℤ◌}
 use Rattle.std.proofs.Math.Facts.{to_z-of_z}

@@ -1,3 +1,4 @@
+-- Answers to the goals of `form::toml::day_of`.
 use Rattle.std.proofs.Common.{◌≡◌, ◌≤◌, sym, subst, arith, to_z, of_z}
 use Rattle.std.specs.Prelude.{ℤ, pos}
 use Rattle.std.specs.Int.{w16}

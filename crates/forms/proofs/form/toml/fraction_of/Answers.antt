@@ -1,3 +1,4 @@
+-- Answers to the goals of `form::toml::fraction_of`.
 use Rattle.std.proofs.Common.{sym}
 use Rattle.forms.proofs.TomlDateTimes.{no_fraction, some_fraction}
 use Rattle.forms.proofs.form.toml.fraction_of.Goals as goal

@@ -1,3 +1,4 @@
+-- Answers to the goals of `form::toml::instant_of`.
 use Rattle.std.proofs.Common.{arith}
 use Rattle.std.proofs.lemmas.Int.{ints}
 use Rattle.forms.proofs.form.toml.instant_of.Goals as goal

@@ -1,3 +1,4 @@
+-- Answers to the goals of `form::toml::lawful`.
 use Rattle.forms.proofs.TomlDateTimes.{toml_date_times}
 use Rattle.forms.proofs.form.toml.lawful.Goals as goal
 

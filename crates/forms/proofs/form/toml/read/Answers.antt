@@ -1,3 +1,4 @@
+-- Answers to the goals of `form::toml::read`.
 use Rattle.std.proofs.Common.{refl, inr}
 use Rattle.forms.proofs.form.toml.read.Goals as goal
 

@@ -1,3 +1,4 @@
+-- Answers to the goals of `memory_source::MemSourceSource::read`.
 use Rattle.std.proofs.Common.{sym, ap}
 use Rattle.forms.specs.Memory.{SourceState}
 use Rattle.forms.proofs.Moves.{read_moves}

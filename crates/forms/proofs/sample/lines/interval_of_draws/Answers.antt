@@ -1,3 +1,4 @@
+-- Answers to the goals of `sample::lines::interval_of_draws`.
 use Rattle.std.proofs.Common.{arith}
 use Rattle.std.proofs.lemmas.Int.{ints}
 use Rattle.forms.proofs.SampleLines.{made_of_draws}

@@ -1,3 +1,4 @@
+-- Answers to the goals of `sample::lines::line_of`.
 use Rattle.std.proofs.Common.{◌∙◌}
 use Rattle.forms.proofs.SampleLines.{line_pushed}
 use Rattle.forms.proofs.sample.lines.line_of.Goals as goal

@@ -1,3 +1,4 @@
+-- Answers to the goals of `sample::lines::sample_bytes`.
 use Rattle.std.proofs.Common.{List, ℕ, ◌+◌, sym, ◌∙◌, subst}
 use Rattle.forms.specs.Sample.{sample_lines}
 use Rattle.forms.specs.inside.Pieces.{AreWhole}

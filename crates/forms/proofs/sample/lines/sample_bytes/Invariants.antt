@@ -1,3 +1,4 @@
+-- The invariant of the loop of `sample::lines::sample_bytes`.
 use Rattle.std.proofs.Common.{◌≡◌, ◌*◌}
 use Rattle.forms.specs.Sample.{drawn, sample_lines}
 use Rattle.forms.specs.inside.Pieces.{AreWhole}

@@ -1,3 +1,4 @@
+-- Answers to the goals of `sample::summary::counts_of`.
 use Rattle.std.proofs.Common.{sym, ◌∙◌, arith}
 use Rattle.forms.proofs.SampleTold.{first_refused, first_answered, none_left}
 use Rattle.forms.proofs.sample.summary.counts_of.Goals as goal

@@ -1,3 +1,4 @@
+-- The invariant and the measure of the loop of `sample::summary::counts_of`.
 use Rattle.std.proofs.Common.{◌≡◌, ◌+◌, ◌≤◌, length}
 use Rattle.forms.specs.Lines.{whole_lines}
 use Rattle.forms.specs.Sample.{answers, refusals}

@@ -1,3 +1,4 @@
+-- Answers to the goals of `sample::summary::push_count`.
 use Rattle.std.proofs.Common.{arith}
 use Rattle.std.proofs.lemmas.Fmt.{length-decimal-le}
 use Rattle.forms.proofs.sample.summary.push_count.Goals as goal

@@ -1,3 +1,4 @@
+-- Answers to the goals of `sample::summary::told`.
 use Rattle.forms.proofs.SampleTold.{told_pushed}
 use Rattle.forms.proofs.sample.summary.told.Goals as goal
 

@@ -1,3 +1,4 @@
+-- Answers to the goals of `parsers::date::parse_date`.
 use Rattle.std.proofs.Common.{rules}
 use Rattle.iso8601.specs.Dates.{IsDate}
 use Rattle.iso8601.specs.inside.Reading.{read_date}

@@ -1,3 +1,4 @@
+-- Answers to the goals of `parsers::datetime::parse_datetime`.
 use Rattle.std.proofs.Common.{rules}
 use Rattle.iso8601.specs.DateTimes.{IsDateTime}
 use Rattle.iso8601.specs.inside.DateTimeReading.{read_date_time}

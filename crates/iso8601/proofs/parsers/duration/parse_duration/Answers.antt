@@ -1,3 +1,4 @@
+-- Answers to the goals of `parsers::duration::parse_duration`.
 use Rattle.std.proofs.Common.{rules}
 use Rattle.iso8601.specs.Durations.{IsDuration}
 use Rattle.iso8601.specs.inside.DurationReading.{read_duration}

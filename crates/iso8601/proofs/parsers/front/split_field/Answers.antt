@@ -1,3 +1,4 @@
+-- Answers to the goals of `parsers::front::split_field`.
 use Rattle.std.proofs.Common.{◌≡◌, true, false, refl, rules}
 use Rattle.std.proofs.lemmas.List.{take_rest}
 use Rattle.iso8601.proofs.FieldFacts.{field_some, field_none}

@@ -1,3 +1,4 @@
+-- Answers to the goals of `parsers::front::split_number`.
 use Rattle.std.proofs.Common.{◌+◌, ◌*◌, ◌^◌, ◌≤◌, length, sym, ap, inl, arith}
 use Rattle.scan_core.specs.Fronts.{front_digits}
 use Rattle.iso8601.proofs.NumberFacts.{no_front, number_beyond, number_missing, number_read}

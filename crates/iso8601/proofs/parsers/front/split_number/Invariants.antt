@@ -1,3 +1,4 @@
+-- The invariant and the measure of the loop of `parsers::front::split_number`.
 use Rattle.std.proofs.Common.{◌≡◌, ◌^◌, ◌<◌, length}
 use Rattle.std.specs.Str.Parse.{digits_value_after}
 use Rattle.scan_core.specs.Digits.{number_of}

@@ -1,3 +1,4 @@
+-- Answers to the goals of `parsers::time::parse_time`.
 use Rattle.std.proofs.Common.{rules}
 use Rattle.iso8601.specs.Times.{IsTime}
 use Rattle.iso8601.specs.inside.TimeReading.{read_time}

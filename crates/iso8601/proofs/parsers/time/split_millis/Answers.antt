@@ -1,3 +1,4 @@
+-- Answers to the goals of `parsers::time::split_millis`.
 use Rattle.scan_core.proofs.FrontFacts.{front_are_digits}
 use Rattle.iso8601.proofs.parsers.time.split_millis.Goals as goal
 

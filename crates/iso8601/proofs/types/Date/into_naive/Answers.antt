@@ -1,3 +1,4 @@
+-- Answers to the goals of `types::Date::into_naive`.
 use Rattle.std.proofs.Common.{rules, ◌≡◌, ◌≤◌, IsSome, IfSome, pos, Option, Some, None, FitsSigned, refl, ◌∙◌, arith}
 use Rattle.std.specs.Int.{w32}
 use Rattle.std.proofs.lemmas.Int.{ints, to_z-of_z}

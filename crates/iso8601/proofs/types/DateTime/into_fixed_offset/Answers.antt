@@ -1,3 +1,4 @@
+-- Answers to the goals of `types::DateTime::into_fixed_offset`.
 use Rattle.std.proofs.Common.{rules, FitsSigned, refl}
 use Rattle.std.specs.Int.{w32}
 use Rattle.std.proofs.lemmas.Int.{to_z-of_z}

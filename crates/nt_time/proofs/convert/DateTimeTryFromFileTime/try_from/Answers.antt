@@ -1,3 +1,4 @@
+-- Answers to the goals of `convert::DateTimeTryFromFileTime::try_from`.
 use Rattle.std.proofs.Common.{◌<◌, ⊎_elim}
 use Rattle.std.proofs.lemmas.Bool.{cases_lt}
 use Rattle.nt_time.specs.Civil.{past_civil}

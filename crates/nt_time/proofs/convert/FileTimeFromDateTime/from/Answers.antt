@@ -1,3 +1,4 @@
+-- Answers to the goals of `convert::FileTimeFromDateTime::from`.
 use Rattle.std.proofs.Common.{pos, ◌≤ℤ◌, arith}
 use Rattle.std.proofs.lemmas.Int.{ints}
 use Rattle.jiff.proofs.Family.{civil_nanos-civil_seconds}

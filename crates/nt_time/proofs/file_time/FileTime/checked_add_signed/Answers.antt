@@ -1,3 +1,4 @@
+-- Answers to the goals of `file_time::FileTime::checked_add_signed`.
 use Rattle.nt_time.proofs.TickLemmas.{not_negative, moved_back, moved_forward}
 use Rattle.nt_time.proofs.file_time.FileTime.checked_add_signed.Goals as goal
 

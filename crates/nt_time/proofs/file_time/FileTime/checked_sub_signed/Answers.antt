@@ -1,3 +1,4 @@
+-- Answers to the goals of `file_time::FileTime::checked_sub_signed`.
 use Rattle.nt_time.proofs.TickLemmas.{not_negative, moved_forward-neg, moved_back-neg}
 use Rattle.nt_time.proofs.file_time.FileTime.checked_sub_signed.Goals as goal
 

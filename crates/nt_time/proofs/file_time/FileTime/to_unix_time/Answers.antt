@@ -1,3 +1,4 @@
+-- Answers to the goals of `file_time::FileTime::to_unix_time`.
 use Rattle.std.proofs.Common.{arith, pos, ◌-ℤ◌, ◌/◌}
 use Rattle.std.proofs.lemmas.Int.{ints}
 use Rattle.nt_time.proofs.file_time.FileTime.to_unix_time.Goals as goal

@@ -1,3 +1,4 @@
+-- Answers to the goals of `text::FileTimeFromStr::from_str`.
 use Rattle.std.proofs.Common.{◌∙◌, ◌^◌, ◌≤◌, ⊎_elim}
 use Rattle.std.proofs.lemmas.Bool.{cases_lt}
 use Rattle.std.specs.Str.Parse.{digits_value, without_leading_plus}

@@ -1,3 +1,4 @@
+-- Answers to the goals of `counted::Counted::count`.
 use Rattle.std.proofs.Common.{sym, ◌∙◌}
 use Rattle.pg_interval_2.specs.inside.Reading.{count_with, numeral_in}
 use Rattle.pg_interval_2.proofs.CountedFacts.{counted_push}

@@ -1,3 +1,4 @@
+-- Answers to the goals of `counted::Counted::count_clock`.
 use Rattle.std.proofs.Common.{[], ◌++◌, false, subst, take, true}
 use Rattle.scan_core.specs.Count.{Count, count_of}
 use Rattle.scan_core.specs.declared.share.Unit.TheVariants.{Hour, Minute, Second}

@@ -1,3 +1,4 @@
+-- Answers to the goals of `counted::Counted::take_item`.
 use Rattle.std.proofs.Common.{List, [], ◌∷◌, ◌++◌, ap, arith, inl, inr, subst, sym, ◌∙◌}
 use Rattle.scan_core.specs.Count.{Count}
 use Rattle.scan_core.specs.Runs.{letters_of}

@@ -1,3 +1,4 @@
+-- Answers to the goals of `interval::Interval::from_cell`.
 use Rattle.std.proofs.Common.{rules, ◌≡◌, ◌++◌, ◌∙◌}
 use Rattle.std.specs.Int.{w32, w64}
 use Rattle.pg_interval_2.specs.Cell.{big_endian}

@@ -1,3 +1,4 @@
+-- Answers to the goals of `interval::Interval::from_iso_strict`.
 use Rattle.std.proofs.Common.{ℕ, ◌≡◌, List, Ok, subst}
 use Rattle.pg_interval_2.specs.Denotes.{Denotes}
 use Rattle.pg_interval_2.specs.IsoStrict.{IsIsoStrict}

@@ -1,3 +1,4 @@
+-- Answers to the goals of `interval::Interval::from_postgres`.
 use Rattle.std.proofs.Common.{◌≡◌, ℕ, List, Err, Ok, subst}
 use Rattle.pg_interval_2.specs.Denotes.{Denotes}
 use Rattle.pg_interval_2.specs.Postgres.{IsPostgres, IsPostgresBadName}

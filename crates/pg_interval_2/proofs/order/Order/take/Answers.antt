@@ -1,3 +1,4 @@
+-- Answers to the goals of `order::Order::take`.
 use Rattle.std.proofs.Common.{ap, sym}
 use Rattle.pg_interval_2.specs.Postgres.{place_of}
 use Rattle.pg_interval_2.proofs.OrderFacts.{orders_push}

@@ -1,3 +1,4 @@
+-- Answers to the goals of `tally::Tally::add`.
 use Rattle.std.proofs.Common.{refl}
 use Rattle.scan_core.specs.Runs.{digits_of}
 use Rattle.pg_interval_2.specs.inside.Reading.{count_with, numeral_in}

@@ -1,3 +1,4 @@
+-- Answers to the goals of `tally::Tally::add_whole`.
 use Rattle.scan_core.proofs.Between.{between_none}
 use Rattle.pg_interval_2.proofs.tally.Tally.add_whole.Goals as goal
 

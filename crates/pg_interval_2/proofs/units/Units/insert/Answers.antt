@@ -1,3 +1,4 @@
+-- Answers to the goals of `units::Units::insert`.
 use Rattle.std.proofs.Common.{refl}
 use Rattle.std.specs.Int.{w8}
 use Rattle.std.proofs.lemmas.Nat.Bits.{bit_at_set_same, bit_at_set_other}

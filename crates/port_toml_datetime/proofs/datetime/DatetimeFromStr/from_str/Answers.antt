@@ -1,3 +1,4 @@
+-- Answers to the goals of `datetime::DatetimeFromStr::from_str`.
 use Rattle.port_toml_datetime.proofs.Table.{ok_from, all_from}
 use Rattle.port_toml_datetime.proofs.datetime.DatetimeFromStr.from_str.Goals as goal
 

@@ -1,3 +1,4 @@
+-- Answers to the goals of `scan::Scan::blanks`.
 use Rattle.std.proofs.Common.{arith, refl, [], ◌∷◌, ◌++◌}
 use Rattle.scan_core.specs.Blanks.{is_blank}
 use Rattle.scan_core.proofs.Scans.{all_passed, among_more, among_none, front_passed}

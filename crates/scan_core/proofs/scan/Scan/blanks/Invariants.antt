@@ -1,3 +1,4 @@
+-- The invariant and the measure of the loop of `scan::Scan::blanks`.
 use Rattle.std.proofs.Common.{◌≡◌, ℕ, ◌+◌, List, length}
 use Rattle.scan_core.specs.Blanks.{is_blank}
 use Rattle.scan_core.specs.Scanning.{ahead, unseen}

@@ -1,3 +1,4 @@
+-- Answers to the goals of `scan::Scan::digits`.
 use Rattle.std.proofs.Common.{ℕ, ◌++◌, [], ◌∷◌, ◌^◌, arith, inl, refl, subst, sym, ◌∙◌}
 use Rattle.std.specs.Char.{is_ascii_digit}
 use Rattle.scan_core.specs.Runs.{Knows}

@@ -1,3 +1,4 @@
+-- The invariant and the measure of the loop of `scan::Scan::digits`.
 use Rattle.std.proofs.Common.{◌≡◌, ℕ, ◌+◌, ◌^◌, List, length}
 use Rattle.std.specs.Char.{is_ascii_digit}
 use Rattle.scan_core.specs.Digits.{number_of}

@@ -1,3 +1,4 @@
+-- Answers to the goals of `scan::Scan::digits_up_to`.
 use Rattle.std.proofs.Common.{ℕ, ◌+◌, ◌++◌, [], ◌∷◌, ◌^◌, arith, inl, refl, subst, sym, length-append, length, ◌≡◌, ◌⊎◌, ◌≤◌, List, inr, ◌∙◌}
 use Rattle.std.specs.Char.{is_ascii_digit}
 use Rattle.scan_core.specs.Runs.{Knows}

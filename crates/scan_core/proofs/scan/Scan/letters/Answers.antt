@@ -1,3 +1,4 @@
+-- Answers to the goals of `scan::Scan::letters`.
 use Rattle.std.proofs.Common.{ℕ, ◌++◌, [], ◌∷◌, ◌%◌, ◌^◌, arith, refl, ap, sym, ◌∙◌}
 use Rattle.std.specs.Char.{is_ascii_alphabetic}
 use Rattle.scan_core.specs.Runs.{Knows, packed}

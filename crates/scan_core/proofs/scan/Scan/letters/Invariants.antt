@@ -1,3 +1,4 @@
+-- The invariant and the measure of the loop of `scan::Scan::letters`.
 use Rattle.std.proofs.Common.{◌≡◌, ℕ, ◌+◌, ◌%◌, ◌^◌, List, length}
 use Rattle.std.specs.Char.{is_ascii_alphabetic}
 use Rattle.scan_core.specs.Runs.{packed}

@@ -1,3 +1,4 @@
+-- Answers to the goals of `totals::Totals::add`.
 use Rattle.std.proofs.Common.{FitsSigned, w32, w64, ap, arith, rules}
 use Rattle.std.proofs.lemmas.Int.{ints}
 use Rattle.scan_core.specs.Sums.{Added}

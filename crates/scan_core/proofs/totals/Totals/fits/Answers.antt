@@ -1,3 +1,4 @@
+-- Answers to the goals of `totals::Totals::fits`.
 use Rattle.std.proofs.Common.{ap, refl, rules}
 use Rattle.scan_core.specs.Sums.{Added}
 use Rattle.scan_core.proofs.totals.Totals.fits.Goals as goal

@@ -1,3 +1,4 @@
+-- The invariant of the loop of `totals::tests::totals_of`.
 use Rattle.std.proofs.Common.{◌≡◌}
 use Rattle.scan_core.proofs.totals.tests.totals_of.Given as goal
 
