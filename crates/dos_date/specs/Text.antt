@@ -5,12 +5,14 @@ use Rattle.dos_date.specs.Bits.{bits}
 
 -- a year of four digits, a month and a day
 abbrev pub day_text : ℕ → ℕ → ℕ → List ℕ
-day_text year month day = decimal year ++ codes "-" ++ padded_digits 2 month ++ codes "-" ++ padded_digits 2 day
+day_text year month day =
+    decimal year ++ codes "-" ++ padded_digits 2 month ++ codes "-" ++ padded_digits 2 day
 
 -- an hour, a minute and a second
 abbrev pub clock_text : ℕ → ℕ → ℕ → List ℕ
 clock_text hour minute second =
-    padded_digits 2 hour ++ codes ":" ++ padded_digits 2 minute ++ codes ":" ++ padded_digits 2 second
+    padded_digits 2 hour ++ codes ":" ++ padded_digits 2 minute ++ codes ":"
+    ++ padded_digits 2 second
 
 -- the text of a date word and of a time word
 abbrev pub date_text : ℕ → List ℕ

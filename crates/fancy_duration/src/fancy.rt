@@ -154,7 +154,8 @@ impl<D: AsTimes + Copy> fmt::Display for FancyDuration<D> {
 impl<D: AsTimes + Copy> FromStr for FancyDuration<D> {
     type Err = FancyError;
 
-    ghost from_str_gives = { λ bytes result. Parses (λ fancy. D.times fancy.0) D.holds bytes result };
+    ghost from_str_gives = { λ bytes result.
+        Parses (λ fancy. D.times fancy.0) D.holds bytes result };
 
     fn from_str(s: &str) -> Result<Self, FancyError> {
         FancyDuration::parse(s)

@@ -66,7 +66,8 @@ pub fn written_texts_are_strict()
 pub fn shared_texts_differ_by_months_and_minutes()
     ensures { (s t : ℕ × ℕ) → s.0 < 2 ^ 64 → t.0 < 2 ^ 64 → s.1 < 1_000_000_000
         → t.1 < 1_000_000_000 → s ≢ t
-        → ((length_text (nanos_of s) ≡ length_text (nanos_of t)) ↔ Collide (nanos_of s) (nanos_of t)) }
+        → ((length_text (nanos_of s) ≡ length_text (nanos_of t))
+        ↔ Collide (nanos_of s) (nanos_of t)) }
 {}
 
 /// To filter twice by one list is to filter once.

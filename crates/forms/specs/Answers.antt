@@ -11,10 +11,12 @@ abbrev pub Is : {X Y : Type 0} → (X → Y) → X → Y → Type 0
 Is function x y = y ≡ function x
 
 -- the text spells something, and the answer is what that is worth; or it spells nothing, and the answer is `Syntax`
-abbrev pub ReadsBy : {X : Type 0} → (List ℕ → X → Type 0) → (X → Result Value Cause → Type 0) → List ℕ → Result Value Cause
+abbrev pub ReadsBy : {X : Type 0} → (List ℕ → X → Type 0) → (X → Result Value Cause → Type 0)
+    → List ℕ → Result Value Cause
     → Type 0
 ReadsBy {X} Spells Worth text answer =
-    ((x : X) × Spells text x × Worth x answer) ⊎ (((x : X) → Spells text x → ⊥) × (answer ≡ Err Syntax))
+    ((x : X) × Spells text x × Worth x answer)
+    ⊎ (((x : X) → Spells text x → ⊥) × (answer ≡ Err Syntax))
 
 -- what is real and in range has this value; what isn't real is `NoSuchMoment`, and what is real and out of range is `Range`
 abbrev pub Judged : Type 0 → Type 0 → Value → Result Value Cause → Type 0
@@ -28,12 +30,14 @@ result_map make (Ok x) = Ok (make x)
 result_map make (Err cause) = Err cause
 
 -- the answer is the text of what is held of the value, or the cause why nothing is
-abbrev pub WritesBy : {X : Type 0} → (Value → Result X Cause → Type 0) → (X → List ℕ) → Value → Result (List ℕ) Cause → Type 0
+abbrev pub WritesBy : {X : Type 0} → (Value → Result X Cause → Type 0) → (X → List ℕ) → Value
+    → Result (List ℕ) Cause → Type 0
 WritesBy {X} Holds text_of value answer =
     (held : Result X Cause) × Holds value held × (answer ≡ result_map text_of held)
 
 -- what follows of a result, or its cause
-abbrev pub Then : {X Y : Type 0} → (X → Result Y Cause → Type 0) → Result X Cause → Result Y Cause → Type 0
+abbrev pub Then : {X Y : Type 0} → (X → Result Y Cause → Type 0) → Result X Cause
+    → Result Y Cause → Type 0
 Then Next (Ok x) answer = Next x answer
 Then Next (Err cause) answer = answer ≡ Err cause
 

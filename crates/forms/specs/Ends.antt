@@ -25,7 +25,8 @@ pub record Streams : Type 0 where
   pub write_faults : ℕ
 
 -- the same of a source and a sink, by what their traits tell
-abbrev pub streams : {S K : Type 0} → (S → Option (List ℕ)) → (S → ℕ) → (S → ℕ) → (K → Option (List ℕ)) → (K → ℕ) → S → K → Streams
+abbrev pub streams : {S K : Type 0} → (S → Option (List ℕ)) → (S → ℕ) → (S → ℕ)
+    → (K → Option (List ℕ)) → (K → ℕ) → S → K → Streams
 streams left taken read_faults held write_faults source sink = record {
   left = left source;
   taken = taken source;

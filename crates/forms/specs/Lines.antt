@@ -16,4 +16,5 @@ onto_line byte (line ∷ more) = (byte ∷ line) ∷ more
 -- the lines that a line feed ends: all lines but one that stands last without its line feed
 abbrev pub whole_lines : List ℕ → List (List ℕ)
 whole_lines [] = []
-whole_lines (byte ∷ bytes) = if byte == 10 then ([] ∷ whole_lines bytes) else onto_line byte (whole_lines bytes)
+whole_lines (byte ∷ bytes) =
+    if byte == 10 then ([] ∷ whole_lines bytes) else onto_line byte (whole_lines bytes)

@@ -27,7 +27,11 @@ pub record SinkState : Type 0 where
 
 -- a source after a read that gave n bytes
 abbrev pub after_read : SourceState → ℕ → SourceState
-after_read s n = record s { left = drop n s.left; taken = counted_up s.taken n; calls = counted_up s.calls 1 }
+after_read s n = record s {
+  left = drop n s.left;
+  taken = counted_up s.taken n;
+  calls = counted_up s.calls 1;
+}
 
 -- a source after a read that failed
 abbrev pub after_failed_read : SourceState → SourceState
@@ -39,7 +43,11 @@ read_len s room = min (min s.cut room) (length s.left)
 
 -- a sink after a write that took these bytes
 abbrev pub after_write : SinkState → List ℕ → SinkState
-after_write s front = record s { held = s.held ++ front; room = s.room - length front; calls = counted_up s.calls 1 }
+after_write s front = record s {
+  held = s.held ++ front;
+  room = s.room - length front;
+  calls = counted_up s.calls 1;
+}
 
 -- a sink after a write that failed
 abbrev pub after_failed_write : SinkState → SinkState

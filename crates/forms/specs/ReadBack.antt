@@ -9,7 +9,8 @@ use Rattle.forms.specs.Values.{Same}
 
 -- what the second form writes of what the first reads
 abbrev pub Turns : Form → Form → List ℕ → Result (List ℕ) Cause → Type 0
-Turns from to text answer = (value : Result Value Cause) × Reads from text value × Then (Writes to) value answer
+Turns from to text answer =
+    (value : Result Value Cause) × Reads from text value × Then (Writes to) value answer
 
 -- the text stands for a value that is the same as this one, and that value's text is this text
 pub record IsReadBack (form : Form) (value : Value) (text : List ℕ) : Type 0 where

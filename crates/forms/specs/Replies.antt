@@ -16,13 +16,15 @@ use Rattle.forms.specs.ReadBack.{Turns}
 -- Between two interval forms: the second form's written text of the one interval that the text denotes by the first form's grammar,
 -- `Syntax` exactly without its shape, and `Range` exactly where a share or a sum doesn't fit.
 abbrev pub IsIntervalAnswer : Style → Style → List ℕ → Result (List ℕ) Cause → Type 0
-IsIntervalAnswer from to text (Ok out) = (t : Interval) × Denotes (Shape from) text t × (out ≡ style_text to t)
+IsIntervalAnswer from to text (Ok out) =
+    (t : Interval) × Denotes (Shape from) text t × (out ≡ style_text to t)
 IsIntervalAnswer from to text (Err Syntax) = HasNoShape (Shape from) text
 IsIntervalAnswer from to text (Err Range) = (part : Part) × Misfits (Shape from) text part
 IsIntervalAnswer from to text (Err _) = ⊥
 
 -- the answer between two styles, and another where one of the forms is none
-abbrev pub IsAnswerBy : Option Style → Option Style → (List ℕ → Result (List ℕ) Cause → Type 0) → List ℕ
+abbrev pub IsAnswerBy : Option Style → Option Style → (List ℕ → Result (List ℕ) Cause → Type 0)
+    → List ℕ
     → Result (List ℕ) Cause → Type 0
 IsAnswerBy (Some from) (Some to) Other = IsIntervalAnswer from to
 IsAnswerBy _ _ Other = Other

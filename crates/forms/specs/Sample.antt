@@ -47,12 +47,16 @@ interval_of_draws a b c = record {
 
 -- the interval of a line, whose index is from 0 on: of three numbers of its own
 abbrev pub sample_interval : ℕ → Interval
-sample_interval index = interval_of_draws (drawn (3 * index + 1)) (drawn (3 * index + 2)) (drawn (3 * index + 3))
+sample_interval index =
+    interval_of_draws (drawn (3 * index + 1)) (drawn (3 * index + 2)) (drawn (3 * index + 3))
 
 -- four styles in turn
 abbrev pub style_at : ℕ → Style
 style_at number =
-    if number == 0 then style.Iso else if number == 1 then style.Postgres else if number == 2 then style.Verbose else style.Sql
+    if number == 0 then style.Iso
+    else if number == 1 then style.Postgres
+    else if number == 2 then style.Verbose
+    else style.Sql
 
 -- the form of a style
 abbrev pub form_of : Style → Form
@@ -76,7 +80,9 @@ mark_of index = if index % 10 == 9 then codes "x" else []
 -- a line: the names of two forms, and the text of its interval in the first
 unfoldable pub line_of : ℕ → Interval → List ℕ
 line_of index t =
-    name_of (form_of (style_from index)) ++ (codes " " ++ (name_of (form_of (style_to index)) ++ (codes " " ++ (style_text (style_from index) t ++ mark_of index))))
+    name_of (form_of (style_from index)) ++ (codes " "
+    ++ (name_of (form_of (style_to index)) ++ (codes " "
+    ++ (style_text (style_from index) t ++ mark_of index))))
 
 -- the first lines, in order
 abbrev pub sample_lines : ℕ → List (List ℕ)
@@ -101,24 +107,32 @@ answers (reply ∷ more) = (if is_refusal reply then 0 else 1) + answers more
 -- counts of lines, of replies that are no refusals, of refusals, and of all bytes of the replies
 unfoldable pub told : ℕ → ℕ → ℕ → ℕ → List ℕ
 told lines ok refused bytes =
-    codes "lines " ++ (decimal lines ++ (codes " ok " ++ (decimal ok ++ (codes " refused " ++ (decimal refused ++ (codes " bytes " ++ (decimal bytes ++ codes "\n")))))))
+    codes "lines " ++ (decimal lines
+    ++ (codes " ok " ++ (decimal ok
+    ++ (codes " refused " ++ (decimal refused
+    ++ (codes " bytes " ++ (decimal bytes ++ codes "\n")))))))
 
 -- the line tells of the replies to so many lines
 pub record TellsOfSample (count : ℕ) (line : List ℕ) : Type 0 where
   pub replies : List ℕ
   pub answered : AreReplies (sample_lines count) replies
-  pub counted : line ≡ told count (answers (whole_lines replies)) (refusals (whole_lines replies)) (length replies)
+  pub counted :
+      line ≡ told count (answers (whole_lines replies)) (refusals (whole_lines replies))
+      (length replies)
 
 -- What stands at each end, of what a sink held and holds, and of how many writes had failed and have.
 --   Done        the sink gained the line that tells of the replies
 --   WriteFault  a write failed; the sink gained a front of that line
 --   NoMemory    nothing was written
 abbrev pub SampleStands : ℕ → Option (List ℕ) → Option (List ℕ) → ℕ → ℕ → RunEnd → Type 0
-SampleStands count old new before now Done = (line : List ℕ) × TellsOfSample count line × Appends old new line
-SampleStands count old new before now WriteFault = Rose before now × ((line : List ℕ) × TellsOfSample count line × AppendsFront old new line)
+SampleStands count old new before now Done =
+    (line : List ℕ) × TellsOfSample count line × Appends old new line
+SampleStands count old new before now WriteFault =
+    Rose before now × ((line : List ℕ) × TellsOfSample count line × AppendsFront old new line)
 SampleStands count old new before now NoMemory = new ≡ old
 SampleStands count old new before now _ = ⊥
 
 -- a sample ended so, and this is its status
 abbrev pub SampleEndedWith : ℕ → Option (List ℕ) → Option (List ℕ) → ℕ → ℕ → ℕ → Type 0
-SampleEndedWith count old new before now status = (end : RunEnd) × SampleStands count old new before now end × (status ≡ status_of end)
+SampleEndedWith count old new before now status =
+    (end : RunEnd) × SampleStands count old new before now end × (status ≡ status_of end)

@@ -17,7 +17,8 @@ IsWithinBounds (Instant nanos) = IsWithin (10 ^ 22) nanos
 IsWithinBounds (Day day) = IsEpochDay day
 IsWithinBounds (Local day nanos) = IsEpochDay day × IsOfDay nanos
 IsWithinBounds (Clock nanos) = IsOfDay nanos
-IsWithinBounds (Triple months days micros) = FitsSigned w64 months × (FitsSigned w64 days × FitsSigned w64 micros)
+IsWithinBounds (Triple months days micros) =
+    FitsSigned w64 months × (FitsSigned w64 days × FitsSigned w64 micros)
 IsWithinBounds (Length nanos) = nanos < 2 ^ 64 * 1_000_000_000
 
 -- the nanoseconds of days and microseconds

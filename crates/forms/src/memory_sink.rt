@@ -93,7 +93,8 @@ impl Sink for MemSink {
         ensures some { TakesSome piece.now result }
         ensures cause { HasCause self.old.faults self.new.faults result }
         ensures fails { IsErr result ↔
-            (Contains self.old.fails self.old.calls ⊎ ((self.old.room ≡ 0) × (0 < length piece.now))) }
+            (Contains self.old.fails self.old.calls
+            ⊎ ((self.old.room ≡ 0) × (0 < length piece.now))) }
         ensures failed { OnErr result (self.new ≡ after_failed_write self.old) }
         ensures given { IfOk result (λ n.
             (n ≡ write_len self.old (length piece.now))

@@ -37,7 +37,8 @@ pub fn answer_piece<K: Sink>(
     ensures ok { OnOk result
         (Answers (kept.old.items ++ piece.now) kept.new.items (K.held sink.old) (K.held sink.new)) }
     ensures err { OnErr result
-        (GainsFront (whole_lines (kept.old.items ++ piece.now)) (K.held sink.old) (K.held sink.new)) }
+        (GainsFront (whole_lines (kept.old.items ++ piece.now))
+        (K.held sink.old) (K.held sink.new)) }
     ensures empty { OnOk result (batch.new.bytes ≡ []) }
     ensures room { vec_capacity kept.old ≤ vec_capacity kept.new }
     ensures cause { HasCause (K.faults sink.old) (K.faults sink.new) result }

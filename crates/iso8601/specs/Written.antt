@@ -28,13 +28,15 @@ date_text (Ordinal year ddd) = year_text year ++ (codes "-" ++ padded_digits 3 d
 -- `16:43:16.123`
 unfoldable pub clock_text : ℕ → ℕ → ℕ → ℕ → List ℕ
 clock_text hour minute second millisecond =
-    padded_digits 2 hour ++ (codes ":" ++ (padded_digits 2 minute ++ (codes ":" ++ (padded_digits 2 second
-    ++ (codes "." ++ padded_digits 3 millisecond)))))
+    padded_digits 2 hour ++ (codes ":"
+    ++ (padded_digits 2 minute ++ (codes ":"
+    ++ (padded_digits 2 second ++ (codes "." ++ padded_digits 3 millisecond)))))
 
 -- a number in at least two characters, of which its minus is one
 unfoldable pub two_wide : ℤ → List ℕ
 two_wide z =
-    if is_negative z then (codes "-" ++ padded_digits 1 (unsigned_abs z)) else padded_digits 2 (unsigned_abs z)
+    if is_negative z then (codes "-" ++ padded_digits 1 (unsigned_abs z))
+    else padded_digits 2 (unsigned_abs z)
 
 -- a part of an offset, negated where a minus governs the parts
 abbrev pub governed_part : Bool → ℤ → ℤ

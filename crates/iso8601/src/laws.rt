@@ -44,10 +44,12 @@ pub fn a_written_text_is_read_back()
         → Begins IsTime (time_text time) value rest → NoneLonger IsTime (time_text time) rest
         → (value ≡ time) × (rest ≡ []) }
     ensures date_time { (t value : DateTime) (rest : List ℕ) → IsDateTimeInRange t
-        → Begins IsDateTime (date_time_text t) value rest → NoneLonger IsDateTime (date_time_text t) rest
+        → Begins IsDateTime (date_time_text t) value rest
+        → NoneLonger IsDateTime (date_time_text t) rest
         → (value ≡ t) × (rest ≡ []) }
     ensures duration { (d value : Duration) (rest : List ℕ) → IsDurationInRange d
-        → Begins IsDuration (duration_text d) value rest → NoneLonger IsDuration (duration_text d) rest
+        → Begins IsDuration (duration_text d) value rest
+        → NoneLonger IsDuration (duration_text d) rest
         → (value ≡ d) × (rest ≡ []) }
 {}
 

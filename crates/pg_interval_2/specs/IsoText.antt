@@ -16,7 +16,8 @@ nonzero_digits n = if n == 0 then [] else decimal n
 -- seconds with microseconds: `6.500000S`, and `.500000S` of microseconds alone
 unfoldable pub iso_decimal : Bool → ℕ → ℕ → List ℕ
 iso_decimal negative seconds micros =
-    minus negative ++ (nonzero_digits seconds ++ (codes "." ++ (padded_digits 6 micros ++ codes "S")))
+    minus negative ++ (nonzero_digits seconds
+    ++ (codes "." ++ (padded_digits 6 micros ++ codes "S")))
 
 -- the seconds, with their microseconds where these aren't 0
 unfoldable pub iso_seconds : Bool → ℕ → ℕ → List ℕ

@@ -23,7 +23,8 @@ unit_words negative n name = number_words negative n (counted_name false n name)
 
 -- seconds with microseconds as one exact decimal without zeros at its end: `6.5`
 unfoldable pub second_digits : ℕ → ℕ → List ℕ
-second_digits seconds micros = decimal seconds ++ (codes "." ++ trimmed_digits (padded_digits 6 micros))
+second_digits seconds micros =
+    decimal seconds ++ (codes "." ++ trimmed_digits (padded_digits 6 micros))
 
 -- the seconds with their microseconds, where these aren't 0
 unfoldable pub second_words : Bool → ℕ → ℕ → List (List ℕ)

@@ -27,7 +27,8 @@ fn cut_fraction<L: Ledger>(scan: &mut Scan<'_>, steps: &mut Steps<L>) -> Run
     ensures digits { digits_of scan.new.text result ≡ take 6 (read_fraction (ahead scan.old)).0 }
     ensures rest { ahead scan.new ≡ (read_fraction (ahead scan.old)).1 }
     ensures same { scan.new.text ≡ scan.old.text }
-    ensures onward { (result.end - result.start) + length (ahead scan.new) ≤ length (ahead scan.old) }
+    ensures onward { (result.end - result.start) + length (ahead scan.new)
+        ≤ length (ahead scan.old) }
     ensures ticks { steps.new + unseen (ahead scan.new) ≡ steps.old + unseen (ahead scan.old) }
 {
     if !scan.next_if(b'.', steps) {
@@ -56,7 +57,8 @@ pub(crate) fn clock_behind<L: Ledger>(
     ensures same { scan.new.text ≡ scan.old.text }
     ensures onward { length (ahead scan.new) ≤ length (ahead scan.old) }
     ensures shorter { IfSome result (λ clock.
-        (clock.fraction.end - clock.fraction.start) + length (ahead scan.new) ≤ length (ahead scan.old)) }
+        (clock.fraction.end - clock.fraction.start) + length (ahead scan.new)
+        ≤ length (ahead scan.old)) }
     ensures ticks { steps.new + unseen (ahead scan.new) ≡ steps.old + unseen (ahead scan.old) }
 {
     let minutes = scan.digits(steps);

@@ -43,7 +43,8 @@ pub(crate) enum Step {
 #[inline(always)]
 fn is_zero(number: Decimal) -> bool
     ensures { (text : List ℕ) → IsDecimal text number → result
-        ≡ (number_of (digits_of text number.whole) == 0 && number_of (digits_of text number.fraction) == 0) }
+        ≡ (number_of (digits_of text number.whole) == 0
+        && number_of (digits_of text number.fraction) == 0) }
 {
     number.whole.value == 0 && number.fraction.value == 0
 }
@@ -174,7 +175,8 @@ impl Counted {
         ensures room { LeavesRoom (self.old.tally.totals.adds + length (ahead scan.old))
             (self.new.tally.totals.adds + length (ahead scan.new)) result }
         ensures step { (counts : List Count) → IsCounted self.old (turned_counts turned counts)
-            → IsStep (names_in names) turned scan.new.text (ahead scan.old) (ahead scan.new) counts self.new result }
+            → IsStep (names_in names) turned scan.new.text (ahead scan.old) (ahead scan.new)
+            counts self.new result }
         ensures same { scan.new.text ≡ scan.old.text }
         ensures spends { Spends steps.old (ahead scan.old) steps.new (ahead scan.new) }
     {

@@ -48,7 +48,8 @@ fn pair<L: Ledger>(
     ensures none { IfNone result (None ≡ read_pair (unit_in in_time) (ahead scan.old)) }
     ensures number { IfSome result (λ pair. IsDecimal scan.new.text pair.0) }
     ensures shorter { IfSome result (λ pair.
-        (pair.0.fraction.end - pair.0.fraction.start) + length (ahead scan.new) < length (ahead scan.old)) }
+        (pair.0.fraction.end - pair.0.fraction.start) + length (ahead scan.new)
+        < length (ahead scan.old)) }
     ensures same { scan.new.text ≡ scan.old.text }
     ensures onward { length (ahead scan.new) ≤ length (ahead scan.old) }
     ensures ticks { steps.new + unseen (ahead scan.new) ≡ steps.old + unseen (ahead scan.old) }
@@ -92,7 +93,8 @@ fn take_pairs<L: Ledger>(
     ensures room { tally.new.totals.adds + length (ahead scan.new)
         ≤ tally.old.totals.adds + length (ahead scan.old) }
     ensures taken { result ≡ true
-        → TakesPairs in_time (ahead scan.old) (ahead scan.new) tally.old tally.new order.old order.new }
+        → TakesPairs in_time (ahead scan.old) (ahead scan.new)
+        tally.old tally.new order.old order.new }
     ensures ends { result ≡ true → ends_pairs (ahead scan.new) ≡ true }
     ensures stops { result ≡ false → StopsBehindPairs in_time (ahead scan.old) tally.old order.old }
     ensures same { scan.new.text ≡ scan.old.text }

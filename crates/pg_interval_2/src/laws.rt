@@ -39,8 +39,10 @@ pub fn only_texts_with_weeks_are_new()
 
 /// A text in strict ISO style is in ISO style with the same counts, so it denotes the same interval.
 pub fn strict_texts_are_iso_texts()
-    ensures counts { (text : List ℕ) (counts : List Count) → IsIsoStrict text counts → IsIso text counts }
-    ensures denotes { (text : List ℕ) (t : Interval) → Denotes IsIsoStrict text t → Denotes IsIso text t }
+    ensures counts { (text : List ℕ) (counts : List Count) → IsIsoStrict text counts
+        → IsIso text counts }
+    ensures denotes { (text : List ℕ) (t : Interval) → Denotes IsIsoStrict text t
+        → Denotes IsIso text t }
 {}
 
 /// What is written in ISO style is in the strict style too, and denotes the interval by it.

@@ -43,7 +43,8 @@ pub(crate) fn fraction<L: Ledger>(scan: &mut Scan<'_>, steps: &mut Steps<L>) -> 
     ensures read { (digits_of scan.new.text result, ahead scan.new)
         ≡ read_fraction (ahead scan.old) }
     ensures same { scan.new.text ≡ scan.old.text }
-    ensures onward { (result.end - result.start) + length (ahead scan.new) ≤ length (ahead scan.old) }
+    ensures onward { (result.end - result.start) + length (ahead scan.new)
+        ≤ length (ahead scan.old) }
     ensures ticks { steps.new + unseen (ahead scan.new) ≡ steps.old + unseen (ahead scan.old) }
 {
     if scan.next_if(b'.', steps) {
@@ -58,11 +59,13 @@ pub(crate) fn fraction<L: Ledger>(scan: &mut Scan<'_>, steps: &mut Steps<L>) -> 
 #[tactic(auto, unfolding(crate::specs::inside::Reading::read_unsigned))]
 fn unsigned<L: Ledger>(negative: bool, scan: &mut Scan<'_>, steps: &mut Steps<L>) -> Option<Decimal>
     ensures read { IfSome result (λ number.
-        Some (numeral_in scan.new.text number, ahead scan.new) ≡ read_unsigned negative (ahead scan.old)) }
+        Some (numeral_in scan.new.text number, ahead scan.new)
+        ≡ read_unsigned negative (ahead scan.old)) }
     ensures none { IfNone result (None ≡ read_unsigned negative (ahead scan.old)) }
     ensures number { IfSome result (IsDecimal scan.new.text) }
     ensures shorter { IfSome result (λ number.
-        (number.fraction.end - number.fraction.start) + length (ahead scan.new) ≤ length (ahead scan.old)) }
+        (number.fraction.end - number.fraction.start) + length (ahead scan.new)
+        ≤ length (ahead scan.old)) }
     ensures same { scan.new.text ≡ scan.old.text }
     ensures onward { length (ahead scan.new) ≤ length (ahead scan.old) }
     ensures ticks { steps.new + unseen (ahead scan.new) ≡ steps.old + unseen (ahead scan.old) }
@@ -88,11 +91,13 @@ pub(crate) fn number<L: Ledger>(
     steps: &mut Steps<L>,
 ) -> Option<Decimal>
     ensures read { IfSome result (λ number.
-        Some (numeral_in scan.new.text number, ahead scan.new) ≡ read_number plus (ahead scan.old)) }
+        Some (numeral_in scan.new.text number, ahead scan.new)
+        ≡ read_number plus (ahead scan.old)) }
     ensures none { IfNone result (None ≡ read_number plus (ahead scan.old)) }
     ensures number { IfSome result (IsDecimal scan.new.text) }
     ensures shorter { IfSome result (λ number.
-        (number.fraction.end - number.fraction.start) + length (ahead scan.new) ≤ length (ahead scan.old)) }
+        (number.fraction.end - number.fraction.start) + length (ahead scan.new)
+        ≤ length (ahead scan.old)) }
     ensures same { scan.new.text ≡ scan.old.text }
     ensures onward { length (ahead scan.new) ≤ length (ahead scan.old) }
     ensures ticks { steps.new + unseen (ahead scan.new) ≡ steps.old + unseen (ahead scan.old) }

@@ -86,9 +86,11 @@ fn words_behind_days<L: Ledger>(
 ) -> Option<Words>
     requires runs { IsRun scan.old.text days.days }
     ensures read { IfSome result (λ words. Some (text_counts scan.new.text words)
-        ≡ behind_days scan.old.text days.negative (digits_of scan.old.text days.days) (ahead scan.old)) }
+        ≡ behind_days scan.old.text days.negative
+        (digits_of scan.old.text days.days) (ahead scan.old)) }
     ensures none { IfNone result (None
-        ≡ behind_days scan.old.text days.negative (digits_of scan.old.text days.days) (ahead scan.old)) }
+        ≡ behind_days scan.old.text days.negative
+        (digits_of scan.old.text days.days) (ahead scan.old)) }
     ensures runs { IfSome result (AreTextRuns scan.new.text) }
     ensures done { IfSome result (λ _. ahead scan.new ≡ []) }
     ensures same { scan.new.text ≡ scan.old.text }

@@ -84,7 +84,8 @@ impl Tally {
         requires room { self.old.totals.adds < 2 ^ 63 }
         ensures adds { self.new.totals.adds ≤ self.old.totals.adds + 1 }
         ensures tallied { (counts : List Count) → Tallies self.old counts
-            → Tallies self.new (counts ++ count_of negative (digits_of text.now whole) [] unit ∷ []) }
+            → Tallies self.new
+            (counts ++ count_of negative (digits_of text.now whole) [] unit ∷ []) }
         ensures looks { steps.new ≡ steps.old }
     {
         let fraction = Run {

@@ -57,7 +57,8 @@ const SEC: u64 = 0x73_65_63;
 #[inline(always)]
 pub(crate) fn unit_named(names: NameSet, word: Word) -> Option<Unit>
     ensures { (letters : List ℕ) → IsTrue (list_all is_ascii_alphabetic letters)
-        → Knows (2 ^ 56) word.value (packed letters) → result ≡ unit_named (names_in names) letters }
+        → Knows (2 ^ 56) word.value (packed letters)
+        → result ≡ unit_named (names_in names) letters }
 {
     unit_packed(names, word.value)
 }

@@ -18,7 +18,9 @@ unfoldable pub fraction_text : ℕ → List ℕ
 fraction_text nanosecond = or_zero (trimmed_digits (padded_digits 9 nanosecond))
 
 unfoldable pub date_text : Date → List ℕ
-date_text d = padded_digits 4 d.year ++ (codes "-" ++ (padded_digits 2 d.month ++ (codes "-" ++ padded_digits 2 d.day)))
+date_text d =
+    padded_digits 4 d.year ++ (codes "-"
+    ++ (padded_digits 2 d.month ++ (codes "-" ++ padded_digits 2 d.day)))
 
 -- the second, which is 0 where a nanosecond stands alone, and the fraction
 abbrev pub second_text : Option ℕ → Option ℕ → List ℕ
@@ -29,11 +31,13 @@ second_text (Some s) (Some n) = codes ":" ++ (padded_digits 2 s ++ (codes "." ++
 
 unfoldable pub time_text : Time → List ℕ
 time_text t =
-    padded_digits 2 t.hour ++ (codes ":" ++ (padded_digits 2 t.minute ++ second_text t.second t.nanosecond))
+    padded_digits 2 t.hour ++ (codes ":" ++ (padded_digits 2 t.minute
+    ++ second_text t.second t.nanosecond))
 
 -- `HH:MM` of so many minutes
 abbrev pub minutes_text : ℕ → List ℕ
-minutes_text minutes = padded_digits 2 (minutes / 60) ++ (codes ":" ++ padded_digits 2 (minutes % 60))
+minutes_text minutes =
+    padded_digits 2 (minutes / 60) ++ (codes ":" ++ padded_digits 2 (minutes % 60))
 
 -- a sign, and `HH:MM` of the magnitude
 abbrev pub signed_text : ℤ → List ℕ

@@ -17,7 +17,8 @@ fn read_second(bytes: &[u8]) -> Result<(Option<Field>, &[u8]), DatetimeParseErro
     ensures is { IfOk result (λ r. where_there is_digits (marked (codes ":") bytes.now) ≡ true) }
     ensures there { IfOk result (λ r. is_some r.0 ≡ is_some (marked (codes ":") bytes.now)) }
     ensures two { IfOk result (λ r.
-        where_there (λ f. f.is_two) r.0 ≡ where_there (has_length 2) (marked (codes ":") bytes.now)) }
+        where_there (λ f. f.is_two) r.0
+        ≡ where_there (has_length 2) (marked (codes ":") bytes.now)) }
     ensures number { IfOk result
         (λ r. where_there (has_length 2) (marked (codes ":") bytes.now) ≡ true
         → option_map (λ f. f.number) r.0 ≡ option_map number_of (marked (codes ":") bytes.now)) }

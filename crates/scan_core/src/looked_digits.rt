@@ -32,13 +32,17 @@ pub fn looked_share<L: Ledger>(
     requires whole { AreDigits (between start point text.now) }
     requires fraction { AreDigits (between (point + 1) end text.now) }
     ensures fits { IsSome result ↔ IsTrue
-        (has_share (count_of negative (between start point text.now) (between (point + 1) end text.now) unit)) }
+        (has_share (count_of negative (between start point text.now)
+        (between (point + 1) end text.now) unit)) }
     ensures months { IfSome result (λ given. given.months
-        ≡ share Months (count_of negative (between start point text.now) (between (point + 1) end text.now) unit)) }
+        ≡ share Months (count_of negative (between start point text.now)
+        (between (point + 1) end text.now) unit)) }
     ensures days { IfSome result (λ given. given.days
-        ≡ share Days (count_of negative (between start point text.now) (between (point + 1) end text.now) unit)) }
+        ≡ share Days (count_of negative (between start point text.now)
+        (between (point + 1) end text.now) unit)) }
     ensures micros { IfSome result (λ given. given.micros
-        ≡ share Micros (count_of negative (between start point text.now) (between (point + 1) end text.now) unit)) }
+        ≡ share Micros (count_of negative (between start point text.now)
+        (between (point + 1) end text.now) unit)) }
     ensures most { steps.new ≤ steps.old + (end - start) }
 {
     let whole = looked_number(text, start, point, steps);
@@ -125,7 +129,8 @@ fn looked_cut<L: Ledger>(
     requires digits { AreDigits (between start end text.now) }
     requires scale { scale ≤ 1_000_000 }
     ensures value { result
-        ≡ number_of (between start end text.now) * scale / 10 ^ length (between start end text.now) }
+        ≡ number_of (between start end text.now)
+        * scale / 10 ^ length (between start end text.now) }
     ensures ticks { steps.new ≡ steps.old + (end - start) }
 {
     let mut carry = 0;

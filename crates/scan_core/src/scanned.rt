@@ -31,11 +31,14 @@ pub fn add_scanned<L: Ledger>(
     ensures fits { IsTrue result
         ↔ IsTrue (has_share (count_in text.now negative whole fraction unit)) }
     ensures months { IsTrue result →
-        totals.new.months ≡ totals.old.months +ℤ share Months (count_in text.now negative whole fraction unit) }
+        totals.new.months ≡ totals.old.months
+        +ℤ share Months (count_in text.now negative whole fraction unit) }
     ensures days { IsTrue result →
-        totals.new.days ≡ totals.old.days +ℤ share Days (count_in text.now negative whole fraction unit) }
+        totals.new.days ≡ totals.old.days
+        +ℤ share Days (count_in text.now negative whole fraction unit) }
     ensures micros { IsTrue result →
-        totals.new.micros ≡ totals.old.micros +ℤ share Micros (count_in text.now negative whole fraction unit) }
+        totals.new.micros ≡ totals.old.micros
+        +ℤ share Micros (count_in text.now negative whole fraction unit) }
     ensures adds { IsTrue result → totals.new.adds ≡ totals.old.adds + 1 }
     ensures kept { result ≡ false → totals.new ≡ totals.old }
     ensures least { steps.old ≤ steps.new }

@@ -76,7 +76,8 @@ pub fn count_share(whole: &[u8], fraction: &[u8], negative: bool, unit: Unit) ->
 pub(crate) fn share_of(negative: bool, whole: u64, next: u64, unit: Unit) -> Option<Share>
     requires { next ≤ scale_of unit }
     ensures fits { IsSome result
-        ↔ IsTrue (fits_type (main_part unit) (signed negative (magnitude (main_part unit) unit whole next))) }
+        ↔ IsTrue (fits_type (main_part unit)
+        (signed negative (magnitude (main_part unit) unit whole next))) }
     ensures months { IfSome result
         (λ given. given.months ≡ signed negative (magnitude Months unit whole next)) }
     ensures days { IfSome result

@@ -21,9 +21,19 @@ pub struct Totals {
 impl Model for Totals {
     ghost Value = { Added };
 
-    ghost view = { λ sums. record { months = sums.months; days = sums.days; micros = sums.micros; adds = sums.adds } };
+    ghost view = { λ sums. record {
+      months = sums.months;
+      days = sums.days;
+      micros = sums.micros;
+      adds = sums.adds;
+    } };
 
-    ghost inverse = { λ sums. record { months = sums.months; days = sums.days; micros = sums.micros; adds = sums.adds } };
+    ghost inverse = { λ sums. record {
+      months = sums.months;
+      days = sums.days;
+      micros = sums.micros;
+      adds = sums.adds;
+    } };
 
     ghost invariant = { λ sums. IsBounded sums.adds sums.months
         × IsBounded sums.adds sums.days
@@ -64,13 +74,16 @@ impl Totals {
         requires room { self.old.adds < 2 ^ 63 }
         requires next { next ≤ scale_of unit }
         ensures fits { IsTrue result
-            ↔ IsTrue (fits_type (main_part unit) (signed negative (magnitude (main_part unit) unit whole next))) }
+            ↔ IsTrue (fits_type (main_part unit)
+            (signed negative (magnitude (main_part unit) unit whole next))) }
         ensures months { IsTrue result →
-            self.new.months ≡ self.old.months +ℤ signed negative (magnitude Months unit whole next) }
+            self.new.months ≡ self.old.months
+            +ℤ signed negative (magnitude Months unit whole next) }
         ensures days { IsTrue result →
             self.new.days ≡ self.old.days +ℤ signed negative (magnitude Days unit whole next) }
         ensures micros { IsTrue result →
-            self.new.micros ≡ self.old.micros +ℤ signed negative (magnitude Micros unit whole next) }
+            self.new.micros ≡ self.old.micros
+            +ℤ signed negative (magnitude Micros unit whole next) }
         ensures adds { IsTrue result → self.new.adds ≡ self.old.adds + 1 }
         ensures kept { result ≡ false → self.new ≡ self.old }
     {

@@ -10,7 +10,8 @@ Refused code old new result = (result ≡ code) × (new ≡ old)
 -- the text stands at the front of the room, what stood behind it is as it was, and its length was answered; or it is longer than the room
 abbrev pub Leaves : List ℕ → List ℕ → List ℕ → ℤ → Type 0
 Leaves text old new result =
-    ((length text ≤ length old) × (result ≡ pos (length text)) × (new ≡ text ++ drop (length text) old))
+    ((length text ≤ length old) × (result ≡ pos (length text))
+    × (new ≡ text ++ drop (length text) old))
     ⊎ ((length old < length text) × Refused no_room old new result)
 
 -- the same of a text, or of the cause why there is none

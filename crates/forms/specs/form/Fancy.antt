@@ -23,18 +23,21 @@ worth nanos = if nat_lt nanos (2 ^ 64 * 1_000_000_000) then Ok (Length nanos) el
 unfoldable pub has_months_alone : ℕ → Bool
 has_months_alone nanos =
     nat_lt 0 (count_of Months nanos)
-    && ((count_of Weeks nanos == 0) && ((count_of Days nanos == 0) && ((count_of Hours nanos == 0) && (count_of Minutes nanos == 0))))
+    && ((count_of Weeks nanos == 0) && ((count_of Days nanos == 0)
+    && ((count_of Hours nanos == 0) && (count_of Minutes nanos == 0))))
 
 -- a length that isn't negative, is below 2^64 seconds, and whose text is read back
 unfoldable pub length_of : ℤ → Result ℕ Cause
 length_of (negsuc n) = Err Range
 length_of (pos nanos) =
-    if nat_lt nanos (2 ^ 64 * 1_000_000_000) then (if has_months_alone nanos then Err Ambiguous else Ok nanos)
+    if nat_lt nanos (2 ^ 64 * 1_000_000_000)
+    then (if has_months_alone nanos then Err Ambiguous else Ok nanos)
     else Err Range
 
 -- the same of a triple without months
 unfoldable pub length_of_triple : ℤ → ℤ → ℤ → Result ℕ Cause
-length_of_triple months days micros = if int_eq months (pos 0) then length_of (nanos_of days micros) else Err Kind
+length_of_triple months days micros =
+    if int_eq months (pos 0) then length_of (nanos_of days micros) else Err Kind
 
 -- the length of a value
 abbrev pub held : Value → Result ℕ Cause

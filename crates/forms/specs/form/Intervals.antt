@@ -34,7 +34,8 @@ length_in_days nanos = record {
 -- the interval of a length: as many days as fit, and whole microseconds
 unfoldable pub interval_of_length : ℕ → Result Interval Cause
 interval_of_length nanos =
-    if fits_type Days (pos (nanos / 86_400_000_000_000)) then (if (nanos % 1000 == 0) then Ok (length_in_days nanos) else Err Precision)
+    if fits_type Days (pos (nanos / 86_400_000_000_000))
+    then (if (nanos % 1000 == 0) then Ok (length_in_days nanos) else Err Precision)
     else Err Range
 
 -- the interval of a value

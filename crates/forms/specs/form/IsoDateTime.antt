@@ -26,7 +26,8 @@ clock_of t = ((t.hour * 60 + t.minute) * 60 + t.second) * 1_000_000_000 + t.mill
 -- the moment in UTC
 abbrev pub instant_of : DateTime → ℤ
 instant_of t =
-    (day_of t.date *ℤ pos 86_400_000_000_000 +ℤ pos (clock_of t.time)) -ℤ offset_of t.time *ℤ pos 1_000_000_000
+    (day_of t.date *ℤ pos 86_400_000_000_000 +ℤ pos (clock_of t.time))
+    -ℤ offset_of t.time *ℤ pos 1_000_000_000
 
 -- there is such a day, a clock shows the time, and the offset is less than a day
 pub record IsReal (t : DateTime) : Type 0 where

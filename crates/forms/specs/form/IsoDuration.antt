@@ -15,7 +15,8 @@ Spells = IsDuration
 
 -- the microseconds of a time
 abbrev pub micros_of : ℕ → ℕ → ℕ → ℕ → ℕ
-micros_of hour minute second millisecond = ((hour * 60 + minute) * 60 + second) * 1_000_000 + millisecond * 1000
+micros_of hour minute second millisecond =
+    ((hour * 60 + minute) * 60 + second) * 1_000_000 + millisecond * 1000
 
 -- months, days and microseconds that 64 bits hold
 unfoldable pub triple_of : ℕ → ℕ → ℕ → Result Value Cause
@@ -33,13 +34,16 @@ worth (Weeks weeks) = triple_of 0 (7 * weeks) 0
 -- years and months, days, and the parts of a time
 abbrev pub duration_of : ℕ → ℕ → ℕ → Duration
 duration_of months days millis =
-    YMDHMS (months / 12) (months % 12) days (millis / 3_600_000) (millis / 60_000 % 60) (millis / 1000 % 60) (millis % 1000)
+    YMDHMS (months / 12) (months % 12) days (millis / 3_600_000) (millis / 60_000 % 60)
+    (millis / 1000 % 60) (millis % 1000)
 
 -- where years, days and hours are numbers of 32 bits, and the milliseconds whole
 unfoldable pub counts_of : ℕ → ℕ → ℕ → Result Duration Cause
 counts_of months days micros =
-    if nat_lt (months / 12) (2 ^ 32) && (nat_lt days (2 ^ 32) && nat_lt (micros / 3_600_000_000) (2 ^ 32))
-    then (if (micros % 1000 == 0) then Ok (duration_of months days (micros / 1000)) else Err Precision)
+    if nat_lt (months / 12) (2 ^ 32)
+    && (nat_lt days (2 ^ 32) && nat_lt (micros / 3_600_000_000) (2 ^ 32))
+    then (if (micros % 1000 == 0)
+    then Ok (duration_of months days (micros / 1000)) else Err Precision)
     else Err Range
 
 -- no part is negative
@@ -52,7 +56,8 @@ unfoldable pub held_length : ℕ → Result Duration Cause
 held_length nanos =
     if nat_lt (nanos / 86_400_000_000_000) (2 ^ 32)
     then (
-    if (nanos % 1_000_000 == 0) then Ok (duration_of 0 (nanos / 86_400_000_000_000) (nanos % 86_400_000_000_000 / 1_000_000))
+    if (nanos % 1_000_000 == 0)
+    then Ok (duration_of 0 (nanos / 86_400_000_000_000) (nanos % 86_400_000_000_000 / 1_000_000))
     else Err Precision
     )
     else Err Range

@@ -26,7 +26,9 @@ day_of d = days_from_civil (pos d.year) d.month d.day
 
 -- nanoseconds since midnight, where seconds and nanoseconds that aren't written are 0
 abbrev pub clock_of : Time → ℕ
-clock_of t = ((t.hour * 60 + t.minute) * 60 + unwrap_or t.second 0) * 1_000_000_000 + unwrap_or t.nanosecond 0
+clock_of t =
+    ((t.hour * 60 + t.minute) * 60 + unwrap_or t.second 0) * 1_000_000_000
+    + unwrap_or t.nanosecond 0
 
 -- the same, unless it is a leap second, which POSIX counts nowhere
 unfoldable pub clock : Time → Result ℤ Cause
@@ -81,7 +83,8 @@ HoldsDay day held =
 -- that date with a time or without, and an offset or none
 abbrev pub HoldsDated : ℤ → Option Time → Option Offset → Result Datetime Cause → Type 0
 HoldsDated day time offset held =
-    (date : Result Date Cause) × HoldsDay day date × (held ≡ result_map (λ d. datetime_of (Some d) time offset) date)
+    (date : Result Date Cause) × HoldsDay day date
+    × (held ≡ result_map (λ d. datetime_of (Some d) time offset) date)
 
 -- a moment is written in UTC
 abbrev pub Holds : Value → Result Datetime Cause → Type 0
@@ -90,5 +93,6 @@ Holds (Instant nanos) =
     (Some (time_of (unsigned_abs (int_rem_euclid nanos (pos 86_400_000_000_000))))) (Some Z)
 Holds (Day day) = HoldsDated day None None
 Holds (Local day nanos) = HoldsDated day (Some (time_of (unsigned_abs nanos))) None
-Holds (Clock nanos) = λ held. held ≡ Ok (datetime_of None (Some (time_of (unsigned_abs nanos))) None)
+Holds (Clock nanos) =
+    λ held. held ≡ Ok (datetime_of None (Some (time_of (unsigned_abs nanos))) None)
 Holds _ = λ held. held ≡ Err Kind

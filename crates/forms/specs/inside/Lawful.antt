@@ -8,7 +8,10 @@ use Rattle.forms.specs.ReadBack.{IsReadBack}
 use Rattle.forms.specs.Values.{IsWithinBounds}
 
 pub record Lawful (form : Form) : Type 0 where
-  pub one : (text : List ℕ) (a b : Result Value Cause) → Reads form text a → Reads form text b → a ≡ b
-  pub one_written : (value : Value) (a b : Result (List ℕ) Cause) → Writes form value a → Writes form value b → a ≡ b
+  pub one : (text : List ℕ) (a b : Result Value Cause) → Reads form text a → Reads form text b
+      → a ≡ b
+  pub one_written : (value : Value) (a b : Result (List ℕ) Cause) → Writes form value a
+      → Writes form value b → a ≡ b
   pub within : (text : List ℕ) (value : Value) → Reads form text (Ok value) → IsWithinBounds value
-  pub back : (value : Value) (text : List ℕ) → IsWithinBounds value → Writes form value (Ok text) → IsReadBack form value text
+  pub back : (value : Value) (text : List ℕ) → IsWithinBounds value → Writes form value (Ok text)
+      → IsReadBack form value text

@@ -14,7 +14,8 @@ IsPut (Ok text) before after result = (result ≡ Ok tt) × (after ≡ before ++
 IsPut (Err cause) before after result = (result ≡ Err cause) × (after ≡ before)
 
 -- the text of such an answer was put behind what stood there, or nothing was, for its cause
-pub record Puts (IsAnswer : Result (List ℕ) Cause → Type 0) (before after : List ℕ) (result : Result ⊤ Cause) : Type 0 where
+pub record Puts (IsAnswer : Result (List ℕ) Cause → Type 0) (before after : List ℕ)
+    (result : Result ⊤ Cause) : Type 0 where
   pub answer : Result (List ℕ) Cause
   pub is : IsAnswer answer
   pub put : IsPut answer before after result

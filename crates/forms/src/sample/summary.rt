@@ -17,7 +17,8 @@ struct Counts {
 /// The line that tells of the replies to so many lines.
 pub fn summary(count: u64, replies: &[u8]) -> Short
     ensures { result.bytes ≡ told count
-        (answers (whole_lines replies.now)) (refusals (whole_lines replies.now)) (length replies.now) }
+        (answers (whole_lines replies.now)) (refusals (whole_lines replies.now))
+        (length replies.now) }
 {
     let counts = counts_of(replies);
     told(count, counts.ok, counts.refused, replies.len() as u64)

@@ -67,7 +67,8 @@ read_clock (b ∷ bs) =
 
 unfoldable pub read_counts : List ℕ → (ℕ × (ℕ × (ℕ × (ℕ × (ℕ × (ℕ × ℕ)))))) × List ℕ
 read_counts =
-    read_both (read_perhaps 89) (read_both (read_perhaps 77) (read_both (read_perhaps 68) read_clock))
+    read_both (read_perhaps 89)
+    (read_both (read_perhaps 77) (read_both (read_perhaps 68) read_clock))
 
 abbrev pub duration_of : ℕ × (ℕ × (ℕ × (ℕ × (ℕ × (ℕ × ℕ))))) → Duration
 duration_of v = YMDHMS v.0 v.1.0 v.1.1.0 v.1.1.1.0 v.1.1.1.1.0 v.1.1.1.1.1.0 v.1.1.1.1.1.1
