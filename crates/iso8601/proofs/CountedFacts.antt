@@ -11,7 +11,7 @@ use Rattle.scan_core.specs.Fronts.{front_digits, after_digits}
 use Rattle.scan_core.specs.Runs.{IsRun, Knows, digits_of}
 use Rattle.scan_core.specs.Scanning.{Passes, Place, ahead, front_byte}
 use Rattle.scan_core.specs.declared.runs.Run.{Run}
-use Rattle.scan_core.proofs.DigitFacts.{digits-take, number_of-lt}
+use Rattle.scan_core.proofs.DigitFacts.{digits-take, number_of-lt, test_from_digit}
 use Rattle.scan_core.proofs.FrontFacts.{front_are_digits, front_and_after}
 use Rattle.scan_core.proofs.RunFacts.{run_length}
 use Rattle.iso8601.specs.declared.types.Time.{Time}
@@ -22,7 +22,7 @@ use Rattle.iso8601.specs.inside.TimeReading.{millis_of, read_fraction, read_late
 use Rattle.iso8601.proofs.FieldFacts.{field_some, field_none}
 use Rattle.iso8601.proofs.Longest.{nothing}
 use Rattle.iso8601.proofs.NumberFacts.{number_exact, number_missing}
-use Rattle.iso8601.proofs.TimeParts.{is_digit, stops_later}
+use Rattle.iso8601.proofs.TimeParts.{stops_later}
 
 -- ---- values of runs
 
@@ -59,7 +59,7 @@ number_none text run is (inr great) = number_missing (digits_of text run) (inr (
 front_take : (count : ℕ) (bytes : List ℕ) → AreDigits (take count bytes) → take count (front_digits bytes) ≡ take count bytes
 front_take zero bytes d = refl
 front_take (suc count) [] d = refl
-front_take (suc count) (b ∷ bs) d = let yes = is_digit b d.0 in rw yes (ap (λ (l : List ℕ). b ∷ l) (front_take count bs d.1))
+front_take (suc count) (b ∷ bs) d = let yes = test_from_digit b d.0 in rw yes (ap (λ (l : List ℕ). b ∷ l) (front_take count bs d.1))
 
 -- a scan that passed so many digits
 pub record IsShort (count : ℕ) (run : Run) (old new : Place) : Type 0 where

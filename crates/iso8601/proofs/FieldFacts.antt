@@ -139,6 +139,10 @@ letter_sound mark (b ∷ bs) rest h =
 pub behind : (text a b rest : List ℕ) → text ≡ a ++ b → text ++ rest ≡ a ++ (b ++ rest)
 behind text a b rest h = ap (λ (l : List ℕ). l ++ rest) h ∙ append_assoc a b rest
 
+-- three pieces in front of a rest
+pub joins_three : (a b c rest : List ℕ) → (a ++ (b ++ c)) ++ rest ≡ a ++ (b ++ (c ++ rest))
+joins_three a b c rest = simp append_assoc refl
+
 pub joins : (bytes a b x rest : List ℕ) → bytes ≡ a ++ x → x ≡ b ++ rest → bytes ≡ (a ++ b) ++ rest
 joins bytes a b x rest p q = p ∙ ap (λ (l : List ℕ). a ++ l) q ∙ sym (append_assoc a b rest)
 

@@ -11,6 +11,7 @@ use Rattle.iso8601.specs.Ranges.{IsDurationInRange}
 use Rattle.iso8601.specs.WrittenDurations.{are_zero, count_text, second_text, clock_counts_text, date_counts_text, duration_text}
 use Rattle.iso8601.specs.declared.types.Duration.{Duration}
 use Rattle.iso8601.specs.declared.types.Duration.TheVariants.{YMDHMS, Weeks}
+use Rattle.iso8601.proofs.FieldFacts.{joins_three}
 use Rattle.iso8601.proofs.SpelledFields.{fraction_spelled}
 
 -- ---- counts
@@ -108,9 +109,6 @@ body_some y mo d h m s ms some none =
 
 -- ---- durations
 
-body_joined : (yt mt dt ct : List ℕ) → (yt ++ (mt ++ dt)) ++ ct ≡ yt ++ (mt ++ (dt ++ ct))
-body_joined yt mt dt ct = simp append_assoc refl
-
 counted_spelled : (y mo d h m s ms : ℕ) → IsDurationInRange (YMDHMS y mo d h m s ms) → are_all_zero y mo d h m s ms ≡ false → IsCounted (date_counts_text y mo d ++ clock_counts_text h m s ms) (YMDHMS y mo d h m s ms)
 unfolding date_counts_text
 counted_spelled y mo d h m s ms r some =
@@ -128,7 +126,7 @@ counted_spelled y mo d h m s ms r some =
       days = count_spelled (codes "D") d r.2;
       clocks = clock_spelled h m s ms r.3 r.4 r.5 r.6;
       some = body_some y mo d h m s ms some;
-      joined = body_joined (count_text y (codes "Y")) (count_text mo (codes "M")) (count_text d (codes "D")) (clock_counts_text h m s ms);
+      joined = joins_three (count_text y (codes "Y")) (count_text mo (codes "M")) (count_text d (codes "D")) (clock_counts_text h m s ms);
       value = refl;
     }
 

@@ -10,7 +10,7 @@ use Rattle.scan_core.proofs.PaddedFacts.{length-padded, digits-padded, number_of
 use Rattle.iso8601.specs.Fields.{IsYear, IsMarked}
 use Rattle.iso8601.specs.Times.{IsFraction}
 use Rattle.iso8601.specs.Written.{minus, year_text}
-use Rattle.iso8601.proofs.Widths.{not_negative}
+use Rattle.scan_core.proofs.Signs.{is_negative-pos}
 
 -- a number of at most this many digits is written in just as many
 length_full : (count n : ℕ) → 0 < count → n < 10 ^ count → n < 2 ^ 64 → length (padded_digits count n) ≡ count
@@ -28,7 +28,7 @@ marked_spelled mark count lo hi n some fits small least most =
 
 year_ahead : (n : ℕ) → year_text (pos n) ≡ padded_digits 4 n
 unfolding year_text minus
-year_ahead n = rw (not_negative n) refl
+year_ahead n = rw (is_negative-pos n) refl
 
 year_behind : (n : ℕ) → year_text (negsuc n) ≡ codes "-" ++ padded_digits 4 (suc n)
 unfolding year_text minus

@@ -87,10 +87,6 @@ behind_spelled a b h m t x y u v p q =
     let P : ℤ × ℤ → Type 0 = λ o. IsOffset (offset_text a b) o in
     subst P both (rw (behind_text a b t, x, y, wide_positive h, wide_positive m) (parts_spelled true h m p q))
 
-or_true : (b : Bool) → (b || true) ≡ true
-or_true true = refl
-or_true false = refl
-
 offset_spelled : (a b : ℤ) → unsigned_abs a ≤ 24 → unsigned_abs b ≤ 59 → HaveOneSign a b → IsOffset (offset_text a b) (a, b)
 offset_spelled (pos h) (pos m) p q s = ahead_spelled h m p q
 offset_spelled (pos zero) (negsuc m) p q s = behind_spelled (pos 0) (negsuc m) 0 (suc m) refl refl refl refl refl (omega arith) q

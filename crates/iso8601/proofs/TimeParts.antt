@@ -1,12 +1,12 @@
 -- The parts of a time that may be left out: seconds, the fraction, the offset.
 use Rattle.std.proofs.Common.{◌≡◌, ℕ, ℤ, ◌<◌, ◌≤◌, ◌⊎◌, ◌==◌, Bool, true, false, cond, List, [], ◌∷◌, ◌++◌, length, Option, Some, None, refl, sym, ◌∙◌, ap, append_assoc, append-nil, arith, inl, inr}
 use Rattle.std.proofs.lemmas.Bool.{eqb-true}
-use Rattle.std.specs.Char.{is_ascii_digit, digit_value}
+use Rattle.std.specs.Char.{is_ascii_digit}
 use Rattle.std.proofs.lemmas.Bool.Decides.{nat_tests}
-use Rattle.std.proofs.lemmas.Str.Parse.{digit_from_value}
 use Rattle.scan_core.specs.Digits.{AreDigits}
 use Rattle.scan_core.specs.Number.{sign_text}
 use Rattle.scan_core.specs.Shares.{signed}
+use Rattle.scan_core.proofs.DigitFacts.{test_from_digit}
 use Rattle.scan_core.proofs.FrontFacts.{front_of, after_of, front_are_digits, front_and_after}
 use Rattle.iso8601.specs.Fields.{IsOrZero}
 use Rattle.iso8601.specs.Prefixes.{Begins}
@@ -40,17 +40,14 @@ abbrev pub StopsFraction : List ℕ → Type 0
 StopsFraction [] = Unit {0}
 StopsFraction (b ∷ bs) = (is_ascii_digit b ≡ false) × ((b == 46) ≡ false) × ((b == 44) ≡ false)
 
-pub is_digit : (c : ℕ) → digit_value c < 10 → is_ascii_digit c ≡ true
-is_digit c h = let r = digit_from_value c h in grind (arith, nat_tests)
-
 -- digits in front of more, which may begin with digits
 front_joined : (digits rest : List ℕ) → AreDigits digits → front_digits (digits ++ rest) ≡ digits ++ front_digits rest
 front_joined [] rest d = refl
-front_joined (c ∷ cs) rest d = let yes = is_digit c d.0 in rw yes (ap (λ (ds : List ℕ). c ∷ ds) (front_joined cs rest d.1))
+front_joined (c ∷ cs) rest d = let yes = test_from_digit c d.0 in rw yes (ap (λ (ds : List ℕ). c ∷ ds) (front_joined cs rest d.1))
 
 after_joined : (digits rest : List ℕ) → AreDigits digits → after_digits (digits ++ rest) ≡ after_digits rest
 after_joined [] rest d = refl
-after_joined (c ∷ cs) rest d = let yes = is_digit c d.0 in rw yes (after_joined cs rest d.1)
+after_joined (c ∷ cs) rest d = let yes = test_from_digit c d.0 in rw yes (after_joined cs rest d.1)
 
 pub made_fraction : (point : ℕ) (bs : List ℕ) → IsPoint (point ∷ []) → Begins (IsOrZero IsFraction) (point ∷ bs) (millis_of (front_digits bs)) (after_digits bs)
 unfolding millis_of

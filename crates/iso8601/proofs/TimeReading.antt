@@ -7,7 +7,7 @@ use Rattle.iso8601.specs.Fields.{IsOrZero}
 use Rattle.iso8601.specs.Times.{IsLater, IsFraction, IsOffset, IsTime}
 use Rattle.iso8601.specs.inside.TimeReading.{read_later, read_fraction, read_offset, read_both, read_tail, time_of, read_time}
 use Rattle.iso8601.proofs.Longest.{Sound, Reach}
-use Rattle.iso8601.proofs.FieldFacts.{joins, field_exact, field_sound, marked_exact, marked_sound}
+use Rattle.iso8601.proofs.FieldFacts.{joins, joins_three, field_exact, field_sound, marked_exact, marked_sound}
 use Rattle.iso8601.proofs.Optional.{Optional, IsBoth, both_optional}
 use Rattle.iso8601.proofs.TimeParts.{StopsField, StopsFraction, later_optional, fraction_optional, offset_optional, fraction_end, seconds_end}
 
@@ -34,9 +34,6 @@ tail_of : (text : List ℕ) (t : Time) (is : IsTime text t) → IsTail (is.secon
 tail_of text t is =
     record { first = is.second_text; second = is.fraction ++ is.offset; is_first = is.seconds; is_second = record { first = is.fraction; second = is.offset; is_first = is.fractions; is_second = is.offsets; joined = refl }; joined = refl }
 
-triple : (a b c rest : List ℕ) → (a ++ (b ++ c)) ++ rest ≡ a ++ (b ++ (c ++ rest))
-triple a b c rest = simp append_assoc refl
-
 -- a time of what was read
 abbrev made : ℕ → ℕ → (ℕ × (ℕ × (ℤ × ℤ))) × List ℕ → Option (Time × List ℕ)
 made hour minute t = Some (time_of hour minute t.0, t.1)
@@ -46,7 +43,7 @@ time_at : (text rest : List ℕ) (t : Time) (is : IsTime text t) → read_time (
 unfolding read_time
 time_at text rest t is =
     let tail : List ℕ = is.second_text ++ (is.fraction ++ is.offset) in
-    let split : text ++ rest ≡ is.hour_text ++ (is.minute_text ++ (tail ++ rest)) = ap (λ (l : List ℕ). l ++ rest) is.joined ∙ triple is.hour_text is.minute_text tail rest in
+    let split : text ++ rest ≡ is.hour_text ++ (is.minute_text ++ (tail ++ rest)) = ap (λ (l : List ℕ). l ++ rest) is.joined ∙ joins_three is.hour_text is.minute_text tail rest in
     let hours = field_exact 2 0 24 is.hour_text (is.minute_text ++ (tail ++ rest)) t.hour is.hours in
     let minutes = marked_exact 58 2 0 59 refl (omega arith) is.minute_text (tail ++ rest) t.minute is.minutes in
     rw (split, hours, minutes) refl
