@@ -135,16 +135,16 @@ fn units_and_blanks_of_strict_texts(rt: HostRuntime) {
 /// from weeks to minutes follows is read back.
 #[test]
 fn shared_texts_end(rt: HostRuntime) {
-    let day = 86_400;
-    for (length, text, reads_back) in [
-        (Duration::new(330 * day, 0), "11m", false),
-        (Duration::new(660, 0), "11m", true),
-        (Duration::new(360 * day, 0), "1y", true),
-        (Duration::new(720, 0), "12m", true),
-        (Duration::new(37 * day, 0), "1m 1w", true),
-        (Duration::new(30 * day + 3600, 0), "1m 1h", true),
-        (Duration::new(30 * day + 59, 0), "1m 59s", false),
+    for (text, secs, reads_back) in [
+        ("11m", 28_512_000, false),
+        ("11m", 660, true),
+        ("1y", 31_104_000, true),
+        ("12m", 720, true),
+        ("1m 1w", 3_196_800, true),
+        ("1m 1h", 2_595_600, true),
+        ("1m 59s", 2_592_059, false),
     ] {
+        let length = Duration::new(secs, 0);
         assert_eq!(rt; length.fancy_duration().text().as_str(), text);
         assert_eq!(rt;
             length.fancy_duration().reads_back(),
