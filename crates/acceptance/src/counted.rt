@@ -18,39 +18,14 @@ fn counted<L: Ledger>(from: Form, to: Form, text: &Looked<'_>, blank: Blank) -> 
     reply_counted(from, to, text, &mut Steps::<L>::new(blank))
 }
 
-/// The answers to a text in the ISO style.
-fn from_iso(text: &str) -> [Result<Short, Cause>; 2] {
+/// The answers to a text of a form, by the plain call and by the counted one, in the ISO style.
+fn answers(form: Form, text: &str) -> [Result<Short, Cause>; 2]
+    requires { IsTrue (is_counted form) }
+{
     let looked = Looked::new(text);
     [
-        reply(Form::PgIso, Form::PgIso, text),
-        counted::<Brand>(Form::PgIso, Form::PgIso, &looked, Blank::new(1)),
-    ]
-}
-
-/// The answers to a text in the strict ISO style.
-fn from_iso_strict(text: &str) -> [Result<Short, Cause>; 2] {
-    let looked = Looked::new(text);
-    [
-        reply(Form::IsoStrict, Form::PgIso, text),
-        counted::<Brand>(Form::IsoStrict, Form::PgIso, &looked, Blank::new(1)),
-    ]
-}
-
-/// The answers to a text in the postgres style.
-fn from_postgres(text: &str) -> [Result<Short, Cause>; 2] {
-    let looked = Looked::new(text);
-    [
-        reply(Form::Postgres, Form::PgIso, text),
-        counted::<Brand>(Form::Postgres, Form::PgIso, &looked, Blank::new(1)),
-    ]
-}
-
-/// The answers to a duration of ISO 8601.
-fn from_duration(text: &str) -> [Result<Short, Cause>; 2] {
-    let looked = Looked::new(text);
-    [
-        reply(Form::IsoDuration, Form::PgIso, text),
-        counted::<Brand>(Form::IsoDuration, Form::PgIso, &looked, Blank::new(1)),
+        reply(form, Form::PgIso, text),
+        counted::<Brand>(form, Form::PgIso, &looked, Blank::new(1)),
     ]
 }
 
@@ -81,7 +56,7 @@ fn counted_answers(rt: HostRuntime) -> Result<(), Fail> {
         ("", "Syntax"),
         ("PT10", "Syntax"),
     ] {
-        for answer in from_iso(text) {
+        for answer in answers(Form::PgIso, text) {
             assert_eq!(rt; told(&answer), want, "at {text}");
         }
     }
@@ -92,7 +67,7 @@ fn counted_answers(rt: HostRuntime) -> Result<(), Fail> {
         ("PT", "Syntax"),
         ("P2147483648D", "Range"),
     ] {
-        for answer in from_iso_strict(text) {
+        for answer in answers(Form::IsoStrict, text) {
             assert_eq!(rt; told(&answer), want, "at {text}");
         }
     }
@@ -106,7 +81,39 @@ fn counted_answers(rt: HostRuntime) -> Result<(), Fail> {
         ("9223372036854775808:00:00", "Range"),
         ("1 day 2 day", "Syntax"),
     ] {
-        for answer in from_postgres(text) {
+        for answer in answers(Form::Postgres, text) {
+            assert_eq!(rt; told(&answer), want, "at {text}");
+        }
+    }
+    for (text, want) in [
+        (
+            "@ 1 year 2 mons -3 days 4 hours 5 mins 6 secs ago",
+            "P-1Y-2M3DT-4H-5M-6S",
+        ),
+        ("@1dayago", "P-1D"),
+        ("@ 11. hours ago", "PT-11H"),
+        ("@0ago", "PT0S"),
+        ("@ 2147483648 days ago", "P-2147483648D"),
+        ("@ 2147483648 days", "Range"),
+        ("@ 1 day ago ago", "Syntax"),
+        ("1 day", "Syntax"),
+    ] {
+        for answer in answers(Form::PgVerbose, text) {
+            assert_eq!(rt; told(&answer), want, "at {text}");
+        }
+    }
+    for (text, want) in [
+        ("1-2 -3 4:00", "P1Y2M-3DT4H"),
+        ("-1 1:00:00", "P-1DT-1H"),
+        ("-1 +1:00:00", "P-1DT1H"),
+        ("-0-1", "P-1M"),
+        ("1:2:3.", "PT1H2M3S"),
+        ("0", "PT0S"),
+        ("2147483648-0", "Range"),
+        ("1-", "Syntax"),
+        ("", "Syntax"),
+    ] {
+        for answer in answers(Form::PgSql, text) {
             assert_eq!(rt; told(&answer), want, "at {text}");
         }
     }
@@ -120,7 +127,7 @@ fn counted_answers(rt: HostRuntime) -> Result<(), Fail> {
         ("P1M1Y", "Syntax"),
         ("P-1D", "Syntax"),
     ] {
-        for answer in from_duration(text) {
+        for answer in answers(Form::IsoDuration, text) {
             assert_eq!(rt; told(&answer), want, "at {text}");
         }
     }

@@ -39,4 +39,6 @@ mod sql;
 #[cfg(test)]
 mod toml;
 #[cfg(test)]
+mod values;
+#[cfg(test)]
 mod verbose;
