@@ -129,7 +129,10 @@ fn values_without_a_text(rt: HostRuntime) -> Result<(), Fail> {
         (write_value(Form::PgIso, Value::Instant(0)), Cause::Kind),
         (write_value(Form::Postgres, month_too_many), Cause::Range),
         (write_value(Form::PgSql, Value::Length(1)), Cause::Precision),
-        (write_value(Form::FileTime, Value::Instant(1)), Cause::Precision),
+        (
+            write_value(Form::FileTime, Value::Instant(1)),
+            Cause::Precision,
+        ),
         (write_value(Form::IsoDate, Value::Clock(0)), Cause::Kind),
         (write_value(Form::Fancy, thirty_days), Cause::Ambiguous),
     ] {

@@ -138,7 +138,8 @@ mod tests {
             let (start, end) = (whole.start, fraction.end);
             looked_share(text, start, whole.end, end, true, unit, &mut steps)
         } else {
-            looked_share(text, whole.start, whole.end, whole.end, true, unit, &mut steps)
+            let (start, end) = (whole.start, whole.end);
+            looked_share(text, start, end, end, true, unit, &mut steps)
         };
         [
             if added { totals.fits() } else { None },
