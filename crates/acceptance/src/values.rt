@@ -1,48 +1,71 @@
 //! Values as texts denote them and as they are written, one call for one value.
 use forms::{Cause, Form, Value, read_value, write_value};
+use scan_core::Short;
 use std::test::Fail;
 
+/// The interval of months, days and microseconds.
+fn triple(months: i64, days: i64, micros: i64) -> Value {
+    Value::Triple {
+        months,
+        days,
+        micros,
+    }
+}
+
+/// What the form writes of the value that a text of it denotes.
+fn written_again(form: Form, text: &str) -> Result<Short, Cause> {
+    write_value(form, read_value(form, text)?)
+}
+
 #[test]
-fn interval_values(rt: HostRuntime) -> Result<(), Fail> {
-    for (form, months, days, micros, text) in [
+fn intervals_with_months(rt: HostRuntime) -> Result<(), Fail> {
+    let months_alone = triple(14, 0, 0);
+    let of_both_signs = triple(-14, 3, -14_706_000_000);
+    for (form, value, text) in [
         // the intervals of PostgreSQL's table of output styles
-        (Form::Postgres, 14, 0, 0, "1 year 2 mons"),
-        (Form::PgVerbose, 14, 0, 0, "@ 1 year 2 mons"),
-        (Form::PgIso, 14, 0, 0, "P1Y2M"),
-        (Form::IsoStrict, 14, 0, 0, "P1Y2M"),
-        (Form::PgSql, 14, 0, 0, "1-2"),
-        (Form::Postgres, 0, 3, 14_706_000_000, "3 days 04:05:06"),
+        (Form::Postgres, months_alone, "1 year 2 mons"),
+        (Form::PgVerbose, months_alone, "@ 1 year 2 mons"),
+        (Form::PgIso, months_alone, "P1Y2M"),
+        (Form::IsoStrict, months_alone, "P1Y2M"),
+        (Form::PgSql, months_alone, "1-2"),
+        (Form::PgIso, of_both_signs, "P-1Y-2M3DT-4H-5M-6S"),
+        (Form::PgSql, of_both_signs, "-1-2 +3 -4:05:06"),
+        // the end of the type
+        (Form::PgIso, triple(2_147_483_647, 0, 0), "P178956970Y7M"),
+    ] {
+        assert_eq!(rt; read_value(form, text), Ok(value), "at {text}");
+        match written_again(form, text) {
+            Ok(written) => assert_eq!(rt; written.as_str(), text),
+            Err(cause) => assert!(rt; false, "{cause:?} at {text}"),
+        }
+    }
+    Ok(())
+}
+
+#[test]
+fn intervals_without_months(rt: HostRuntime) -> Result<(), Fail> {
+    let days_and_time = triple(0, 3, 14_706_000_000);
+    for (form, value, text) in [
+        // the interval of PostgreSQL's table of output styles
+        (Form::Postgres, days_and_time, "3 days 04:05:06"),
         (
             Form::PgVerbose,
-            0,
-            3,
-            14_706_000_000,
+            days_and_time,
             "@ 3 days 4 hours 5 mins 6 secs",
         ),
-        (Form::PgIso, 0, 3, 14_706_000_000, "P3DT4H5M6S"),
-        (Form::IsoStrict, 0, 3, 14_706_000_000, "P3DT4H5M6S"),
-        (Form::PgSql, 0, 3, 14_706_000_000, "3 4:05:06"),
-        (
-            Form::PgVerbose,
-            -14,
-            3,
-            -14_706_000_000,
-            "@ 1 year 2 mons -3 days 4 hours 5 mins 6 secs ago",
-        ),
-        (Form::PgIso, -14, 3, -14_706_000_000, "P-1Y-2M3DT-4H-5M-6S"),
-        (Form::PgSql, -14, 3, -14_706_000_000, "-1-2 +3 -4:05:06"),
+        (Form::PgIso, days_and_time, "P3DT4H5M6S"),
+        (Form::IsoStrict, days_and_time, "P3DT4H5M6S"),
+        (Form::PgSql, days_and_time, "3 4:05:06"),
         // the ends of the types
-        (Form::PgIso, 2_147_483_647, 0, 0, "P178956970Y7M"),
-        (Form::PgIso, 0, -2_147_483_648, 0, "P-2147483648D"),
-        (Form::PgIso, 0, 0, i64::MAX, "PT2562047788H54.775807S"),
+        (Form::PgIso, triple(0, -2_147_483_648, 0), "P-2147483648D"),
+        (
+            Form::PgIso,
+            triple(0, 0, i64::MAX),
+            "PT2562047788H54.775807S",
+        ),
     ] {
-        let value = Value::Triple {
-            months,
-            days,
-            micros,
-        };
         assert_eq!(rt; read_value(form, text), Ok(value), "at {text}");
-        match write_value(form, value) {
+        match written_again(form, text) {
             Ok(written) => assert_eq!(rt; written.as_str(), text),
             Err(cause) => assert!(rt; false, "{cause:?} at {text}"),
         }
@@ -91,11 +114,7 @@ fn values_of_the_other_forms(rt: HostRuntime) -> Result<(), Fail> {
         (
             Form::IsoDuration,
             "P1Y2M3DT4H5M6S",
-            Value::Triple {
-                months: 14,
-                days: 3,
-                micros: 14_706_000_000,
-            },
+            triple(14, 3, 14_706_000_000),
             "P1Y2M3DT4H5M6S",
         ),
         (
@@ -105,13 +124,10 @@ fn values_of_the_other_forms(rt: HostRuntime) -> Result<(), Fail> {
             "1m 30s",
         ),
     ] {
-        let read = read_value(form, text);
-        assert_eq!(rt; read, Ok(value), "at {text}");
-        if let Ok(value) = read {
-            match write_value(form, value) {
-                Ok(written) => assert_eq!(rt; written.as_str(), canonical),
-                Err(cause) => assert!(rt; false, "{cause:?} at {text}"),
-            }
+        assert_eq!(rt; read_value(form, text), Ok(value), "at {text}");
+        match written_again(form, text) {
+            Ok(written) => assert_eq!(rt; written.as_str(), canonical),
+            Err(cause) => assert!(rt; false, "{cause:?} at {text}"),
         }
     }
     Ok(())
