@@ -1,17 +1,13 @@
 -- How many bytes the pieces of a written text have at most.
 use Rattle.std.proofs.Common.{◌≡◌, ℕ, suc, zero, ◌+◌, ◌^◌, ◌<◌, ◌≤◌, ℤ, pos, negsuc, true, ◌||◌, List, ◌++◌, length, decimal, codes, refl, length-append, arith}
-use Rattle.std.proofs.lemmas.Fmt.{length-decimal-le}
 use Rattle.std.proofs.Math.Bool.{or-true}
 use Rattle.std.specs.Int.{is_negative}
 use Rattle.std.specs.Prelude.{unsigned_abs, neg_ℤ}
 use Rattle.scan_core.specs.Padded.{padded_digits}
+use Rattle.scan_core.proofs.DigitFacts.{length_decimal_u32}
 use Rattle.scan_core.proofs.PaddedFacts.{length-padded}
 use Rattle.scan_core.proofs.Signs.{is_negative-pos}
 use Rattle.iso8601.specs.Written.{two_wide, offset_text}
-
--- a number of 32 bits has ten digits at most
-pub length_decimal_u32 : (n : ℕ) → n < 2 ^ 32 → length (decimal n) ≤ 10
-length_decimal_u32 n small = length-decimal-le 10 n (omega arith) (omega arith) (omega arith)
 
 -- ---- offsets
 

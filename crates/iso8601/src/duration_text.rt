@@ -11,7 +11,7 @@ use std::fmt::Display;
 
 /// Appends a count and the letter of its unit.
 #[inline(always)] // else the letter is a text of any length
-#[tactic(auto, using(crate::proofs::Widths::length_decimal_u32))]
+#[tactic(auto, using(scan_core::proofs::DigitFacts::length_decimal_u32))]
 fn push_count(out: &mut Short, count: u32, letter: &str)
     requires letter { length letter.now ≤ 1 }
     requires room { array_string_len out.old + 11 ≤ 128 }

@@ -12,7 +12,7 @@ use std::fmt::Display;
 
 /// Appends a number of 32 bits with leading zeros to at least `width` digits.
 #[inline(always)] // the width is a constant at each call
-#[tactic(auto, using(crate::proofs::Widths::length_decimal_u32))]
+#[tactic(auto, using(scan_core::proofs::DigitFacts::length_decimal_u32))]
 pub(crate) fn push_digits(out: &mut Short, value: u32, width: usize)
     requires width { width ≤ 10 }
     requires room { array_string_len out.old + 10 ≤ 128 }

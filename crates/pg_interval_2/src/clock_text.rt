@@ -8,7 +8,7 @@ use arrayvec::ArrayString;
 use scan_core::{push_padded, push_text};
 
 /// Appends the digits of hours, at least `width` of them.
-#[tactic(auto, using(crate::proofs::Widths::length_decimal_u32), unfolding(crate::specs::ClockText::hours_text))]
+#[tactic(auto, using(scan_core::proofs::DigitFacts::length_decimal_u32), unfolding(crate::specs::ClockText::hours_text))]
 fn push_hours<const CAP: usize>(out: &mut ArrayString<CAP>, width: usize, hours: u32)
     requires width { width ≤ 2 }
     requires room { array_string_len out.old + 10 ≤ CAP }
@@ -19,7 +19,7 @@ fn push_hours<const CAP: usize>(out: &mut ArrayString<CAP>, width: usize, hours:
 }
 
 /// Appends a colon and minutes or seconds in two digits.
-#[tactic(auto, using(crate::proofs::Widths::length_decimal_two), unfolding(crate::specs::ClockText::field_text))]
+#[tactic(auto, using(scan_core::proofs::DigitFacts::length_decimal_two), unfolding(crate::specs::ClockText::field_text))]
 fn push_field<const CAP: usize>(out: &mut ArrayString<CAP>, value: u32)
     requires value { value < 100 }
     requires room { array_string_len out.old + 3 ≤ CAP }

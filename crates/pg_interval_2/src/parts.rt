@@ -77,7 +77,7 @@ pub fn push_minus<const CAP: usize>(out: &mut ArrayString<CAP>, negative: bool)
 }
 
 /// Appends the digits of a number.
-#[tactic(auto, using(crate::proofs::Widths::length_decimal_u32, crate::proofs::Widths::length_decimal_two))]
+#[tactic(auto, using(scan_core::proofs::DigitFacts::length_decimal_u32, scan_core::proofs::DigitFacts::length_decimal_two))]
 pub fn push_digits<const CAP: usize>(out: &mut ArrayString<CAP>, value: u32)
     requires { array_string_len out.old + 10 ≤ CAP }
     ensures bytes { out.new.bytes ≡ out.old.bytes ++ decimal value }

@@ -8,13 +8,6 @@ use Rattle.port_toml_datetime.specs.Texts.{minutes_text, signed_text}
 pub short_year : (n : ℕ) → n < 2 ^ 16 → length (decimal n) ≤ 5
 short_year n h = length-decimal-le 5 n (omega arith) (omega arith) (omega arith)
 
--- a nanosecond has at most ten digits
-pub short_nanos : (n : ℕ) → n < 2 ^ 32 → length (decimal n) ≤ 10
-short_nanos n h = length-decimal-le 10 n (omega arith) (omega arith) (omega arith)
-
-pub short_two : (n : ℕ) → n < 100 → length (decimal n) ≤ 2
-short_two n h = length-decimal-le 2 n (omega arith) (omega arith) (omega arith)
-
 pub short_hours : (n : ℕ) → n < 1000 → length (decimal n) ≤ 3
 short_hours n h = length-decimal-le 3 n (omega arith) (omega arith) (omega arith)
 

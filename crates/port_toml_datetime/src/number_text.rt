@@ -8,7 +8,7 @@ use scan_core::{Short, push_padded, push_trimmed};
 
 /// At least two digits.
 #[inline(always)]
-#[tactic(auto, using(crate::proofs::TextFacts::short_hours, crate::proofs::TextFacts::short_two))]
+#[tactic(auto, using(crate::proofs::TextFacts::short_hours, scan_core::proofs::DigitFacts::length_decimal_two))]
 pub(crate) fn push_two(out: &mut Short, value: u16)
     requires value { value < 1000 }
     requires room { array_string_len out.old + 3 ≤ 128 }
@@ -31,7 +31,7 @@ pub(crate) fn push_four(out: &mut Short, value: u16)
 }
 
 /// The digits of a nanosecond without the zeros at the end, at least one.
-#[tactic(auto, using(crate::proofs::TextFacts::short_nanos))]
+#[tactic(auto, using(scan_core::proofs::DigitFacts::length_decimal_u32))]
 pub(crate) fn push_fraction(out: &mut Short, nanosecond: u32)
     requires { array_string_len out.old + 10 ≤ 128 }
     ensures bytes { out.new.bytes ≡ out.old.bytes ++ fraction_text nanosecond }

@@ -7,7 +7,6 @@ ghost use Rattle.port_toml_datetime.specs.Checks.{has_length};
 ghost use Rattle.port_toml_datetime.specs.Tokens.{after_token, first_token, is_digits, is_end, is_mark, is_of};
 
 use crate::error::{Check, DatetimeParseError};
-use crate::numbers::two_digits;
 use scan_core::split_digits;
 
 /// The digits in front and what follows them, or the error where there are none.
@@ -33,25 +32,6 @@ pub(crate) struct Field {
     pub is_two: bool,
     /// The number that they write, or 0 where they aren't two.
     pub number: u8,
-}
-
-/// The field of these digits.
-fn field_of(digits: &[u8]) -> Field
-    requires { AreDigits digits.now }
-    ensures two { result.is_two ≡ has_length 2 digits.now }
-    ensures number { has_length 2 digits.now ≡ true → result.number ≡ number_of digits.now }
-{
-    if digits.len() == 2 {
-        Field {
-            is_two: true,
-            number: two_digits(digits),
-        }
-    } else {
-        Field {
-            is_two: false,
-            number: 0,
-        }
-    }
 }
 
 /// Whether a digit stands in front.
@@ -90,8 +70,14 @@ pub(crate) fn read_field(bytes: &[u8], asked: Check) -> Result<(Field, &[u8]), D
             ))
         }
         _ => {
-            let (found, rest) = digits(bytes, asked)?;
-            Ok((field_of(found), rest))
+            let (_, rest) = digits(bytes, asked)?;
+            Ok((
+                Field {
+                    is_two: false,
+                    number: 0,
+                },
+                rest,
+            ))
         }
     }
 }

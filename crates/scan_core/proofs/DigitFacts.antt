@@ -111,5 +111,11 @@ digits_decimal n h = (decimal_is_IsNumeral n h).0.1
 pub number_of-decimal : (n : ℕ) → n < 2 ^ 64 → number_of (decimal n) ≡ n
 number_of-decimal n h = (decimal_is_IsNumeral n h).1
 
-pub decimal_short : (n : ℕ) → n < 2 ^ 64 → length (decimal n) ≤ 20
-decimal_short n h = length-decimal-le 20 n (omega arith) (omega arith) h
+pub length_decimal_u64 : (n : ℕ) → n < 2 ^ 64 → length (decimal n) ≤ 20
+length_decimal_u64 n small = length-decimal-le 20 n (omega arith) (omega arith) small
+
+pub length_decimal_u32 : (n : ℕ) → n < 2 ^ 32 → length (decimal n) ≤ 10
+length_decimal_u32 n small = length-decimal-le 10 n (omega arith) (omega arith) (omega arith)
+
+pub length_decimal_two : (n : ℕ) → n < 100 → length (decimal n) ≤ 2
+length_decimal_two n small = length-decimal-le 2 n (omega arith) (omega arith) (omega arith)

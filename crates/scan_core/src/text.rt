@@ -173,7 +173,7 @@ mod tests {
     use std::test::Fail;
 
     #[test]
-    #[tactic(auto, using(crate::proofs::DigitFacts::decimal_short))]
+    #[tactic(auto, using(crate::proofs::DigitFacts::length_decimal_u64))]
     fn numbers_are_padded(rt: HostRuntime) -> Result<(), Fail> {
         for (value, width, want) in [
             (7, 2, "T7 07"),
@@ -205,7 +205,7 @@ mod tests {
     }
 
     #[test]
-    #[tactic(auto, using(crate::proofs::DigitFacts::decimal_short))]
+    #[tactic(auto, using(crate::proofs::DigitFacts::length_decimal_u64))]
     fn zeros_at_the_end_are_left_out(rt: HostRuntime) -> Result<(), Fail> {
         for (value, width, want) in [
             (500_000, 6, ".5"),
