@@ -15,7 +15,8 @@ use Rattle.iso8601.specs.declared.types.Date.{Date}
 use Rattle.iso8601.specs.declared.types.Date.TheVariants.{YMD, Week, Ordinal}
 use Rattle.iso8601.specs.declared.types.Time.{Time}
 use Rattle.iso8601.specs.declared.types.DateTime.{DateTime}
-use Rattle.iso8601.proofs.SpelledFields.{field_spelled, marked_spelled, year_spelled, fraction_spelled}
+use Rattle.scan_core.proofs.PaddedFacts.{padded_field}
+use Rattle.iso8601.proofs.SpelledFields.{marked_spelled, year_spelled, fraction_spelled}
 use Rattle.iso8601.proofs.Widths.{wide_positive, ahead_text, behind_text}
 
 -- ---- dates
@@ -23,7 +24,7 @@ use Rattle.iso8601.proofs.Widths.{wide_positive, ahead_text, behind_text}
 pub date_spelled : (date : Date) → IsDateInRange date → IsDate (date_text date) date
 unfolding date_text
 date_spelled (YMD year month day) r =
-    let months = field_spelled 2 1 12 month (omega arith) (omega (arith, r.2)) (omega (arith, r.2)) r.1 r.2 in
+    let months = padded_field 2 1 12 month (omega arith) (omega (arith, r.2)) (omega (arith, r.2)) r.1 r.2 in
     let days = marked_spelled (codes "-") 2 1 31 day (omega arith) (omega (arith, r.4)) (omega (arith, r.4)) r.3 r.4 in
     record {
       year_text = year_text year;
@@ -36,7 +37,7 @@ date_spelled (YMD year month day) r =
       joined = refl;
     }
 date_spelled (Week year ww d) r =
-    let weeks = field_spelled 2 1 53 ww (omega arith) (omega (arith, r.2)) (omega (arith, r.2)) r.1 r.2 in
+    let weeks = padded_field 2 1 53 ww (omega arith) (omega (arith, r.2)) (omega (arith, r.2)) r.1 r.2 in
     let days = marked_spelled (codes "-") 1 1 7 d (omega arith) (omega (arith, r.4)) (omega (arith, r.4)) r.3 r.4 in
     record {
       year_text = year_text year;
@@ -56,7 +57,7 @@ date_spelled (Ordinal year ddd) r =
       year = year;
       years = year_spelled year r.0;
       mark = inr refl;
-      days = inr (inr (ddd, field_spelled 3 1 366 ddd (omega arith) (omega (arith, r.2)) (omega (arith, r.2)) r.1 r.2, refl));
+      days = inr (inr (ddd, padded_field 3 1 366 ddd (omega arith) (omega (arith, r.2)) (omega (arith, r.2)) r.1 r.2, refl));
       joined = refl;
     }
 
@@ -71,7 +72,7 @@ parts_spelled negative h m p q =
       minute_text = codes ":" ++ padded_digits 2 m;
       hour = h;
       minute = m;
-      hours = field_spelled 2 0 24 h (omega arith) (omega arith) (omega arith) (omega arith) p;
+      hours = padded_field 2 0 24 h (omega arith) (omega arith) (omega arith) (omega arith) p;
       minutes = inr (marked_spelled (codes ":") 2 0 59 m (omega arith) (omega arith) (omega arith) (omega arith) q);
       joined = refl;
       value = refl;
@@ -111,7 +112,7 @@ time_spelled t r =
       second_text = codes ":" ++ padded_digits 2 t.second;
       fraction = codes "." ++ padded_digits 3 t.millisecond;
       offset = offset_text t.tz_offset_hours t.tz_offset_minutes;
-      hours = field_spelled 2 0 24 t.hour (omega arith) (omega (arith, r.0)) (omega (arith, r.0)) (omega arith) r.0;
+      hours = padded_field 2 0 24 t.hour (omega arith) (omega (arith, r.0)) (omega (arith, r.0)) (omega arith) r.0;
       minutes = marked_spelled (codes ":") 2 0 59 t.minute (omega arith) (omega (arith, r.1)) (omega (arith, r.1)) (omega arith) r.1;
       seconds = inr (marked_spelled (codes ":") 2 0 60 t.second (omega arith) (omega (arith, r.2)) (omega (arith, r.2)) (omega arith) r.2);
       fractions = inr (fraction_spelled t.millisecond r.3);

@@ -1,5 +1,5 @@
 -- How many bytes the pieces of a written text have at most.
-use Rattle.std.proofs.Common.{◌≡◌, ℕ, suc, zero, ◌+◌, ◌^◌, ◌<◌, ◌≤◌, ℤ, pos, negsuc, true, ◌||◌, List, ◌++◌, length, decimal, codes, refl, length-append, arith}
+use Rattle.std.proofs.Common.{◌≡◌, ℕ, suc, zero, ◌+◌, ◌^◌, ◌<◌, ◌≤◌, ℤ, pos, negsuc, true, ◌||◌, List, ◌++◌, length, codes, refl, length-append, arith}
 use Rattle.std.proofs.Math.Bool.{or-true}
 use Rattle.std.specs.Int.{is_negative}
 use Rattle.std.specs.Prelude.{unsigned_abs, neg_ℤ}

@@ -1,11 +1,10 @@
 -- The text of a well-formed date-time is in the grammar, with its value.
 use Rattle.std.proofs.Common.{◌≡◌, ℕ, zero, suc, ◌+◌, ◌-◌, ◌*◌, ◌/◌, ◌%◌, ◌^◌, ◌<◌, ◌≤◌, ◌==◌, ◌||◌, Bool, true, false, cond, ℤ, pos, negsuc, neg_ℤ, List, [], ◌∷◌, ◌++◌, length, take, replicate, Option, Some, None, append-nil, append_assoc, length-append, codes, refl, sym, ◌∙◌, ap, subst, arith, inl, inr}
-use Rattle.std.proofs.lemmas.Fmt.{length-decimal-le}
 use Rattle.std.proofs.lemmas.List.{take_at, length-replicate, replicate-append-replicate}
 use Rattle.scan_core.specs.Digits.{AreDigits, number_of}
 use Rattle.scan_core.specs.Padded.{padded_digits, trimmed_digits}
 use Rattle.scan_core.proofs.DigitFacts.{digits_left}
-use Rattle.scan_core.proofs.PaddedFacts.{length-padded, digits-padded, number_of-padded}
+use Rattle.scan_core.proofs.PaddedFacts.{padded_field}
 use Rattle.port_toml_datetime.specs.declared.date.Date.{Date}
 use Rattle.port_toml_datetime.specs.declared.time.Time.{Time}
 use Rattle.port_toml_datetime.specs.declared.offset.Offset.{Offset}
@@ -21,16 +20,6 @@ use Rattle.port_toml_datetime.specs.Texts.{or_zero, fraction_text, date_text, se
 use Rattle.port_toml_datetime.specs.WellFormed.{IsRealDay, AreRealSeconds, IsRealTime, IsOffsetInRange, AreWellFormed, IsWellFormed}
 
 -- ---- fields
-
-padded_field : (count lo hi n : ℕ) → 0 < count → n < 10 ^ count → n < 2 ^ 64 → lo ≤ n → n ≤ hi → IsField count lo hi (padded_digits count n) n
-padded_field count lo hi n some small fits least most =
-    record {
-      long = omega (arith, length-padded count n, length-decimal-le count n some small fits);
-      digits = digits-padded count n fits;
-      number = sym (number_of-padded count n fits);
-      least = least;
-      most = most;
-    }
 
 two_field : (lo hi n : ℕ) → hi < 100 → lo ≤ n → n ≤ hi → IsField 2 lo hi (padded_digits 2 n) n
 two_field lo hi n small least most = padded_field 2 lo hi n (omega arith) (omega arith) (omega arith) least most

@@ -1,8 +1,9 @@
 -- Digits with leading zeros: how many they are, the number that they write, and their last digit.
 use Rattle.std.proofs.Common.{◌≡◌, ℕ, zero, suc, ◌+◌, ◌-◌, ◌/◌, ◌%◌, ◌^◌, ◌<◌, ◌≤◌, [], ◌∷◌, ◌++◌, length, decimal, replicate, max, append_assoc, length-append, arith, refl, sym, ap, ◌∙◌}
-use Rattle.std.proofs.lemmas.Fmt.{decimal_digit, decimal_step, decimal_nonempty}
+use Rattle.std.proofs.lemmas.Fmt.{decimal_digit, decimal_step, decimal_nonempty, length-decimal-le}
 use Rattle.std.proofs.lemmas.List.{length_push}
 use Rattle.scan_core.specs.Digits.{AreDigits, number_of}
+use Rattle.scan_core.specs.Fields.{IsField}
 use Rattle.scan_core.specs.Padded.{padded_digits}
 use Rattle.scan_core.proofs.DigitFacts.{digits-append, digits-zeros, number_of-zeros, digits_decimal, number_of-decimal}
 
@@ -22,6 +23,17 @@ number_of-padded width n small = number_of-zeros (width - length (decimal n)) (d
 
 pub padded_some : (width n : ℕ) → n < 2 ^ 64 → 0 < length (padded_digits width n)
 padded_some width n fits = let some = decimal_nonempty n fits in omega (arith, length-padded width n, some)
+
+-- a number of at most this many digits is written in just as many, a field
+pub padded_field : (count lo hi n : ℕ) → 0 < count → n < 10 ^ count → n < 2 ^ 64 → lo ≤ n → n ≤ hi → IsField count lo hi (padded_digits count n) n
+padded_field count lo hi n some short fits least most =
+    record {
+      long = omega (arith, length-padded count n, length-decimal-le count n some short fits);
+      digits = digits-padded count n fits;
+      number = sym (number_of-padded count n fits);
+      least = least;
+      most = most;
+    }
 
 -- ---- the last digit
 
