@@ -13,4 +13,6 @@ pub mod form;
 pub mod interval;
 pub mod reply;
 mod room;
+#[cfg(test)]
+mod tests;
 pub mod version;
