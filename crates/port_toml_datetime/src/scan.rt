@@ -70,6 +70,7 @@ pub(crate) fn read_field(bytes: &[u8], asked: Check) -> Result<(Field, &[u8]), D
             ))
         }
         _ => {
+            // Not two digits, else they had been read above.
             let (_, rest) = digits(bytes, asked)?;
             Ok((
                 Field {

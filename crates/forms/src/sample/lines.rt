@@ -106,6 +106,7 @@ mod tests {
     use super::*;
     use std::test::Fail;
 
+    /// Reckoned apart from the code, from the generator's formula; bench/lines.py writes the same.
     #[test]
     fn first_lines(rt: HostRuntime) -> Result<(), Fail> {
         let lines = sample_bytes(rt.alloc(), 10)?;
