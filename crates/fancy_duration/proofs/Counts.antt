@@ -28,7 +28,7 @@ digit_not_blank d e = grind (arith, nat_tests)
 blank_not_letter : (b : ℕ) → is_blank b ≡ true → is_letter b ≡ false
 blank_not_letter b e = grind (arith, nat_tests)
 
-digits_begin : (digits rest : List ℕ) → 0 < length digits → AreDigits digits
+pub digits_begin : (digits rest : List ℕ) → 0 < length digits → AreDigits digits
     → (begins_by is_letter (digits ++ rest) ≡ false) × (begins_by is_blank (digits ++ rest) ≡ false)
 digits_begin [] rest some are = absurd (omega arith)
 digits_begin (d ∷ ds) rest some are = let e : is_digit d ≡ true = is_digit-from d are.0 in (digit_not_letter d e, digit_not_blank d e)
@@ -56,7 +56,7 @@ is_unit-unit_of Milliseconds rest h = refl
 is_unit-unit_of Microseconds rest h = refl
 is_unit-unit_of Nanoseconds rest h = refl
 
-begins_letter-blanks : (blanks rest : List ℕ) → list_all is_blank blanks ≡ true
+pub begins_letter-blanks : (blanks rest : List ℕ) → list_all is_blank blanks ≡ true
     → begins_by is_letter rest ≡ false → begins_by is_letter (blanks ++ rest) ≡ false
 begins_letter-blanks [] rest h e = e
 begins_letter-blanks (b ∷ bs) rest h e = blank_not_letter b (and_parts (is_blank b) (list_all is_blank bs) h).0

@@ -14,3 +14,4 @@ pub mod ReadBack
 pub mod SharedTexts
 pub mod StrictTexts
 pub mod MonthsAlone
+pub mod SpelledTexts

@@ -5,6 +5,7 @@ pub mod Times
 pub mod Sums
 pub mod Meanings
 pub mod Strict
+pub mod Spelled
 pub mod Breakdown
 pub mod Written
 pub mod Collisions

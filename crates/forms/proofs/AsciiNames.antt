@@ -8,7 +8,8 @@ use Rattle.std.proofs.lemmas.Str.{IsUtf8-append, IsUtf8-from_ascii, IsUtf8-past_
 use Rattle.forms.specs.declared.form.Form.{Form}
 use Rattle.forms.specs.declared.form.Form.TheVariants.{FileTime, IsoDateTime, IsoDate, IsoDuration, Toml, Fancy, PgIso, Postgres, PgVerbose, PgSql, IsoStrict}
 use Rattle.forms.specs.Names.{name_of}
-use Rattle.forms.specs.Replies.{IsTail, IsRequest}
+use Rattle.forms.specs.inside.Requests.{HasRequest}
+use Rattle.forms.specs.inside.Requests.{IsTail}
 use Rattle.forms.specs.inside.Reading.{behind, IsNamed}
 
 abbrev pub is_small : ℕ → Bool
@@ -60,7 +61,7 @@ behind_tail text None h = inl (h, refl)
 behind_tail text (Some rest) h = inr (ap (λ (l : List ℕ). codes " " ++ l) (sym h))
 
 -- two names, and behind them the end or a text in UTF-8
-pub request_of : (line rest text : List ℕ) (from to : Form) (end : Option (List ℕ)) → IsNamed line from (Some rest) → IsNamed rest to end → text ≡ unwrap_or end [] → IsUtf8 text → IsRequest line from to text
+pub request_of : (line rest text : List ℕ) (from to : Form) (end : Option (List ℕ)) → IsNamed line from (Some rest) → IsNamed rest to end → text ≡ unwrap_or end [] → IsUtf8 text → HasRequest line from to text
 request_of line rest text from to end first second told utf8 = record {
   tail = behind end;
   utf8 = utf8_named line from (Some rest) first (utf8_named rest to end second (subst IsUtf8 told utf8));

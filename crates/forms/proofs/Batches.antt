@@ -5,7 +5,8 @@ use Rattle.std.specs.Io.KnownBytes.{Appends}
 use Rattle.scan_core.proofs.Joins.{join_push, IsJoin-one}
 use Rattle.forms.specs.Lines.{lines, whole_lines}
 use Rattle.forms.specs.Outside.{AppendsFront}
-use Rattle.forms.specs.Replies.{IsReplyLine, AreReplies}
+use Rattle.forms.specs.Replies.{AreReplies}
+use Rattle.forms.specs.Buffers.{IsReplyLine}
 use Rattle.forms.specs.Ends.{GainsReplies, GainsFront}
 use Rattle.forms.specs.inside.Reading.{MovesFront, PushesReply}
 use Rattle.forms.specs.inside.Pieces.{NoFeed, IsEnded, AreWhole, Answers}

@@ -4,7 +4,8 @@ use Rattle.std.proofs.lemmas.List.{length-append, length-drop, take_at}
 use Rattle.std.proofs.lemmas.Slice.{drop-append-drop}
 use Rattle.scan_core.proofs.Joins.{join_push}
 use Rattle.forms.specs.Lines.{lines, whole_lines}
-use Rattle.forms.specs.Replies.{IsReplyLine, AreReplies}
+use Rattle.forms.specs.Replies.{AreReplies}
+use Rattle.forms.specs.Buffers.{IsReplyLine}
 use Rattle.forms.specs.Buffers.{Stops, AnswersInto}
 use Rattle.forms.specs.inside.Buffers.{PutsNext}
 use Rattle.forms.specs.inside.Pieces.{NoFeed, IsEnded, AreWhole}

@@ -1,5 +1,5 @@
 -- Date-times of ISO 8601 as a form: their moments, and that the text of a moment is short and read back.
-use Rattle.std.proofs.Common.{◌≡◌, ℕ, ◌+◌, ◌*◌, ◌/◌, ◌%◌, ◌^◌, ◌<◌, ◌≤◌, ◌==◌, Bool, true, false, List, ◌++◌, codes, length, Result, Ok, Err, refl, sym, ◌∙◌, ap, subst, inl, inr, length-append, arith}
+use Rattle.std.proofs.Common.{◌≡◌, ℕ, ◌+◌, ◌*◌, ◌/◌, ◌%◌, ◌^◌, ◌<◌, ◌≤◌, ◌==◌, Bool, true, false, List, ◌++◌, codes, length, Result, Ok, Err, refl, sym, ◌∙◌, ap, subst, inl, inr, length-append, arith, ap₂, if◌then◌else◌}
 use Rattle.std.specs.Prelude.{ℤ, pos, ◌+ℤ◌, ◌-ℤ◌, ◌*ℤ◌, unsigned_abs}
 use Rattle.std.specs.Int.{is_negative}
 use Rattle.std.proofs.lemmas.Bool.Decides.{nat_tests}
@@ -13,7 +13,9 @@ use Rattle.jiff_core.proofs.DateLemmas.{epoch_day_injective}
 use Rattle.jiff_core.proofs.DateTimeLemmas.{time_nanos_injective, civil_nanos-parts, civil_nanos_range, civil_nanos_injective}
 use Rattle.scan_core.specs.Padded.{padded_digits}
 use Rattle.scan_core.proofs.PaddedFacts.{length-padded}
-use Rattle.iso8601.specs.Calendar.{day_of, IsCivilDay}
+use Rattle.jiff_core.specs.declared.civil.date.Date.{Date as CivilDate}
+use Rattle.iso8601.specs.Calendar.{day_of, IsCivilDay, Exists}
+use Rattle.iso8601.specs.declared.types.Date.{Date}
 use Rattle.iso8601.specs.DateTimes.{IsDateTime}
 use Rattle.iso8601.specs.Moments.{IsMoment, IsMomentOf, offset_of}
 use Rattle.iso8601.specs.Ranges.{IsDateTimeInRange, HaveOneSign}
@@ -27,8 +29,9 @@ use Rattle.forms.specs.declared.form.Form.TheVariants.{IsoDateTime}
 use Rattle.forms.specs.declared.value.Value.{Value}
 use Rattle.forms.specs.declared.value.Value.TheVariants.{Instant, Day, Local, Clock, Triple, Length}
 use Rattle.forms.specs.Values.{IsWithinBounds}
-use Rattle.forms.specs.form.IsoDate.{date_of}
-use Rattle.forms.specs.form.IsoDateTime.{Spells, clock_of, instant_of, IsReal, Worth, utc, in_millis, Holds}
+use Rattle.forms.specs.inside.CivilDates.{date_of}
+use Rattle.forms.specs.form.IsoDateTime.{Spells, clock_of, instant_of, IsReal, Worth, IsAt, Holds}
+use Rattle.forms.specs.inside.CivilMoments.{utc, in_millis, HoldsCivil}
 use Rattle.forms.specs.inside.Lawful.{Lawful}
 use Rattle.forms.proofs.IsoDates.{AreCalendarDates, date_in_range, is_civil_day, civil_bounds}
 use Rattle.forms.proofs.Judging.{one_judged, judged_within}
@@ -117,7 +120,7 @@ pub part_millis : (c : CivilDateTime) → (c.time.subsec_nanosecond % 1_000_000 
 unfolding in_millis
 part_millis c isnt = let test : (c.time.subsec_nanosecond % 1_000_000 == 0) ≡ false = grind (arith, nat_tests) in rw test refl
 
-pub no_civil : (nanos : ℤ) → (IsCivilNanos nanos → ⊥) → Holds (Instant nanos) (Err Range)
+pub no_civil : (nanos : ℤ) → (IsCivilNanos nanos → ⊥) → HoldsCivil (Instant nanos) (Err Range)
 no_civil nanos isnt = inr (isnt, refl)
 
 same_millis : (a b : CivilDateTime) → civil_nanos a ≡ civil_nanos b → in_millis a ≡ in_millis b
@@ -128,16 +131,132 @@ same_millis a b e =
     let time = time_nanos_injective a.time b.time both.1 in
     rw (date.0, date.1, date.2, time.0, time.1, time.2, time.3) refl
 
-one_held : (value : Value) (a b : Result DateTime Cause) → Holds value a → Holds value b → a ≡ b
-one_held (Instant nanos) a b (inl h) (inl k) = h.2 ∙ (same_millis h.0 k.0 (h.1 ∙ sym k.1) ∙ sym k.2)
-one_held (Instant nanos) a b (inl h) (inr k) = absurd (k.0 (subst IsCivilNanos h.1 (civil_nanos_range h.0)))
-one_held (Instant nanos) a b (inr h) (inl k) = absurd (h.0 (subst IsCivilNanos k.1 (civil_nanos_range k.0)))
-one_held (Instant nanos) a b (inr h) (inr k) = h.1 ∙ sym k.1
-one_held (Day day) a b h k = h ∙ sym k
-one_held (Local day nanos) a b h k = h ∙ sym k
-one_held (Clock nanos) a b h k = h ∙ sym k
-one_held (Triple months days micros) a b h k = h ∙ sym k
-one_held (Length nanos) a b h k = h ∙ sym k
+is_real : AreCalendarDates → (c : CivilDateTime) → IsReal (utc c)
+is_real laws c =
+    let hour = c.time.hour_in in
+    let minute = c.time.minute_in in
+    let second = c.time.second_in in
+    let subsec = c.time.subsec_in in
+    record { day = laws.exists c.date; clock = (hour, minute, second, omega arith); offset = omega (arith, ints) }
+
+clock_within : (hour minute second subsec : ℕ)
+    → (((hour * 60 + minute) * 60 + second) * 1_000_000_000 + subsec / 1_000_000 * 1_000_000) + subsec % 1_000_000
+    ≡ (hour * 3600 + minute * 60 + second) * 1_000_000_000 + subsec
+clock_within hour minute second subsec = omega arith
+
+-- a civil date-time is at its moment
+at_civil : AreCalendarDates → (c : CivilDateTime) (nanos : ℤ) → civil_nanos c ≡ nanos → IsAt nanos (utc c) (c.time.subsec_nanosecond % 1_000_000)
+at_civil laws c nanos same =
+    let year : IsYear c.date.year = c.date.year_in in
+    let parts = civil_nanos-parts c in
+    let day = laws.day c.date in
+    let times : clock_of (utc c).time + c.time.subsec_nanosecond % 1_000_000 ≡ time_nanos c.time = clock_within c.time.hour c.time.minute c.time.second c.time.subsec_nanosecond in
+    record {
+      year = c.date.year;
+      month = c.date.month;
+      day = c.date.day;
+      date = refl;
+      years = omega (arith, ints);
+      hours = refl;
+      minutes = refl;
+      real = is_real laws c;
+      below = omega arith;
+      same = omega (arith, ints);
+    }
+
+-- the civil date-time of a moment in a date-time's millisecond
+pub record HasCivilTime (nanos : ℤ) (t : DateTime) (part : ℕ) : Type 0 where
+  pub civil : CivilDateTime
+  pub same : civil_nanos civil ≡ nanos
+  pub utc_is : utc civil ≡ t
+  pub part_is : civil.time.subsec_nanosecond % 1_000_000 ≡ part
+
+same_utc : (t : DateTime) (d : Date) (millis : ℕ) (hours minutes : ℤ) → d ≡ t.date → millis ≡ t.time.millisecond → hours ≡ t.time.tz_offset_hours
+    → minutes ≡ t.time.tz_offset_minutes
+    → (record {
+      date = d;
+      time = record {
+        hour = t.time.hour;
+        minute = t.time.minute;
+        second = t.time.second;
+        millisecond = millis;
+        tz_offset_hours = hours;
+        tz_offset_minutes = minutes;
+      };
+    }) ≡ t
+same_utc t d millis hours minutes e f g h = rw (e, f, g, h) refl
+
+civil_at : AreCalendarDates → (nanos : ℤ) (t : DateTime) (part : ℕ) → IsAt nanos t part → HasCivilTime nanos t part
+civil_at laws nanos t part at =
+    let exists : Exists (YMD at.year at.month at.day) = subst Exists at.date at.real.day in
+    let clock = at.real.clock in
+    let years = at.years in
+    let below = at.below in
+    let d : CivilDate = record {
+      year = at.year;
+      month = at.month;
+      day = at.day;
+      year_in = (omega (arith, ints), omega (arith, ints));
+      month_in = (exists.0, exists.1);
+      day_in = (exists.2, exists.3);
+    } in
+    let c : CivilDateTime = record {
+      date = d;
+      time = record {
+        hour = t.time.hour;
+        minute = t.time.minute;
+        second = t.time.second;
+        subsec_nanosecond = t.time.millisecond * 1_000_000 + part;
+        hour_in = clock.0;
+        minute_in = clock.1;
+        second_in = clock.2;
+        subsec_in = omega (arith, clock.3);
+      };
+    } in
+    let millis : (t.time.millisecond * 1_000_000 + part) / 1_000_000 ≡ t.time.millisecond = omega arith in
+    let rest : (t.time.millisecond * 1_000_000 + part) % 1_000_000 ≡ part = omega arith in
+    let is : utc c ≡ t = same_utc t (YMD at.year at.month at.day) _ (pos 0) (pos 0) (sym at.date) millis (sym at.hours) (sym at.minutes) in
+    let own = (at_civil laws c (civil_nanos c) refl).same in
+    let moment : instant_of (utc c) ≡ instant_of t = ap instant_of is in
+    let whole : instant_of (utc c) +ℤ pos ((t.time.millisecond * 1_000_000 + part) % 1_000_000) ≡ civil_nanos c = own in
+    record { civil = c; same = sym whole ∙ (ap₂ (λ (z : ℤ) (n : ℕ). z +ℤ pos n) moment rest ∙ at.same); utc_is = is; part_is = rest }
+
+-- what is held by the civil date-time is held
+pub from_civil : AreCalendarDates → (nanos : ℤ) (held : Result DateTime Cause) → HoldsCivil (Instant nanos) held → Holds (Instant nanos) held
+unfolding in_millis
+from_civil laws nanos held (inl (c, same, is)) = inl (utc c, c.time.subsec_nanosecond % 1_000_000, at_civil laws c nanos same, is)
+from_civil laws nanos held (inr (isnt, is)) =
+    inr ((λ t part at. let c = civil_at laws nanos t part at in isnt (subst IsCivilNanos c.same (civil_nanos_range c.civil))), is)
+
+-- and the other way round, where a date-time is there
+abbrev AtCivil : ℤ → Result DateTime Cause → Type 0
+AtCivil nanos held = (c : CivilDateTime) × (civil_nanos c ≡ nanos) × (held ≡ in_millis c)
+
+to_civil : AreCalendarDates → (nanos : ℤ) (held : Result DateTime Cause) (t : DateTime) (part : ℕ) → IsAt nanos t part
+    → held ≡ (if part == 0 then Ok t else Err Precision)
+    → AtCivil nanos held
+unfolding in_millis
+to_civil laws nanos held t part at is =
+    let c = civil_at laws nanos t part at in
+    let same : (if part == 0 then Ok t else Err Precision) ≡ in_millis c.civil = rw (c.part_is, c.utc_is) refl in
+    (c.civil, c.same, is ∙ same)
+
+one_moment : AreCalendarDates → (nanos : ℤ) (a b : Result DateTime Cause) → Holds (Instant nanos) a → Holds (Instant nanos) b → a ≡ b
+one_moment laws nanos a b (inl (t, part, at, is)) (inl (u, rest, here, so)) =
+    let h = to_civil laws nanos a t part at is in
+    let k = to_civil laws nanos b u rest here so in
+    h.2 ∙ (same_millis h.0 k.0 (h.1 ∙ sym k.1) ∙ sym k.2)
+one_moment laws nanos a b (inl (t, part, at, is)) (inr k) = absurd (k.0 t part at)
+one_moment laws nanos a b (inr h) (inl (t, part, at, is)) = absurd (h.0 t part at)
+one_moment laws nanos a b (inr h) (inr k) = h.1 ∙ sym k.1
+
+one_held : AreCalendarDates → (value : Value) (a b : Result DateTime Cause) → Holds value a → Holds value b → a ≡ b
+one_held laws (Instant nanos) a b h k = one_moment laws nanos a b h k
+one_held laws (Day day) a b h k = h ∙ sym k
+one_held laws (Local day nanos) a b h k = h ∙ sym k
+one_held laws (Clock nanos) a b h k = h ∙ sym k
+one_held laws (Triple months days micros) a b h k = h ∙ sym k
+one_held laws (Length nanos) a b h k = h ∙ sym k
 
 -- ---- the laws
 
@@ -158,14 +277,6 @@ in_range c =
     let signs : HaveOneSign (pos 0) (pos 0) = inl (omega (arith, ints), omega (arith, ints)) in
     (date, (omega arith, omega arith, omega arith, omega arith, omega (arith, ints), omega (arith, ints), signs))
 
-is_real : AreCalendarDates → (c : CivilDateTime) → IsReal (utc c)
-is_real laws c =
-    let hour = c.time.hour_in in
-    let minute = c.time.minute_in in
-    let second = c.time.second_in in
-    let subsec = c.time.subsec_in in
-    record { day = laws.exists c.date; clock = (hour, minute, second, omega arith); offset = omega (arith, ints) }
-
 utc_value : AreCalendarDates → (c : CivilDateTime) → c.time.subsec_nanosecond % 1_000_000 ≡ 0 → instant_of (utc c) ≡ civil_nanos c
 utc_value laws c whole =
     let parts = civil_nanos-parts c in
@@ -175,7 +286,8 @@ utc_value laws c whole =
     omega (arith, ints)
 
 held_back : AreCalendarDates → ((t : DateTime) → IsDateTimeInRange t → IsDateTime (date_time_text t) t) → (value : Value) (t : DateTime) → IsWithinBounds value → Holds value (Ok t) → IsHeldBack Spells Worth Holds (date_time_text t) value t
-held_back laws spelled (Instant nanos) t w (inl h) =
+held_back laws spelled (Instant nanos) t w (inl (u, part, at, is)) =
+    let h = to_civil laws nanos (Ok t) u part at is in
     let found = in_millis_held h.0 t (sym h.2) in
     let P : DateTime → Type 0 = λ x. IsHeldBack Spells Worth Holds (date_time_text x) (Instant nanos) x in
     let whole : P (utc h.0) = record {
@@ -184,7 +296,7 @@ held_back laws spelled (Instant nanos) t w (inl h) =
       spelled = spelled (utc h.0) (in_range h.0);
       valued = inl (is_real laws h.0, is_civil_day laws h.0.date, ap (λ (z : ℤ). Ok (Instant z)) (sym (utc_value laws h.0 found.0 ∙ h.1)));
       same = refl;
-      again = inl (h.0, h.1, sym (whole_millis h.0 found.0));
+      again = from_civil laws nanos (Ok (utc h.0)) (inl (h.0, h.1, sym (whole_millis h.0 found.0)));
     } in
     subst P found.1 whole
 held_back laws spelled (Instant nanos) t w (inr h) = absurd (let e : Ok t ≡ Err Range = h.1 in cc)
@@ -209,7 +321,7 @@ iso_date_times one spelled laws =
     (record {
       one = one;
       one_worth = λ t a b h k. one_judged (IsReal t) (IsCivilDay (day_of t.date)) (Instant (instant_of t)) a b h k;
-      one_held = one_held;
+      one_held = one_held laws;
       within = λ text t value spelled h. judged_within (IsReal t) (IsCivilDay (day_of t.date)) (Instant (instant_of t)) value (real_within laws t) h;
       back = held_back laws spelled;
     })

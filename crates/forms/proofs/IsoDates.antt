@@ -17,7 +17,8 @@ use Rattle.forms.specs.declared.form.Form.TheVariants.{IsoDate}
 use Rattle.forms.specs.declared.value.Value.{Value}
 use Rattle.forms.specs.declared.value.Value.TheVariants.{Day}
 use Rattle.forms.specs.Values.{IsWithinBounds}
-use Rattle.forms.specs.form.IsoDate.{Spells, Worth, date_of, Holds}
+use Rattle.forms.specs.form.IsoDate.{Spells, Worth, Holds}
+use Rattle.forms.specs.inside.CivilDates.{date_of}
 use Rattle.forms.specs.inside.Lawful.{Lawful}
 use Rattle.forms.proofs.Judging.{one_judged, judged_within}
 use Rattle.forms.proofs.Lawful.{same_ok, IsHeldBack, lawful_by}
@@ -49,25 +50,52 @@ is_civil_day laws d = (laws.civil (day_of (date_of d))).1 (subst IsEpochDay (sym
 pub civil_bounds : AreCalendarDates → (day : ℤ) → IsCivilDay day → IsEpochDay day
 civil_bounds laws day h = (laws.civil day).0 h
 
-one_held : (value : Value) (a b : Result Date Cause) → Holds value a → Holds value b → a ≡ b
-one_held (Day day) a b h k =
-    let parts = epoch_day_injective h.0 k.0 (h.1 ∙ sym k.1) in
-    let same : date_of h.0 ≡ date_of k.0 = rw (parts.0, parts.1, parts.2) refl in
-    h.2 ∙ (ap Ok same ∙ sym k.2)
-one_held _ a b h k = h ∙ sym k
+-- a civil date is held of its day
+pub held_civil : AreCalendarDates → (d : CivilDate) (day : ℤ) → epoch_day d ≡ day → Holds (Day day) (Ok (date_of d))
+held_civil laws d day same =
+    let year : IsYear d.year = d.year_in in
+    (d.year, d.month, d.day, omega (arith, ints), laws.exists d, laws.day d ∙ same, refl)
+
+-- what is held of a day is a civil date
+pub record HasCivil (day : ℤ) (held : Result Date Cause) : Type 0 where
+  pub civil : CivilDate
+  pub same : epoch_day civil ≡ day
+  pub is : held ≡ Ok (date_of civil)
+
+civil_held : AreCalendarDates → (day : ℤ) (held : Result Date Cause) → Holds (Day day) held → HasCivil day held
+civil_held laws day held (year, month, n, small, exists, same, is) =
+    let d : CivilDate = record {
+      year = year;
+      month = month;
+      day = n;
+      year_in = (omega (arith, ints), omega (arith, ints));
+      month_in = (exists.0, exists.1);
+      day_in = (exists.2, exists.3);
+    } in
+    record { civil = d; same = sym (laws.day d) ∙ same; is = is }
+
+one_held : AreCalendarDates → (value : Value) (a b : Result Date Cause) → Holds value a → Holds value b → a ≡ b
+one_held laws (Day day) a b h k =
+    let c = civil_held laws day a h in
+    let d = civil_held laws day b k in
+    let parts = epoch_day_injective c.civil d.civil (c.same ∙ sym d.same) in
+    let same : date_of c.civil ≡ date_of d.civil = rw (parts.0, parts.1, parts.2) refl in
+    c.is ∙ (ap Ok same ∙ sym d.is)
+one_held laws _ a b h k = h ∙ sym k
 
 held_back : AreCalendarDates → ((date : Date) → IsDateInRange date → IsDate (date_text date) date) → (value : Value) (date : Date) → IsWithinBounds value → Holds value (Ok date) → IsHeldBack Spells Worth Holds (date_text date) value date
 held_back laws spelled (Day day) date w h =
-    let is : date ≡ date_of h.0 = same_ok date (date_of h.0) h.2 in
+    let c = civil_held laws day (Ok date) h in
+    let is : date ≡ date_of c.civil = same_ok date (date_of c.civil) c.is in
     let P : Date → Type 0 = λ d. IsHeldBack Spells Worth Holds (date_text d) (Day day) d in
-    let same : day_of (date_of h.0) ≡ day = laws.day h.0 ∙ h.1 in
-    let whole : P (date_of h.0) = record {
-      meaning = date_of h.0;
+    let same : day_of (date_of c.civil) ≡ day = laws.day c.civil ∙ c.same in
+    let whole : P (date_of c.civil) = record {
+      meaning = date_of c.civil;
       back = Day day;
-      spelled = spelled (date_of h.0) (date_in_range h.0);
-      valued = inl (laws.exists h.0, is_civil_day laws h.0, ap (λ (z : ℤ). Ok (Day z)) (sym same));
+      spelled = spelled (date_of c.civil) (date_in_range c.civil);
+      valued = inl (laws.exists c.civil, is_civil_day laws c.civil, ap (λ (z : ℤ). Ok (Day z)) (sym same));
       same = refl;
-      again = (h.0, h.1, refl);
+      again = held_civil laws c.civil day c.same;
     } in
     subst P (sym is) whole
 held_back laws spelled _ date w h = absurd (let e : Ok date ≡ Err Kind = h in cc)
@@ -78,7 +106,7 @@ iso_dates one spelled laws =
     (record {
       one = one;
       one_worth = λ date a b h k. one_judged (Exists date) (IsCivilDay (day_of date)) (Day (day_of date)) a b h k;
-      one_held = one_held;
+      one_held = one_held laws;
       within = λ text date value spelled h. judged_within (Exists date) (IsCivilDay (day_of date)) (Day (day_of date)) value (λ real day. civil_bounds laws (day_of date) day) h;
       back = held_back laws spelled;
     })

@@ -4,8 +4,10 @@ use Rattle.std.specs.Prelude.{unwrap_or}
 use Rattle.forms.specs.declared.form.Form.{Form}
 use Rattle.forms.specs.declared.cause.Cause.{Cause}
 use Rattle.forms.specs.Names.{name_of}
-use Rattle.forms.specs.Replies.{IsRequest, IsAnswer, answer_text, AnswersRequest, IsReply, IsReplyLine, AreReplies}
+use Rattle.forms.specs.Replies.{IsRequest, IsAnswer, answer_text, IsReply, AreReplies}
+use Rattle.forms.specs.Buffers.{IsReplyLine}
 use Rattle.forms.specs.inside.Reading.{behind, IsNamed}
+use Rattle.forms.proofs.Requests.{by_tail}
 use Rattle.forms.proofs.Words.{one_name, tail_behind}
 use Rattle.forms.proofs.NamedForms.{one_form}
 use Rattle.forms.specs.ReadBack.{Turns}
@@ -20,8 +22,9 @@ pub record IsAsked (line : List ℕ) (from to : Form) (text : List ℕ) : Type 0
 
 asked : (line : List ℕ) (from to : Form) (text : List ℕ) → IsRequest line from to text → IsAsked line from to text
 asked line from to text h =
-    let tail = tail_behind text h.tail h.rest in
-    record { rest = tail.0; first = h.joined ∙ ap (λ (l : List ℕ). name_of from ++ (codes " " ++ (name_of to ++ l))) tail.1; end = tail.2 }
+    let parts = by_tail line from to text h in
+    let tail = tail_behind text parts.tail parts.rest in
+    record { rest = tail.0; first = parts.joined ∙ ap (λ (l : List ℕ). name_of from ++ (codes " " ++ (name_of to ++ l))) tail.1; end = tail.2 }
 
 one_request : (line : List ℕ) (f g : Form) (s : List ℕ) (h k : Form) (t : List ℕ) → IsRequest line f g s → IsRequest line h k t → (f ≡ h) × (g ≡ k) × (s ≡ t)
 one_request line f g s h k t a b =
@@ -39,20 +42,17 @@ OneAnswer = (from to : Form) (text : List ℕ) (a b : Result (List ℕ) Cause) �
 pub one_answer : ((form : Form) → Lawful form) → ((from to : Form) (text : List ℕ) (answer : Result (List ℕ) Cause) → IsAnswer from to text answer → Turns from to text answer) → OneAnswer
 one_answer lawful turns from to text a b h k = one_turn from to (lawful from) (lawful to) text a b (turns from to text a h) (turns from to text b k)
 
-one_answered : OneAnswer → (line a b : List ℕ) → AnswersRequest line a → AnswersRequest line b → a ≡ b
-one_answered one line a b h k =
-    let parts = one_request line h.from h.to h.text k.from k.to k.text h.asked k.asked in
-    let P : Form → Type 0 = λ f. IsAnswer f k.to k.text h.answer in
-    let Q : Form → Type 0 = λ f. IsAnswer h.from f k.text h.answer in
-    let R : List ℕ → Type 0 = λ text. IsAnswer h.from h.to text h.answer in
-    let moved = subst P parts.0 (subst Q parts.1 (subst R parts.2 h.answered)) in
-    h.told ∙ (ap answer_text (one k.from k.to k.text h.answer k.answer moved k.answered) ∙ sym k.told)
-
 pub one_reply : OneAnswer → (line a b : List ℕ) → IsReply line a → IsReply line b → a ≡ b
 one_reply one line a b (inl h) (inl k) = h.1 ∙ sym k.1
-one_reply one line a b (inl h) (inr k) = absurd (h.0 k.from k.to k.text k.asked)
-one_reply one line a b (inr h) (inl k) = absurd (k.0 h.from h.to h.text h.asked)
-one_reply one line a b (inr h) (inr k) = one_answered one line a b h k
+one_reply one line a b (inl h) (inr (from, to, text, answer, is_asked, is, told)) = absurd (h.0 from to text is_asked)
+one_reply one line a b (inr (from, to, text, answer, is_asked, is, told)) (inl k) = absurd (k.0 from to text is_asked)
+one_reply one line a b (inr (from, to, text, answer, first, is, told)) (inr (from', to', text', answer', second, is', told')) =
+    let parts = one_request line from to text from' to' text' first second in
+    let P : Form → Type 0 = λ f. IsAnswer f to' text' answer in
+    let Q : Form → Type 0 = λ f. IsAnswer from f text' answer in
+    let R : List ℕ → Type 0 = λ l. IsAnswer from to l answer in
+    let moved = subst P parts.0 (subst Q parts.1 (subst R parts.2 is)) in
+    told ∙ (ap answer_text (one from' to' text' answer answer' moved is') ∙ sym told')
 
 one_whole : OneAnswer → (line a b : List ℕ) → IsReplyLine a line → IsReplyLine b line → a ≡ b
 one_whole one line a b h k = h.2 ∙ (ap (λ (l : List ℕ). l ++ codes "\n") (one_reply one line h.0 k.0 h.1 k.1) ∙ sym k.2)

@@ -16,7 +16,7 @@ use Rattle.forms.specs.Answers.{Is, ReadsBy, result_map, WritesBy, Then}
 use Rattle.forms.specs.Forms.{Writes}
 use Rattle.forms.specs.Names.{style_of}
 use Rattle.forms.specs.ReadBack.{Turns}
-use Rattle.forms.specs.Replies.{IsIntervalAnswer, IsAnswerBy, IsAnswer}
+use Rattle.forms.specs.Replies.{IsIntervalAnswer, IsAnswer}
 use Rattle.forms.specs.form.Intervals.{worth, held}
 use Rattle.forms.proofs.Intervals.{triple, worth_fits, IsDenotedInRange, held_parts, reads_interval, reads_misfit, reads_no_shape, misfit_of}
 use Rattle.forms.proofs.Lawful.{HasRows}
@@ -93,14 +93,23 @@ same_turns : (from to : Form) (s t : Style) → HasStyle from s → HasStyle to 
     → (TurnsBy s t text answer → Turns from to text answer) × (Turns from to text answer → TurnsBy s t text answer)
 same_turns from to s t f g text answer = (λ h. (h.0, f.read text h.0 h.1, (then_writes to t g h.0 answer).0 h.2), λ h. (h.0, f.reads text h.0 h.1, (then_writes to t g h.0 answer).1 h.2))
 
-by_styles : ((s : Style) → IsDenotedInRange s) → (from to : Form) (a b : Option Style) → style_of from ≡ a → style_of to ≡ b → (text : List ℕ) (answer : Result (List ℕ) Cause)
-    → (IsAnswerBy a b (Turns from to) text answer → Turns from to text answer) × (Turns from to text answer → IsAnswerBy a b (Turns from to) text answer)
-by_styles in_range from to (Some s) (Some t) f g text answer =
-    let same = same_turns from to s t (of_style from s f) (of_style to t g) text answer in
-    (λ h. same.0 (onto_turn s t (in_range s) text answer h), λ h. onto_answer s t (in_range s) text answer (same.1 h))
-by_styles in_range from to (Some s) None f g text answer = (λ h. h, λ h. h)
-by_styles in_range from to None b f g text answer = (λ h. h, λ h. h)
+answer_turned : ((s : Style) → IsDenotedInRange s) → (from to : Form) (text : List ℕ) (answer : Result (List ℕ) Cause)
+    → IsAnswer from to text answer → Turns from to text answer
+unfolding IsAnswer
+answer_turned in_range from to text answer (inl (s, t, f, g, h)) =
+    (same_turns from to s t (of_style from s f) (of_style to t g) text answer).0 (onto_turn s t (in_range s) text answer h)
+answer_turned in_range from to text answer (inr other) = other.1
+
+by_styles : ((s : Style) → IsDenotedInRange s) → (from to : Form) (a b : Option Style) → style_of from ≡ a → style_of to ≡ b
+    → (text : List ℕ) (answer : Result (List ℕ) Cause) → Turns from to text answer
+    → IsAnswer from to text answer
+unfolding IsAnswer
+by_styles in_range from to (Some s) (Some t) f g text answer h =
+    inl (s, t, f, g, onto_answer s t (in_range s) text answer ((same_turns from to s t (of_style from s f) (of_style to t g) text answer).1 h))
+by_styles in_range from to (Some s) None f g text answer h = inr (inr g, h)
+by_styles in_range from to None b f g text answer h = inr (inl f, h)
 
 pub answers_turned : ((s : Style) → IsDenotedInRange s) → (from to : Form) (text : List ℕ) (answer : Result (List ℕ) Cause)
     → (IsAnswer from to text answer → Turns from to text answer) × (Turns from to text answer → IsAnswer from to text answer)
-answers_turned in_range from to = by_styles in_range from to (style_of from) (style_of to) refl refl
+answers_turned in_range from to text answer =
+    (answer_turned in_range from to text answer, by_styles in_range from to (style_of from) (style_of to) refl refl text answer)

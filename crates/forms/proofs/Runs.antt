@@ -7,7 +7,8 @@ use Rattle.std.specs.Io.KnownBytes.{Consumes, IsAtEnd}
 use Rattle.scan_core.proofs.Joins.{IsJoin-append}
 use Rattle.forms.specs.Lines.{lines, whole_lines}
 use Rattle.forms.specs.Outside.{Rose, Gives}
-use Rattle.forms.specs.Replies.{IsReplyLine, AreReplies}
+use Rattle.forms.specs.Replies.{AreReplies}
+use Rattle.forms.specs.Buffers.{IsReplyLine}
 use Rattle.forms.specs.Ends.{GainsReplies, GainsFront, Streams, Ended}
 use Rattle.forms.specs.declared.run_end.RunEnd.TheVariants.{Done, ReadFault, WriteFault, TooLong}
 use Rattle.forms.specs.inside.Pieces.{IsEnded, Answers}

@@ -1,5 +1,5 @@
 -- The replies to the sample: each tenth is a refusal, and no other.
-use Rattle.std.proofs.Common.{◌≡◌, ◌≢◌, ℕ, zero, suc, ◌+◌, ◌-◌, ◌/◌, ◌%◌, ◌&&◌, ◌==◌, Bool, true, false, IsTrue, List, [], ◌∷◌, ◌++◌, codes, Some, Result, Ok, Err, refl, sym, ◌∙◌, ap, subst, inr, arith, append-nil, take}
+use Rattle.std.proofs.Common.{◌≡◌, ◌≢◌, ℕ, zero, suc, ◌+◌, ◌-◌, ◌/◌, ◌%◌, ◌&&◌, ◌==◌, Bool, true, false, IsTrue, List, [], ◌∷◌, ◌++◌, codes, Some, Result, Ok, Err, refl, inl, sym, ◌∙◌, ap, subst, inr, arith, append-nil, take}
 use Rattle.std.specs.Prelude.{nat_eq, ◌||◌, IsUtf8, if◌then◌else◌}
 use Rattle.std.proofs.lemmas.Bool.{and_parts}
 use Rattle.std.proofs.lemmas.Bool.Decides.{nat_tests}
@@ -22,9 +22,11 @@ use Rattle.forms.specs.declared.cause.Cause.{Cause}
 use Rattle.forms.specs.declared.cause.Cause.TheVariants.{Syntax}
 use Rattle.forms.specs.Lines.{whole_lines}
 use Rattle.forms.specs.Names.{name_of, style_of}
-use Rattle.forms.specs.Replies.{IsRequest, IsIntervalAnswer, IsAnswer, AnswersRequest, IsReply, IsReplyLine, AreReplies}
+use Rattle.forms.specs.Replies.{IsRequest, IsIntervalAnswer, IsAnswer, IsReply, AreReplies}
+use Rattle.forms.specs.Buffers.{IsReplyLine}
 use Rattle.forms.specs.Sample.{answers, form_of, is_refusal, line_of, mark_of, refusals, sample_interval, sample_lines, style_from, style_to}
 use Rattle.forms.specs.inside.Pieces.{NoFeed, IsEnded, AreWhole}
+use Rattle.forms.proofs.Requests.{whole}
 use Rattle.forms.proofs.AsciiNames.{is_small, ascii, small_name}
 use Rattle.forms.proofs.LinePieces.{whole_lines_behind}
 use Rattle.forms.proofs.SampleLines.{OneLineEach, each_of_line, no_feed_each, sample_in_range}
@@ -79,7 +81,7 @@ unfolding line_of
 spelled index t = refl
 
 asked : Texts → (index : ℕ) (t : Interval) → IsInRange t → IsRequest (line_of index t) (form_of (style_from index)) (form_of (style_to index)) (text_of index t)
-asked texts index t range = record { tail = codes " " ++ text_of index t; utf8 = line_utf8 texts index t range; rest = inr refl; joined = spelled index t }
+asked texts index t range = whole _ _ _ _ (record { tail = codes " " ++ text_of index t; utf8 = line_utf8 texts index t range; rest = inr refl; joined = spelled index t })
 
 -- ---- its answer
 
@@ -91,7 +93,8 @@ same_style style.Sql = refl
 same_style style.IsoStrict = refl
 
 is_answer : (s u : Style) (text : List ℕ) (answer : Result (List ℕ) Cause) → IsIntervalAnswer s u text answer → IsAnswer (form_of s) (form_of u) text answer
-is_answer s u text answer h = rw (same_style s, same_style u) h
+unfolding IsAnswer
+is_answer s u text answer h = inl (s, u, same_style s, same_style u, h)
 
 and_false : (x : Bool) → (x && false) ≡ true → ⊥
 and_false true h = let e : false ≡ true = h in cc
@@ -114,36 +117,20 @@ mark_is : (index : ℕ) (tenth : Bool) → (index % 10 == 9) ≡ tenth → mark_
 unfolding mark_of
 mark_is index tenth h = rw h refl
 
-answered : Texts → (index : ℕ) (tenth : Bool) → (index % 10 == 9) ≡ tenth → AnswersRequest (line_of index (sample_interval index)) (reply_when tenth index)
+answered : Texts → (index : ℕ) (tenth : Bool) → (index % 10 == 9) ≡ tenth → IsReply (line_of index (sample_interval index)) (reply_when tenth index)
 answered texts index true h =
     let t : Interval = sample_interval index in
     let text : text_of index t ≡ style_text (style_from index) t ++ codes "x" = ap (λ (l : List ℕ). style_text (style_from index) t ++ l) (mark_is index true h) in
     let none : HasNoShape (Shape (style_from index)) (text_of index t) = subst (HasNoShape (Shape (style_from index))) (sym text) (no_shape texts (style_from index) (style_text (style_from index) t)) in
-    record {
-      from = form_of (style_from index);
-      to = form_of (style_to index);
-      text = text_of index t;
-      answer = Err Syntax;
-      asked = asked texts index t (sample_in_range index);
-      answered = is_answer (style_from index) (style_to index) (text_of index t) (Err Syntax) none;
-      told = refl;
-    }
+    inr (form_of (style_from index), form_of (style_to index), text_of index t, Err Syntax, asked texts index t (sample_in_range index), is_answer (style_from index) (style_to index) (text_of index t) (Err Syntax) none, refl)
 answered texts index false h =
     let t : Interval = sample_interval index in
     let text : text_of index t ≡ style_text (style_from index) t = ap (λ (l : List ℕ). style_text (style_from index) t ++ l) (mark_is index false h) ∙ append-nil (style_text (style_from index) t) in
     let back : Denotes (Shape (style_from index)) (text_of index t) t = subst (λ (l : List ℕ). Denotes (Shape (style_from index)) l t) (sym text) (texts.back (style_from index) t (sample_in_range index)) in
-    record {
-      from = form_of (style_from index);
-      to = form_of (style_to index);
-      text = text_of index t;
-      answer = Ok (style_text (style_to index) t);
-      asked = asked texts index t (sample_in_range index);
-      answered = is_answer (style_from index) (style_to index) (text_of index t) (Ok (style_text (style_to index) t)) (t, back, refl);
-      told = refl;
-    }
+    inr (form_of (style_from index), form_of (style_to index), text_of index t, Ok (style_text (style_to index) t), asked texts index t (sample_in_range index), is_answer (style_from index) (style_to index) (text_of index t) (Ok (style_text (style_to index) t)) (t, back, refl), refl)
 
 replied : Texts → (index : ℕ) → IsReply (line_of index (sample_interval index)) (sample_reply index)
-replied texts index = inr (answered texts index (index % 10 == 9) refl)
+replied texts index = answered texts index (index % 10 == 9) refl
 
 -- ---- which replies are refusals
 

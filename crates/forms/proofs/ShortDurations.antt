@@ -1,5 +1,5 @@
 -- Short durations as a form: what a length is worth, which lengths are held, and that they are read back.
-use Rattle.std.proofs.Common.{◌≡◌, ℕ, ◌*◌, ◌^◌, ◌<◌, ◌≤◌, ◌==◌, ◌&&◌, Bool, true, false, List, Result, Ok, Err, refl, sym, ◌∙◌, ap, subst, inl, arith}
+use Rattle.std.proofs.Common.{◌≡◌, ℕ, ◌*◌, ◌^◌, ◌<◌, ◌≤◌, ◌==◌, ◌&&◌, Bool, true, false, List, Result, Ok, Err, refl, sym, ◌∙◌, ap, subst, inl, inr, arith}
 use Rattle.std.specs.Prelude.{ℤ, pos, negsuc, ◌<ℤ◌, nat_lt, IsErrOf, ◌↔◌}
 use Rattle.std.specs.Ordering.{int_eq}
 use Rattle.std.proofs.lemmas.Bool.{and_parts, false_from_ne_true, ltb-true, lt-ltb, le-ltb}
@@ -15,17 +15,25 @@ use Rattle.fancy_duration.specs.Written.{length_text}
 use Rattle.fancy_duration.specs.declared.error.FancyError.{FancyError}
 use Rattle.fancy_duration.specs.declared.error.FancyError.TheVariants.{TooBig, NotHeld}
 use Rattle.fancy_duration.specs.declared.part.DurationPart.TheVariants.{Months, Weeks, Days, Hours, Minutes}
-use Rattle.forms.specs.declared.cause.Cause.TheVariants.{Range, Kind, Ambiguous}
+use Rattle.forms.specs.declared.cause.Cause.TheVariants.{Syntax, Range, Kind, Ambiguous}
 use Rattle.forms.specs.declared.form.Form.TheVariants.{Fancy}
 use Rattle.forms.specs.declared.value.Value.{Value}
 use Rattle.forms.specs.declared.value.Value.TheVariants.{Triple, Length}
 use Rattle.forms.specs.Answers.{Is, ReadsBy}
 use Rattle.forms.specs.Values.{IsWithinBounds, Same, nanos_of as triple_nanos}
-use Rattle.forms.specs.form.Fancy.{Spells, worth, has_months_alone, length_of, length_of_triple, held}
+use Rattle.fancy_duration.specs.Spelled.{Spells}
+use Rattle.forms.specs.form.Fancy.{worth, has_months_alone, length_of, length_of_triple, held}
 use Rattle.forms.specs.inside.Lawful.{Lawful}
 use Rattle.forms.proofs.Lawful.{then_ok, else_ok, same_ok, one_image, IsHeldBack, lawful_by}
 
 -- ---- reading
+
+-- what the law of the crate below says of strict texts
+abbrev pub AreSums : Type 0
+AreSums = (text : List ℕ) (nanos : ℕ) → Spells text nanos ↔ IsStrict text × SumsTo text nanos
+
+pub reads_none : AreSums → (text : List ℕ) → (IsStrict text → ⊥) → ReadsBy Spells (Is worth) text (Err Syntax)
+reads_none sums text none = inr ((λ nanos spelled. none ((sums text nanos).0 spelled).0), refl)
 
 worth_within : (nanos : ℕ) → nanos < 2 ^ 64 * 1_000_000_000 → worth nanos ≡ Ok (Length nanos)
 unfolding worth
@@ -35,19 +43,19 @@ worth_beyond : (nanos : ℕ) → 2 ^ 64 * 1_000_000_000 ≤ nanos → worth nano
 unfolding worth
 worth_beyond nanos h = rw (le-ltb nanos (2 ^ 64 * 1_000_000_000) h) refl
 
-pub reads_length : (text : List ℕ) (times : ℕ × ℕ) → IsStrict text → Denotes text times → (given : ℕ)
+pub reads_length : AreSums → (text : List ℕ) (times : ℕ × ℕ) → IsStrict text → Denotes text times → (given : ℕ)
     → given ≡ nanos_of times → ReadsBy Spells (Is worth) text (Ok (Length given))
-reads_length text times strict h given e =
+reads_length sums text times strict h given e =
     let seconds = h.seconds in
     let rest = h.nanoseconds in
     let fits : nanos_of times < 2 ^ 64 * 1_000_000_000 = omega arith in
-    inl (nanos_of times, (strict, h.sums), ap (λ (n : ℕ). Ok (Length n)) e ∙ sym (worth_within (nanos_of times) fits))
+    inl (nanos_of times, (sums text (nanos_of times)).1 (strict, h.sums), ap (λ (n : ℕ). Ok (Length n)) e ∙ sym (worth_within (nanos_of times) fits))
 
-pub reads_too_big : (text : List ℕ) → IsStrict text → IsTooBig text → ReadsBy Spells (Is worth) text (Err Range)
-reads_too_big text strict h =
+pub reads_too_big : AreSums → (text : List ℕ) → IsStrict text → IsTooBig text → ReadsBy Spells (Is worth) text (Err Range)
+reads_too_big sums text strict h =
     let beyond = h.beyond in
     let fits : 2 ^ 64 * 1_000_000_000 ≤ h.nanos = omega arith in
-    inl (h.nanos, (strict, h.sums), sym (worth_beyond h.nanos fits))
+    inl (h.nanos, (sums text h.nanos).1 (strict, h.sums), sym (worth_beyond h.nanos fits))
 
 -- ---- the length of a value
 
@@ -138,14 +146,14 @@ sums_back back nanos fits clear =
     let denoted = (back (times_of nanos) (omega arith) (omega arith)).1 (λ alone. clear (subst MonthsStandAlone same alone)) in
     subst (λ (n : ℕ). SumsTo (length_text n) n) same denoted.sums
 
-held_by : AreStrict → AreReadBack → (value : Value) (z : ℤ) (nanos : ℕ) → length_of z ≡ Ok nanos
+held_by : AreSums → AreStrict → AreReadBack → (value : Value) (z : ℤ) (nanos : ℕ) → length_of z ≡ Ok nanos
     → Same value (Length nanos) → IsHeldBack Spells (Is worth) (Is held) (length_text nanos) value nanos
-held_by strict back value z nanos h same =
+held_by sums strict back value z nanos h same =
     let found = length_held z nanos h in
     record {
       meaning = nanos;
       back = Length nanos;
-      spelled = (strict nanos found.fits, sums_back back nanos found.fits found.clear);
+      spelled = (sums (length_text nanos) nanos).1 (strict nanos found.fits, sums_back back nanos found.fits found.clear);
       valued = sym (worth_within nanos found.fits);
       same = same;
       again = sym (ap length_of (sym found.is) ∙ h);
@@ -170,35 +178,35 @@ triple_held months days micros nanos h =
     let first = then_ok (int_eq months (pos 0)) (length_of (triple_nanos days micros)) nanos Kind h in
     (is_int months (pos 0) first.0, first.1)
 
-held_back : AreStrict → AreReadBack → (value : Value) (nanos : ℕ) → IsWithinBounds value → held value ≡ Ok nanos
+held_back : AreSums → AreStrict → AreReadBack → (value : Value) (nanos : ℕ) → IsWithinBounds value → held value ≡ Ok nanos
     → IsHeldBack Spells (Is worth) (Is held) (length_text nanos) value nanos
-held_back strict back (Length n) nanos w h =
+held_back sums strict back (Length n) nanos w h =
     let found = length_held (pos n) nanos h in
     let same : n ≡ nanos = let e = found.is in omega (arith, ints) in
-    held_by strict back (Length n) (pos n) nanos h (ap Length same)
-held_back strict back (Triple months days micros) nanos w h =
+    held_by sums strict back (Length n) (pos n) nanos h (ap Length same)
+held_back sums strict back (Triple months days micros) nanos w h =
     let parts = triple_held months days micros nanos h in
     let found = length_held (triple_nanos days micros) nanos parts.1 in
-    held_by strict back (Triple months days micros) (triple_nanos days micros) nanos parts.1 (parts.0, found.is)
-held_back strict back _ nanos w h = absurd (let e : Err Kind ≡ Ok nanos = h in cc)
+    held_by sums strict back (Triple months days micros) (triple_nanos days micros) nanos parts.1 (parts.0, found.is)
+held_back sums strict back _ nanos w h = absurd (let e : Err Kind ≡ Ok nanos = h in cc)
 
-pub short_durations : ((text : List ℕ) (a b : ℕ) → SumsTo text a → SumsTo text b → a ≡ b) → AreStrict → AreReadBack
+pub short_durations : ((text : List ℕ) (a b : ℕ) → SumsTo text a → SumsTo text b → a ≡ b) → AreSums → AreStrict → AreReadBack
     → Lawful Fancy
-short_durations one strict back =
+short_durations one sums strict back =
     lawful_by Fancy Spells (Is worth) (Is held) length_text (record { reads = λ text a h. h; read = λ text a h. h; writes = λ value a h. h; written = λ value a h. h })
     (record {
-      one = λ text a b h k. one text a b h.1 k.1;
+      one = λ text a b h k. one text a b ((sums text a).0 h).1 ((sums text b).0 k).1;
       one_worth = one_image worth;
       one_held = one_image held;
       within = λ text nanos value spelled h. within text nanos value spelled (sym h);
-      back = λ value nanos w h. held_back strict back value nanos w (sym h);
+      back = λ value nanos w h. held_back sums strict back value nanos w (sym h);
     })
 
 abbrev failed : FancyError → Result (ℕ × ℕ) FancyError
 failed error = Err error
 
 -- what the reader of short durations refuses of a strict text
-pub refused : (text : List ℕ) (error : FancyError) → IsStrict text → (IsErrOf (failed error) TooBig → IsTooBig text)
+pub refused : AreSums → (text : List ℕ) (error : FancyError) → IsStrict text → (IsErrOf (failed error) TooBig → IsTooBig text)
     → (failed error ≡ Err NotHeld → ⊥) → ReadsBy Spells (Is worth) text (Err Range)
-refused text TooBig strict big held = reads_too_big text strict (big refl)
-refused text NotHeld strict big held = absurd (held refl)
+refused sums text TooBig strict big held = reads_too_big sums text strict (big refl)
+refused sums text NotHeld strict big held = absurd (held refl)

@@ -4,6 +4,8 @@ use Rattle.std.specs.Prelude.{ℤ, pos, negsuc, neg_ℤ, ◌+ℤ◌, ◌-ℤ◌,
 use Rattle.std.specs.Int.{int_div_euclid, int_rem_euclid, w16}
 use Rattle.std.proofs.lemmas.Bool.Decides.{nat_tests}
 use Rattle.std.proofs.lemmas.Int.{ints}
+use Rattle.iso8601.specs.Calendar.{days_in_month as iso_days_in_month, day_of as iso_day_of}
+use Rattle.iso8601.specs.declared.types.Date.TheVariants.{YMD}
 use Rattle.jiff_core.specs.Calendar.{IsYear, IsEpochDay, days_in_month as civil_days_in_month, days_from_civil}
 use Rattle.jiff_core.specs.Date.{epoch_day}
 use Rattle.jiff_core.specs.declared.civil.date.Date.{Date as CivilDate}
@@ -54,9 +56,25 @@ civil_of d real = record {
   day_in = (real.day, most_days d real);
 }
 
-pub day_in_range : (d : Date) → IsRealDay d → IsEpochDay (day_of d)
+-- the calendar of ISO 8601 is the same
+pub one_month : (year month : ℕ) → days_in_month year month ≡ iso_days_in_month (pos year) month
+unfolding days_in_month
+one_month year month = refl
+
+-- what the law of the crate below says of civil dates
+abbrev pub SameDays : Type 0
+SameDays = (d : CivilDate) → iso_day_of (YMD d.year d.month d.day) ≡ epoch_day d
+
+pub civil_day : SameDays → (d : Date) (real : IsRealDay d) → day_of d ≡ epoch_day (civil_of d real)
 unfolding civil_of
-day_in_range d real = epoch_day_range (civil_of d real)
+civil_day days d real = days (civil_of d real)
+
+pub civil_number : SameDays → (d : Date) → IsRealDay d → days_from_civil (pos d.year) d.month d.day ≡ day_of d
+unfolding civil_of
+civil_number days d real = sym (civil_day days d real)
+
+pub day_in_range : SameDays → (d : Date) → IsRealDay d → IsEpochDay (day_of d)
+day_in_range days d real = subst IsEpochDay (sym (civil_day days d real)) (epoch_day_range (civil_of d real))
 
 -- a civil day of a year from 0 on is a real one
 pub real_of : (c : CivilDate) (year : ℕ) → c.year ≡ pos year → IsRealDay (record { year = year; month = c.month; day = c.day })
@@ -70,42 +88,42 @@ real_of c year e =
       days = subst (λ (n : ℕ). c.day ≤ n) (ap (λ (z : ℤ). civil_days_in_month z c.month) e ∙ same_month year c.month) c.day_in.1;
     }
 
-pub held_day : (c : CivilDate) (year : ℕ) (day : ℤ) → c.year ≡ pos year → epoch_day c ≡ day → HoldsDay day (Ok (record { year = year; month = c.month; day = c.day }))
-held_day c year day e same = inl (record { year = year; month = c.month; day = c.day }, real_of c year e, ap (λ (z : ℤ). days_from_civil z c.month c.day) (sym e) ∙ same, refl)
+pub held_day : SameDays → (c : CivilDate) (year : ℕ) (day : ℤ) → c.year ≡ pos year → epoch_day c ≡ day → HoldsDay day (Ok (record { year = year; month = c.month; day = c.day }))
+held_day days c year day e same = inl (record { year = year; month = c.month; day = c.day }, real_of c year e, ap (λ (z : ℤ). iso_day_of (YMD z c.month c.day)) (sym e) ∙ (days c ∙ same), refl)
 
 -- a day before the year 0
-pub early_day : (c : CivilDate) (day : ℤ) → c.year <ℤ pos 0 → epoch_day c ≡ day → HoldsDay day (Err Range)
+pub early_day : SameDays → (c : CivilDate) (day : ℤ) → c.year <ℤ pos 0 → epoch_day c ≡ day → HoldsDay day (Err Range)
 unfolding civil_of
-early_day c day early same = inr (λ d real e. let years = (epoch_day_injective (civil_of d real) c (e ∙ sym same)).0 in absurd (omega (arith, ints)), refl)
+early_day days c day early same = inr (λ d real e. let years = (epoch_day_injective (civil_of d real) c (sym (civil_day days d real) ∙ (e ∙ sym same))).0 in absurd (omega (arith, ints)), refl)
 
 -- no civil day
-pub no_day : (day : ℤ) → (IsEpochDay day → ⊥) → HoldsDay day (Err Range)
-no_day day isnt = inr (λ d real e. isnt (subst IsEpochDay e (day_in_range d real)), refl)
+pub no_day : SameDays → (day : ℤ) → (IsEpochDay day → ⊥) → HoldsDay day (Err Range)
+no_day days day isnt = inr (λ d real e. isnt (subst IsEpochDay e (day_in_range days d real)), refl)
 
-same_date : (a b : Date) → IsRealDay a → IsRealDay b → day_of a ≡ day_of b → a ≡ b
+same_date : SameDays → (a b : Date) → IsRealDay a → IsRealDay b → day_of a ≡ day_of b → a ≡ b
 unfolding civil_of
-same_date a b ra rb e =
-    let parts = epoch_day_injective (civil_of a ra) (civil_of b rb) e in
+same_date days a b ra rb e =
+    let parts = epoch_day_injective (civil_of a ra) (civil_of b rb) (sym (civil_day days a ra) ∙ (e ∙ civil_day days b rb)) in
     let years : a.year ≡ b.year = let y = parts.0 in omega (arith, ints) in
     let months = parts.1 in
     let days = parts.2 in
     rw (years, months, days) refl
 
-one_day : (day : ℤ) (a b : Result Date Cause) → HoldsDay day a → HoldsDay day b → a ≡ b
-one_day day a b (inl h) (inl k) = h.3 ∙ (ap Ok (same_date h.0 k.0 h.1 k.1 (h.2 ∙ sym k.2)) ∙ sym k.3)
-one_day day a b (inl h) (inr k) = absurd (k.0 h.0 h.1 h.2)
-one_day day a b (inr h) (inl k) = absurd (h.0 k.0 k.1 k.2)
-one_day day a b (inr h) (inr k) = h.1 ∙ sym k.1
+one_day : SameDays → (day : ℤ) (a b : Result Date Cause) → HoldsDay day a → HoldsDay day b → a ≡ b
+one_day days day a b (inl h) (inl k) = h.3 ∙ (ap Ok (same_date days h.0 k.0 h.1 k.1 (h.2 ∙ sym k.2)) ∙ sym k.3)
+one_day days day a b (inl h) (inr k) = absurd (k.0 h.0 h.1 h.2)
+one_day days day a b (inr h) (inl k) = absurd (h.0 k.0 k.1 k.2)
+one_day days day a b (inr h) (inr k) = h.1 ∙ sym k.1
 
-one_dated : (day : ℤ) (time : Option Time) (offset : Option Offset) (a b : Result Datetime Cause) → HoldsDated day time offset a → HoldsDated day time offset b → a ≡ b
-one_dated day time offset a b h k = h.2 ∙ (ap (result_map (λ (d : Date). datetime_of (Some d) time offset)) (one_day day h.0 k.0 h.1 k.1) ∙ sym k.2)
+one_dated : SameDays → (day : ℤ) (time : Option Time) (offset : Option Offset) (a b : Result Datetime Cause) → HoldsDated day time offset a → HoldsDated day time offset b → a ≡ b
+one_dated days day time offset a b h k = h.2 ∙ (ap (result_map (λ (d : Date). datetime_of (Some d) time offset)) (one_day days day h.0 k.0 h.1 k.1) ∙ sym k.2)
 
-one_held : (value : Value) (a b : Result Datetime Cause) → Holds value a → Holds value b → a ≡ b
-one_held (Instant nanos) a b h k = one_dated _ _ _ a b h k
-one_held (Day day) a b h k = one_dated _ _ _ a b h k
-one_held (Local day nanos) a b h k = one_dated _ _ _ a b h k
-one_held (Clock nanos) a b h k = h ∙ sym k
-one_held _ a b h k = h ∙ sym k
+one_held : SameDays → (value : Value) (a b : Result Datetime Cause) → Holds value a → Holds value b → a ≡ b
+one_held days (Instant nanos) a b h k = one_dated days _ _ _ a b h k
+one_held days (Day day) a b h k = one_dated days _ _ _ a b h k
+one_held days (Local day nanos) a b h k = one_dated days _ _ _ a b h k
+one_held days (Clock nanos) a b h k = h ∙ sym k
+one_held days _ a b h k = h ∙ sym k
 
 -- ---- times
 
@@ -185,14 +203,14 @@ mapped_within make t real bound value h =
 instant_within : (day minutes z : ℤ) → IsEpochDay day → (neg_ℤ (pos 1439) ≤ℤ minutes) × (minutes ≤ℤ pos 1439) → IsOfDay z → IsWithinBounds (Instant ((day *ℤ pos 86_400_000_000_000 +ℤ z) -ℤ minutes *ℤ pos 60_000_000_000))
 instant_within day minutes z d m c = (omega (arith, ints), omega (arith, ints))
 
-within_of : (date : Option Date) (time : Option Time) (offset : Option Offset) (value : Value) → AreWellFormed date time offset → worth_of date time offset ≡ Ok value → IsWithinBounds value
-within_of (Some d) (Some t) (Some o) value (d', t', o') h = mapped_within (moment_of (day_of d) (Some o)) t t' (λ z c. instant_within (day_of d) (minutes_of o) z (day_in_range d d') (offset_bound o o') c) value h
-within_of (Some d) (Some t) None value (d', t') h = mapped_within (moment_of (day_of d) None) t t' (λ z c. (day_in_range d d', c)) value h
-within_of (Some d) None None value d' h = subst IsWithinBounds (same_ok (Day (day_of d)) value h) (day_in_range d d')
-within_of (Some d) None (Some o) value w h = absurd w
-within_of None (Some t) None value t' h = mapped_within Clock t t' (λ z c. c) value h
-within_of None (Some t) (Some o) value w h = absurd w
-within_of None None offset value w h = absurd w
+within_of : SameDays → (date : Option Date) (time : Option Time) (offset : Option Offset) (value : Value) → AreWellFormed date time offset → worth_of date time offset ≡ Ok value → IsWithinBounds value
+within_of days (Some d) (Some t) (Some o) value (d', t', o') h = mapped_within (moment_of (day_of d) (Some o)) t t' (λ z c. instant_within (day_of d) (minutes_of o) z (day_in_range days d d') (offset_bound o o') c) value h
+within_of days (Some d) (Some t) None value (d', t') h = mapped_within (moment_of (day_of d) None) t t' (λ z c. (day_in_range days d d', c)) value h
+within_of days (Some d) None None value d' h = subst IsWithinBounds (same_ok (Day (day_of d)) value h) (day_in_range days d d')
+within_of days (Some d) None (Some o) value w h = absurd w
+within_of days None (Some t) None value t' h = mapped_within Clock t t' (λ z c. c) value h
+within_of days None (Some t) (Some o) value w h = absurd w
+within_of days None None offset value w h = absurd w
 
 -- ---- what is held is read back
 
@@ -257,13 +275,13 @@ held_back back (Clock nanos) d w h =
     subst Q same whole h
 held_back back _ d w h = absurd (let e : Ok d ≡ Err Kind = h in cc)
 
-pub toml_date_times : ((text : List ℕ) (a b : Datetime) → IsDatetime text a → IsDatetime text b → a ≡ b) → ((text : List ℕ) (value : Datetime) → IsDatetime text value → IsWellFormed value) → AreReadBack → Lawful Toml
-toml_date_times one formed back =
+pub toml_date_times : SameDays → ((text : List ℕ) (a b : Datetime) → IsDatetime text a → IsDatetime text b → a ≡ b) → ((text : List ℕ) (value : Datetime) → IsDatetime text value → IsWellFormed value) → AreReadBack → Lawful Toml
+toml_date_times days one formed back =
     lawful_by Toml Spells (Is worth) Holds text_of (record { reads = λ text a h. h; read = λ text a h. h; writes = λ value a h. h; written = λ value a h. h })
     (record {
       one = one;
       one_worth = one_image worth;
-      one_held = one_held;
-      within = λ text d value spelled h. within_of d.date d.time d.offset value (formed text d spelled) (sym h);
+      one_held = one_held days;
+      within = λ text d value spelled h. within_of days d.date d.time d.offset value (formed text d spelled) (sym h);
       back = held_back back;
     })

@@ -6,7 +6,7 @@ use Rattle.std.proofs.lemmas.Bool.{and_parts, eqb-false, not-true}
 use Rattle.forms.specs.declared.form.Form.{Form}
 use Rattle.forms.specs.declared.form.Form.TheVariants.{FileTime, IsoDateTime, IsoDate, IsoDuration, Toml, Fancy, PgIso, Postgres, PgVerbose, PgSql, IsoStrict}
 use Rattle.forms.specs.Names.{name_of}
-use Rattle.forms.specs.Replies.{IsTail}
+use Rattle.forms.specs.inside.Requests.{IsTail}
 use Rattle.forms.specs.inside.Reading.{behind, IsNamed}
 
 abbrev is_no_space : ℕ → Bool

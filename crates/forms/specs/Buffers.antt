@@ -1,7 +1,11 @@
 -- Replies in a buffer: which lines at the front of some bytes have their replies there.
-use Rattle.std.specs.Prelude.{◌≡◌, ◌⊎◌, ℕ, ◌-◌, ◌<◌, ◌≤◌, List, [], ◌∷◌, ◌++◌, length, drop}
+use Rattle.std.specs.Prelude.{◌≡◌, ◌⊎◌, ℕ, ◌-◌, ◌<◌, ◌≤◌, List, [], ◌∷◌, ◌++◌, codes, length, drop}
 use Rattle.forms.specs.Lines.{lines, whole_lines}
-use Rattle.forms.specs.Replies.{IsReplyLine, AreReplies}
+use Rattle.forms.specs.Replies.{IsReply, AreReplies}
+
+-- the reply to a line with the line feed that ends it
+abbrev pub IsReplyLine : List ℕ → List ℕ → Type 0
+IsReplyLine whole line = (out : List ℕ) × IsReply line out × (whole ≡ out ++ codes "\n")
 
 -- the reply to the first whole line of the bytes, with its line feed, is longer than the room
 pub record IsBeyond (bytes : List ℕ) (room : ℕ) : Type 0 where

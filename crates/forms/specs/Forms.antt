@@ -16,6 +16,7 @@ use Rattle.forms.specs.form.IsoDateTime as iso_date_time
 use Rattle.forms.specs.form.IsoDate as iso_date
 use Rattle.forms.specs.form.IsoDuration as iso_duration
 use Rattle.forms.specs.form.Toml as toml
+use Rattle.fancy_duration.specs.Spelled as fancy_text
 use Rattle.forms.specs.form.Fancy as fancy
 use Rattle.forms.specs.form.Intervals as interval
 
@@ -26,7 +27,7 @@ Reads IsoDateTime = ReadsBy iso_date_time.Spells iso_date_time.Worth
 Reads IsoDate = ReadsBy iso_date.Spells iso_date.Worth
 Reads IsoDuration = ReadsBy iso_duration.Spells (Is iso_duration.worth)
 Reads Toml = ReadsBy toml.Spells (Is toml.worth)
-Reads Fancy = ReadsBy fancy.Spells (Is fancy.worth)
+Reads Fancy = ReadsBy fancy_text.Spells (Is fancy.worth)
 Reads PgIso = ReadsBy (Shape style.Iso) (Is interval.worth)
 Reads Postgres = ReadsBy (Shape style.Postgres) (Is interval.worth)
 Reads PgVerbose = ReadsBy (Shape style.Verbose) (Is interval.worth)

@@ -1,7 +1,8 @@
 //! Lines and the requests in them.
 ghost use Rattle.std.specs.Prelude.{◌≡◌, [], ◌++◌, codes, IfSome, IfNone, unwrap_or, IsUtf8};
 ghost use Rattle.std.specs.Option.{option_copied};
-ghost use Rattle.forms.specs.Replies.{IsRequest, IsNoRequest};
+ghost use Rattle.forms.specs.Replies.{IsRequest};
+ghost use Rattle.forms.specs.inside.Requests.{IsNoRequest};
 ghost use Rattle.forms.specs.inside.Pieces.{NoFeed};
 
 use crate::form::Form;

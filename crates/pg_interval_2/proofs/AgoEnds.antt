@@ -1,5 +1,5 @@
 -- No item ends in the letter `o`, so an `ago` at the end of a text is no part of its body.
-use Rattle.std.proofs.Common.{◌≡◌, ℕ, ◌<◌, ◌==◌, ◌&&◌, Bool, true, false, not, cond, IsTrue, List, [], ◌∷◌, ◌++◌, length, codes, Some, refl, sym, ◌∙◌, ap, arith, inl, inr}
+use Rattle.std.proofs.Common.{◌≡◌, ℕ, ◌<◌, ◌==◌, ◌&&◌, Bool, true, false, not, cond, Contains, IsTrue, List, [], ◌∷◌, ◌++◌, length, codes, refl, sym, ◌∙◌, ap, arith, inl, inr}
 use Rattle.std.proofs.lemmas.Bool.Decides.{nat_tests}
 use Rattle.std.proofs.lemmas.Str.Parse.{digit_from_value}
 use Rattle.std.specs.Char.{digit_value}
@@ -14,10 +14,10 @@ use Rattle.scan_core.specs.declared.share.Unit.{Unit as TimeUnit}
 use Rattle.scan_core.specs.declared.share.Unit.TheVariants.{Year, Month, Week, Day, Hour, Minute, Second}
 use Rattle.pg_interval_2.specs.Clock.{IsClock}
 use Rattle.pg_interval_2.specs.Postgres.{IsItem}
-use Rattle.pg_interval_2.specs.UnitNames.{verbose_names, unit_named}
+use Rattle.pg_interval_2.specs.UnitNames.{verbose_names}
 use Rattle.pg_interval_2.specs.Verbose.{IsFramed, IsBody, EndsInAgo}
 use Rattle.pg_interval_2.proofs.ItemFacts.{AreBlanks}
-use Rattle.pg_interval_2.proofs.UnitNameFacts.{named_passes}
+use Rattle.pg_interval_2.proofs.UnitsApart.{contains_passes}
 
 -- ---- the last byte that isn't blank
 
@@ -119,9 +119,9 @@ all_clear Hour = refl
 all_clear Minute = refl
 all_clear Second = refl
 
-name_end : (name : List ℕ) (unit : TimeUnit) → unit_named verbose_names name ≡ Some unit → Ends name
-name_end name unit h true = not-true _ (and_parts (not (ends_in_o true name)) (not (ends_in_o false name)) (named_passes verbose_names is_clear all_clear name unit h)).0
-name_end name unit h false = not-true _ (and_parts (not (ends_in_o true name)) (not (ends_in_o false name)) (named_passes verbose_names is_clear all_clear name unit h)).1
+name_end : (name : List ℕ) (unit : TimeUnit) → Contains (verbose_names unit) name → Ends name
+name_end name unit h true = not-true _ (and_parts (not (ends_in_o true name)) (not (ends_in_o false name)) (contains_passes is_clear (verbose_names unit) name (all_clear unit) h)).0
+name_end name unit h false = not-true _ (and_parts (not (ends_in_o true name)) (not (ends_in_o false name)) (contains_passes is_clear (verbose_names unit) name (all_clear unit) h)).1
 
 item_end : (item : List (List ℕ)) (counts : List Count) → IsItem verbose_names item counts → (t : Bool) → words_end t item ≡ false
 item_end item counts (inl (c, named, one)) t =

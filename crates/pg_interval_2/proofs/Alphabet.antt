@@ -13,8 +13,10 @@ use Rattle.scan_core.specs.declared.share.Unit.{Unit as TimeUnit}
 use Rattle.scan_core.specs.declared.share.Unit.TheVariants.{Year, Month, Week, Day, Hour, Minute, Second}
 use Rattle.pg_interval_2.specs.Alphabet.{is_in_alphabet}
 use Rattle.pg_interval_2.specs.Clock.{IsClock}
-use Rattle.pg_interval_2.specs.Iso.{date_unit, time_unit, unit_in, ArePairs, IsDateAlone, IsDateAndTime, IsIso}
-use Rattle.pg_interval_2.specs.IsoStrict.{IsIsoStrict}
+use Rattle.pg_interval_2.specs.Iso.{unit_in}
+use Rattle.pg_interval_2.proofs.IsoWhole.{either, strict_either}
+use Rattle.pg_interval_2.specs.inside.IsoShapes.{date_unit, time_unit, ArePairs, IsDateAlone, IsDateAndTime, IsIsoEither}
+use Rattle.pg_interval_2.specs.inside.IsoShapes.{IsStrictEither}
 use Rattle.pg_interval_2.specs.Postgres.{IsItem, IsPostgres}
 use Rattle.pg_interval_2.specs.Sql.{IsSignOr, IsYearMonth, IsDays, HasSeconds, IsTime, AreSqlWords, IsSql}
 use Rattle.pg_interval_2.specs.Styles.{Shape}
@@ -23,7 +25,8 @@ use Rattle.pg_interval_2.specs.Verbose.{ago_or_none, IsBody, IsVerbose}
 use Rattle.pg_interval_2.specs.declared.style.Style.{Style}
 use Rattle.pg_interval_2.specs.declared.style.Style.TheVariants.{Iso, Postgres, Verbose, Sql, IsoStrict}
 use Rattle.pg_interval_2.proofs.EachByte.{Each, EachWord, each-append, each_word-append, each-weaker, each-digits}
-use Rattle.pg_interval_2.proofs.UnitNameFacts.{chosen_unit, named_passes}
+use Rattle.pg_interval_2.proofs.UnitNameFacts.{chosen_unit}
+use Rattle.pg_interval_2.proofs.UnitsApart.{contains_passes}
 use Rattle.pg_interval_2.proofs.Verdicts.{Names}
 
 abbrev In : List ℕ → Type 0
@@ -129,11 +132,11 @@ date_and_time_in text counts h =
     let both_parts = append h.date (codes "T" ++ h.time) (pairs_in false h.date h.date_counts h.dates) time in
     joined text (codes "P") (h.date ++ (codes "T" ++ h.time)) h.spelled (bytes_in (codes "P") refl) both_parts
 
-iso_in : (text : List ℕ) (counts : List Count) → IsIso text counts → In text
+iso_in : (text : List ℕ) (counts : List Count) → IsIsoEither text counts → In text
 iso_in text counts (inl h) = date_in text counts h
 iso_in text counts (inr h) = date_and_time_in text counts h
 
-strict_in : (text : List ℕ) (counts : List Count) → IsIsoStrict text counts → In text
+strict_in : (text : List ℕ) (counts : List Count) → IsStrictEither text counts → In text
 strict_in text counts (inl h) = date_in text counts h.0
 strict_in text counts (inr h) = date_and_time_in text counts h.0
 
@@ -196,7 +199,7 @@ item_in : (names : Names) → AreIn names → (item : List (List ℕ)) (counts :
 item_in names all item counts (inl h) =
     let c = h.0 in
     let named = h.1 in
-    let name = named_passes names (λ name. list_all is_in_alphabet name) all named.name c.unit named.unit in
+    let name = contains_passes (λ name. list_all is_in_alphabet name) (names c.unit) named.name (all c.unit) named.unit in
     spelled_in item named.number named.name (number_in true c.negative c.whole c.fraction named.number named.digits) (bytes_in named.name name) named.spelled
 item_in names all item counts (inr h) = subst AllIn (sym h.2) (clock_in h.0 counts h.1, tt)
 
@@ -268,8 +271,8 @@ sql_in text counts (inl h) = same text (codes "0") h.0 refl
 sql_in text counts (inr h) = words_in text (sql_words_in (words text) counts h)
 
 pub in_alphabet : (style : Style) (text : List ℕ) (counts : List Count) → Shape style text counts → IsTrue (list_all is_in_alphabet text)
-in_alphabet Iso text counts h = (iso_in text counts h).passes
+in_alphabet Iso text counts h = (iso_in text counts (either text counts h)).passes
 in_alphabet Postgres text counts h = (postgres_in text counts h).passes
 in_alphabet Verbose text counts h = (verbose_in text counts h).passes
 in_alphabet Sql text counts h = (sql_in text counts h).passes
-in_alphabet IsoStrict text counts h = (strict_in text counts h).passes
+in_alphabet IsoStrict text counts h = (strict_in text counts (strict_either text counts h)).passes

@@ -6,10 +6,12 @@ use Rattle.scan_core.specs.Blanks.{is_blank, words, EndsInBlank}
 use Rattle.scan_core.specs.Count.{Count}
 use Rattle.scan_core.specs.declared.share.Unit.{Unit as TimeUnit}
 use Rattle.scan_core.proofs.WordFacts.{NoBlanks, ink, ink-append, ink-words, total_length, same_place, words-closed}
-use Rattle.pg_interval_2.specs.Postgres.{AreItems, IsFreshName, IsBadName, all_counts, counts_unit, has_distinct_units}
+use Rattle.pg_interval_2.specs.Postgres.{AreItems, IsFreshName, IsBadName, all_counts}
+use Rattle.pg_interval_2.specs.inside.UnitPlaces.{counts_unit, has_distinct_units}
 use Rattle.pg_interval_2.specs.inside.Reading.{Numeral}
 use Rattle.pg_interval_2.specs.inside.ItemReading.{Verdict, Spelled, BadLetters, judge_unit, verdict}
-use Rattle.pg_interval_2.specs.UnitNames.{unit_named}
+use Rattle.pg_interval_2.specs.inside.NamedUnits.{unit_named}
+use Rattle.pg_interval_2.proofs.UnitsApart.{named_contains, fresh_all, pairs_distinct}
 use Rattle.pg_interval_2.proofs.ItemFacts.{AreLetters, AreBlanks, letter_no_blank, first_letter}
 use Rattle.pg_interval_2.proofs.ItemsRead.{StandsNamed}
 use Rattle.pg_interval_2.proofs.ItemWords.{number_no_blanks, number_some, letters_no_blanks, no_blanks-append, words_in_front, words-blanks}
@@ -63,7 +65,7 @@ judge_bad :
     (next : List Count → Verdict) → unit_named names letters ≡ found → ¬ (IsFreshName names counts letters)
     → judge_unit counts total letters n found next ≡ BadLetters total letters
 judge_bad names counts total letters n None next is bad = refl
-judge_bad names counts total letters n (Some unit) next is bad = judge_if (counts_unit unit counts) total letters _ (λ fresh. bad (unit, is, fresh))
+judge_bad names counts total letters n (Some unit) next is bad = judge_if (counts_unit unit counts) total letters _ (λ fresh. bad (unit, named_contains names letters unit is, fresh_all unit counts fresh))
 
 -- a number with letters that are no fresh name, in front of bytes
 pub bad_in_front :
@@ -80,7 +82,7 @@ bad_in_front names counts total bytes n letters rest h bad =
 pub items_verdict : (names : Names) → AreNames names → (all : List (List ℕ)) (counts : List Count) → AreItems names all counts
     → verdict names [] 0 all ≡ Spelled counts
 items_verdict names letters all counts (items, join, counted, distinct) =
-    let distinct' : has_distinct_units (all_counts items) ≡ true = ap has_distinct_units (sym counted) ∙ distinct in
+    let distinct' : has_distinct_units (all_counts items) ≡ true = ap has_distinct_units (sym counted) ∙ pairs_distinct counts distinct in
     ap (verdict names [] 0) (sym (append-nil all)) ∙ advance names letters all [] items [] 0 join distinct' ∙ ap Spelled (sym counted)
 
 -- what the words before a bad name come to
@@ -88,7 +90,7 @@ pub behind_items : (names : Names) → AreNames names → (lead rest : List ℕ)
     → EndsInBlank lead
     → verdict names [] 0 (words (lead ++ rest)) ≡ verdict names counts (total_length (words lead)) (words rest)
 behind_items names letters lead rest counts (items, join, counted, distinct) closed =
-    let distinct' : has_distinct_units (all_counts items) ≡ true = ap has_distinct_units (sym counted) ∙ distinct in
+    let distinct' : has_distinct_units (all_counts items) ≡ true = ap has_distinct_units (sym counted) ∙ pairs_distinct counts distinct in
     ap (verdict names [] 0) (words-closed lead rest closed) ∙ advance names letters (words lead) (words rest) items [] 0 join distinct'
     ∙ ap (λ (l : List Count). verdict names l (0 + total_length (words lead)) (words rest)) (sym counted) ∙ ap (λ (k : ℕ). verdict names counts k (words rest)) (omega arith)
 

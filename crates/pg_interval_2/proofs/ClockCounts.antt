@@ -19,7 +19,7 @@ use Rattle.scan_core.proofs.PaddedFacts.{number_of-padded, length-padded}
 use Rattle.pg_interval_2.specs.Clock.{is_nonzero}
 use Rattle.pg_interval_2.specs.declared.interval.Interval.{Interval}
 use Rattle.pg_interval_2.specs.Ranges.{IsInRange}
-use Rattle.pg_interval_2.specs.Parts.{hours_of, minutes_of, seconds_of, subsecond_of}
+use Rattle.pg_interval_2.specs.inside.PartSteps.{hours_of, minutes_of, seconds_of, subsecond_of}
 use Rattle.pg_interval_2.proofs.Widths.{length_decimal_micros}
 use Rattle.pg_interval_2.proofs.WrittenDigits.{rounded-padded}
 use Rattle.scan_core.proofs.Signs.{Serves, signed-zero, signed-abs, fits_type-serves, fits_type-signed_zero, abs_fits, signed_three}

@@ -1,5 +1,5 @@
 -- Items counted one after the other.
-use Rattle.std.proofs.Common.{◌≡◌, ◌≢◌, ℕ, Bool, true, false, cond, List, [], ◌∷◌, ◌++◌, refl, sym, ◌∙◌, ap, subst, append_assoc, append-nil, length-append, arith, inl, inr, ◌+◌, ◌≤◌, length, codes, take, Some}
+use Rattle.std.proofs.Common.{◌≡◌, None, ◌≢◌, ℕ, Bool, true, false, cond, List, [], ◌∷◌, ◌++◌, refl, sym, ◌∙◌, ap, subst, append_assoc, append-nil, length-append, arith, inl, inr, ◌+◌, ◌≤◌, length, codes, take, Some}
 use Rattle.std.specs.Prelude.{filter}
 use Rattle.std.proofs.Math.Bool.{or-false, or-true}
 use Rattle.std.proofs.lemmas.Bool.{false_from_ne_true, eq-eqb}
@@ -18,10 +18,14 @@ use Rattle.pg_interval_2.specs.inside.ItemViews.{HasFields}
 use Rattle.pg_interval_2.specs.inside.Reading.{Numeral, count_with, numeral_in}
 use Rattle.pg_interval_2.specs.declared.clock.Clock.{Clock}
 use Rattle.pg_interval_2.specs.declared.number.Decimal.{Decimal}
+use Rattle.pg_interval_2.specs.declared.unit_names.NameSet.{NameSet}
+use Rattle.pg_interval_2.specs.inside.NameSets.{names_in}
+use Rattle.pg_interval_2.proofs.UnitsApart.{contains_named, all_fresh}
 use Rattle.pg_interval_2.proofs.ItemsRead.{StandsNamed, StandsClock, Stands, item_stands}
-use Rattle.pg_interval_2.specs.Postgres.{IsFreshName, place_of, counts_unit, has_distinct_units}
+use Rattle.pg_interval_2.specs.Postgres.{IsFreshName}
+use Rattle.pg_interval_2.specs.inside.UnitPlaces.{place_of, counts_unit, has_distinct_units}
 use Rattle.pg_interval_2.specs.Turned.{turned_count, turned_sign}
-use Rattle.pg_interval_2.specs.UnitNames.{unit_named}
+use Rattle.pg_interval_2.specs.inside.NamedUnits.{unit_named}
 use Rattle.pg_interval_2.proofs.Turning.{turned_fields}
 use Rattle.pg_interval_2.specs.inside.Tallies.{Tallies}
 use Rattle.pg_interval_2.specs.inside.UnitSets.{holds_unit}
@@ -139,13 +143,13 @@ pub turned_number : (turned : Bool) (text same : List ℕ) (number : Decimal) (n
 turned_number turned text same number negative unit e n = rw (e, n) refl
 
 -- letters that name a unit that was counted before
-pub not_fresh : (names : TimeUnit → List (List ℕ)) (counts : List Count) (letters : List ℕ) (unit : TimeUnit)
-    → unit_named names letters ≡ Some unit → counts_unit unit counts ≡ true
-    → ¬ (IsFreshName names counts letters)
-not_fresh names counts letters unit named before (other, is, fresh) =
-    let both : Some unit ≡ Some other = sym named ∙ is in
+pub not_fresh : (set : NameSet) (counts : List Count) (letters : List ℕ) (unit : TimeUnit)
+    → unit_named (names_in set) letters ≡ Some unit → counts_unit unit counts ≡ true
+    → ¬ (IsFreshName (names_in set) counts letters)
+not_fresh set counts letters unit named before (other, is, fresh) =
+    let both : Some unit ≡ Some other = sym named ∙ contains_named set letters other is in
     let same : unit ≡ other = cc in
-    let clash : true ≡ false = sym before ∙ ap (λ (u : TimeUnit). counts_unit u counts) same ∙ fresh in
+    let clash : true ≡ false = sym before ∙ ap (λ (u : TimeUnit). counts_unit u counts) same ∙ all_fresh other counts fresh in
     cc
 
 -- ---- how long an item is
@@ -174,3 +178,8 @@ named_long bytes n letters rest h =
     let name = length-append letters rest in
     let some = stands.some in
     omega (arith, whole, behind, name, some)
+
+-- letters that name no unit
+pub no_unit : (set : NameSet) (counts : List Count) (letters : List ℕ) → unit_named (names_in set) letters ≡ None
+    → ¬ (IsFreshName (names_in set) counts letters)
+no_unit set counts letters none (other, is, fresh) = let clash : None ≡ Some other = sym none ∙ contains_named set letters other is in cc

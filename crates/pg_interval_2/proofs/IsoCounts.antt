@@ -6,7 +6,8 @@ use Rattle.std.proofs.lemmas.Option.{option_and_then_some, some_pair_parts}
 use Rattle.scan_core.specs.Count.{Count}
 use Rattle.scan_core.specs.declared.share.Unit.{Unit as TimeUnit}
 use Rattle.scan_core.proofs.Joins.{Finds, join_same, join_values}
-use Rattle.pg_interval_2.specs.Iso.{unit_in, date_unit, time_unit, IsPair, ArePairs, IsIso}
+use Rattle.pg_interval_2.specs.Iso.{unit_in, IsPair}
+use Rattle.pg_interval_2.specs.inside.IsoShapes.{date_unit, time_unit, ArePairs, IsIsoEither}
 use Rattle.pg_interval_2.specs.inside.Reading.{Numeral, count_with, read_letter, read_number, read_unsigned, read_pair}
 use Rattle.pg_interval_2.proofs.Numbers.{finds_number, is_number}
 
@@ -68,12 +69,12 @@ IsRest rest dates counts =
     ((rest ≡ []) × (counts ≡ dates)) ⊎ ((time : List ℕ) × (times : List Count) × (rest ≡ codes "T" ++ time) × ArePairs (unit_in true) time times × (counts ≡ dates ++ times))
 
 -- the same, of the counts by which the text has the shape
-abbrev pub RestIs : (text : List ℕ) (counts : List Count) → IsIso text counts → List ℕ → List Count → Type 0
+abbrev pub RestIs : (text : List ℕ) (counts : List Count) → IsIsoEither text counts → List ℕ → List Count → Type 0
 RestIs text counts (inl alone) rest dates = (rest ≡ []) × (dates ≡ counts)
 RestIs text counts (inr timed) rest dates = (rest ≡ codes "T" ++ timed.time) × (dates ≡ timed.date_counts)
 
 pub rest_is : (text front rest : List ℕ) (dates counts : List Count) → ArePairs (unit_in false) front dates
-    → read_pair (unit_in false) rest ≡ None → text ≡ codes "P" ++ (front ++ rest) → (iso : IsIso text counts)
+    → read_pair (unit_in false) rest ≡ None → text ≡ codes "P" ++ (front ++ rest) → (iso : IsIsoEither text counts)
     → RestIs text counts iso rest dates
 rest_is text front rest dates counts pairs stuck spelled (inl alone) =
     let whole : codes "P" ++ (front ++ rest) ≡ codes "P" ++ alone.0 = sym spelled ∙ alone.3 in
@@ -89,7 +90,7 @@ rest_is text front rest dates counts pairs stuck spelled (inr timed) =
     (both.1, both.0)
 
 pub behind_dates : (text front rest : List ℕ) (dates counts : List Count) → ArePairs (unit_in false) front dates
-    → read_pair (unit_in false) rest ≡ None → text ≡ codes "P" ++ (front ++ rest) → IsIso text counts
+    → read_pair (unit_in false) rest ≡ None → text ≡ codes "P" ++ (front ++ rest) → IsIsoEither text counts
     → IsRest rest dates counts
 behind_dates text front rest dates counts pairs stuck spelled (inl alone) = let is = rest_is text front rest dates counts pairs stuck spelled (inl alone) in inl (is.0, sym is.1)
 behind_dates text front rest dates counts pairs stuck spelled (inr timed) =
@@ -100,7 +101,7 @@ pub no_time : (time : List ℕ) → codes "T" ++ time ≡ [] → ⊥
 no_time time h = cc
 
 -- an ISO text has one list of counts
-pub one_list : (text : List ℕ) (a b : List Count) → IsIso text a → IsIso text b → a ≡ b
+pub one_list : (text : List ℕ) (a b : List Count) → IsIsoEither text a → IsIsoEither text b → a ≡ b
 one_list text a b (inl alone) other =
     let spelled : text ≡ codes "P" ++ (alone.0 ++ []) = alone.3 ∙ ap (λ (l : List ℕ). codes "P" ++ l) (sym (append-nil alone.0)) in
     elim (behind_dates text alone.0 [] a b alone.1 (nothing_read false) spelled other) [

@@ -6,8 +6,10 @@ use Rattle.scan_core.proofs.Joins.{join_values}
 use Rattle.pg_interval_2.specs.declared.iso.OrderedTally.{OrderedTally}
 use Rattle.pg_interval_2.specs.declared.order.Order.{Order}
 use Rattle.pg_interval_2.specs.declared.tally.Tally.{Tally}
-use Rattle.pg_interval_2.specs.Iso.{ArePairs, IsDateAlone, IsDateAndTime, IsPair, unit_in}
-use Rattle.pg_interval_2.specs.IsoStrict.{AreInOrder, IsIsoStrict, units_in_order}
+use Rattle.pg_interval_2.specs.Iso.{IsPair, unit_in}
+use Rattle.pg_interval_2.specs.inside.IsoShapes.{ArePairs, IsDateAlone, IsDateAndTime}
+use Rattle.pg_interval_2.specs.IsoStrict.{AreInOrder, units_in_order}
+use Rattle.pg_interval_2.specs.inside.IsoShapes.{IsStrictEither}
 use Rattle.pg_interval_2.specs.inside.IsoTally.{IsSpelled, TakesPairs}
 use Rattle.pg_interval_2.specs.inside.Orders.{Orders, is_kept}
 use Rattle.pg_interval_2.specs.inside.Reading.{read_pair}
@@ -29,7 +31,7 @@ alone_spelled text date old was is spelled whole some taken none unordered told 
       loose = λ so counts shape. not_so counts shape (sym told ∙ so);
     }
   where
-    not_so : (counts : List Count) → IsIsoStrict text counts → is_kept false is ≡ false → ⊥
+    not_so : (counts : List Count) → IsStrictEither text counts → is_kept false is ≡ false → ⊥
     not_so counts (inl (alone, ordered)) so =
         let rest = rest_is text taken.front [] taken.counts counts taken.pairs (nothing_read false) (whole ∙ ap (λ (l : List ℕ). codes "P" ++ l) taken.split) (inl alone) in
         let keeps = kept false is taken.counts (taken.ordered [] unordered) (subst (AreInOrder (units_in_order false)) (sym rest.1) ordered) in
@@ -81,7 +83,7 @@ timed_spelled text date time old mid was is from to bare spelled whole dates tim
         let front : times.front ≡ other = sym (times.split ∙ append-nil times.front) ∙ tails in
         join_values (IsPair (unit_in true)) (read_pair (unit_in true)) (finds_pair true) (nothing_read true) other times.counts counts (subst (λ (l : List ℕ). ArePairs (unit_in true) l times.counts) front times.pairs) pairs
 
-    not_so : (counts : List Count) → IsIsoStrict text counts → spelled.in_order ≡ false → ⊥
+    not_so : (counts : List Count) → IsStrictEither text counts → spelled.in_order ≡ false → ⊥
     not_so counts (inl (alone, ordered)) so = no_time time (rest_is text dates.front (codes "T" ++ time) dates.counts counts dates.pairs (time_ends time) behind (inl alone)).0
     not_so counts (inr (timed, dates_ordered, times_ordered, some_time)) so =
         let rest = rest_is text dates.front (codes "T" ++ time) dates.counts counts dates.pairs (time_ends time) behind (inr timed) in

@@ -5,9 +5,9 @@ use Rattle.scan_core.specs.declared.share.Part.{Part}
 use Rattle.scan_core.specs.declared.share.Part.TheVariants.{Months, Days, Micros}
 use Rattle.pg_interval_2.specs.declared.interval.Interval.{Interval}
 use Rattle.pg_interval_2.specs.Denotes.{Denotes}
-use Rattle.pg_interval_2.specs.Iso.{IsIso}
-use Rattle.pg_interval_2.specs.IsoStrict.{IsIsoStrict}
-use Rattle.pg_interval_2.specs.IsoText.{iso_text}
+use Rattle.pg_interval_2.specs.inside.IsoShapes.{IsIsoEither}
+use Rattle.pg_interval_2.specs.inside.IsoShapes.{IsStrictEither}
+use Rattle.pg_interval_2.specs.inside.IsoSteps.{iso_steps}
 use Rattle.pg_interval_2.specs.Ranges.{IsInRange}
 use Rattle.scan_core.proofs.RoundingFacts.{rounded-nil}
 use Rattle.pg_interval_2.proofs.IsoCounts.{one_list}
@@ -33,19 +33,19 @@ zero_sums t zero_is =
 iso_counts_sums : (t : Interval) → IsInRange t → SumsTo (iso_counts t.months t.days t.microseconds) t
 iso_counts_sums t range = cond_both _ _ _ (λ counts. SumsTo counts t) (zero_sums t) (λ _. SumsTo-date_time _ _ t (date_counts-sum t range) (time_counts-sum t range))
 
-spelled : (t : Interval) → IsInRange t → IsIsoStrict (iso_text t.months t.days t.microseconds) (iso_counts t.months t.days t.microseconds)
+spelled : (t : Interval) → IsInRange t → IsStrictEither (iso_steps t.months t.days t.microseconds) (iso_counts t.months t.days t.microseconds)
 spelled t range = iso_spelled t.months t.days t.microseconds (abs_fits Months t.months (fits_32 t.months range.months)) (abs_fits Days t.days (fits_32 t.days range.days)) (abs_fits Micros t.microseconds (fits_64 t.microseconds range.microseconds))
 
-pub iso_denotes : (t : Interval) → IsInRange t → Denotes IsIso (iso_text t.months t.days t.microseconds) t
-iso_denotes t range = Denotes-SumsTo IsIso _ _ t range (is_iso _ _ (spelled t range)) (iso_counts_sums t range)
+pub iso_denotes : (t : Interval) → IsInRange t → Denotes IsIsoEither (iso_steps t.months t.days t.microseconds) t
+iso_denotes t range = Denotes-SumsTo IsIsoEither _ _ t range (is_iso _ _ (spelled t range)) (iso_counts_sums t range)
 
-pub iso_alone : (t u : Interval) → IsInRange t → Denotes IsIso (iso_text t.months t.days t.microseconds) u → u ≡ t
-iso_alone t u range = alone-SumsTo IsIso _ _ t u (λ others is. one_list _ others _ is (is_iso _ _ (spelled t range))) (iso_counts_sums t range)
+pub iso_alone : (t u : Interval) → IsInRange t → Denotes IsIsoEither (iso_steps t.months t.days t.microseconds) u → u ≡ t
+iso_alone t u range = alone-SumsTo IsIsoEither _ _ t u (λ others is. one_list _ others _ is (is_iso _ _ (spelled t range))) (iso_counts_sums t range)
 
 -- ---- in the strict style
 
-pub strict_denotes : (t : Interval) → IsInRange t → Denotes IsIsoStrict (iso_text t.months t.days t.microseconds) t
-strict_denotes t range = Denotes-SumsTo IsIsoStrict _ _ t range (spelled t range) (iso_counts_sums t range)
+pub strict_denotes : (t : Interval) → IsInRange t → Denotes IsStrictEither (iso_steps t.months t.days t.microseconds) t
+strict_denotes t range = Denotes-SumsTo IsStrictEither _ _ t range (spelled t range) (iso_counts_sums t range)
 
-pub strict_alone : (t u : Interval) → IsInRange t → Denotes IsIsoStrict (iso_text t.months t.days t.microseconds) u → u ≡ t
+pub strict_alone : (t u : Interval) → IsInRange t → Denotes IsStrictEither (iso_steps t.months t.days t.microseconds) u → u ≡ t
 strict_alone t u range h = iso_alone t u range (iso_denoted _ u h)

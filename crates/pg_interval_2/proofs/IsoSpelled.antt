@@ -9,10 +9,14 @@ use Rattle.scan_core.specs.Padded.{padded_digits}
 use Rattle.scan_core.specs.declared.share.Unit.{Unit as TimeUnit}
 use Rattle.scan_core.specs.declared.share.Unit.TheVariants.{Year, Month, Week, Day, Hour, Minute, Second}
 use Rattle.scan_core.proofs.DigitFacts.{digits_decimal}
-use Rattle.pg_interval_2.specs.Iso.{IsPair, ArePairs, date_unit, time_unit}
-use Rattle.pg_interval_2.specs.IsoStrict.{AreInOrder, IsIsoStrict, units_in_order}
-use Rattle.pg_interval_2.specs.IsoText.{iso_part, nonzero_digits, iso_decimal, iso_seconds, iso_date, iso_time, iso_text}
-use Rattle.pg_interval_2.specs.Parts.{minus, years_of, months_of, hours_of, minutes_of, seconds_of, subsecond_of}
+use Rattle.pg_interval_2.specs.Iso.{IsPair}
+use Rattle.pg_interval_2.specs.inside.IsoShapes.{ArePairs, date_unit, time_unit}
+use Rattle.pg_interval_2.specs.IsoStrict.{AreInOrder, units_in_order}
+use Rattle.pg_interval_2.specs.inside.IsoShapes.{IsStrictEither}
+use Rattle.pg_interval_2.specs.IsoText.{iso_part}
+use Rattle.pg_interval_2.specs.inside.IsoSteps.{nonzero_digits, iso_decimal, iso_seconds, iso_date, iso_time, iso_steps}
+use Rattle.pg_interval_2.specs.Parts.{minus}
+use Rattle.pg_interval_2.specs.inside.PartSteps.{years_of, months_of, hours_of, minutes_of, seconds_of, subsecond_of}
 use Rattle.scan_core.proofs.Joins.{IsJoin-append, IsJoin-one}
 use Rattle.scan_core.proofs.PaddedFacts.{digits-padded, length-padded}
 use Rattle.pg_interval_2.proofs.WrittenNumbers.{cond_two, IsNumber-whole, IsNumber-point}
@@ -117,7 +121,7 @@ zero_pair = record {
   joined = refl;
 }
 
-zero_spelled : IsIsoStrict (codes "PT0S") (zero_count ∷ [])
+zero_spelled : IsStrictEither (codes "PT0S") (zero_count ∷ [])
 zero_spelled = inr (
   record {
     date = [];
@@ -188,7 +192,7 @@ some_time micros zero_is = cond-false _ _ _ zero_is
 -- a date without a time
 date_alone : (months days micros : ℤ) → unsigned_abs months ≤ 2 ^ 63 → unsigned_abs days ≤ 2 ^ 63 → int_eq micros (pos 0) ≡ true
     → int_eq months (pos 0) && (int_eq days (pos 0) && int_eq micros (pos 0)) ≡ false
-    → IsIsoStrict (codes "P" ++ (iso_date months days ++ iso_time micros)) (date_counts months days ++ time_counts micros)
+    → IsStrictEither (codes "P" ++ (iso_date months days ++ iso_time micros)) (date_counts months days ++ time_counts micros)
 date_alone months days micros small_months small_days no_micros some =
     let none = no_time micros no_micros in
     rw (none.0, none.1, append-nil (iso_date months days), append-nil (date_counts months days))
@@ -202,7 +206,7 @@ date_alone months days micros small_months small_days no_micros some =
 -- a date, perhaps empty, and a time
 date_and_time : (months days micros : ℤ) → unsigned_abs months ≤ 2 ^ 63 → unsigned_abs days ≤ 2 ^ 63 → unsigned_abs micros ≤ 2 ^ 63
     → int_eq micros (pos 0) ≡ false
-    → IsIsoStrict (codes "P" ++ (iso_date months days ++ iso_time micros)) (date_counts months days ++ time_counts micros)
+    → IsStrictEither (codes "P" ++ (iso_date months days ++ iso_time micros)) (date_counts months days ++ time_counts micros)
 date_and_time months days micros small_months small_days small_micros some =
     rw (some_time micros some)
     (inr (
@@ -229,8 +233,8 @@ date_and_time months days micros small_months small_days small_micros some =
 
 -- the written text spells these counts
 pub iso_spelled : (months days micros : ℤ) → unsigned_abs months ≤ 2 ^ 63 → unsigned_abs days ≤ 2 ^ 63 → unsigned_abs micros ≤ 2 ^ 63
-    → IsIsoStrict (iso_text months days micros) (iso_counts months days micros)
-unfolding iso_text
+    → IsStrictEither (iso_steps months days micros) (iso_counts months days micros)
+unfolding iso_steps
 iso_spelled months days micros small_months small_days small_micros =
-    cond_two _ IsIsoStrict _ _ _ _ (λ _. zero_spelled)
+    cond_two _ IsStrictEither _ _ _ _ (λ _. zero_spelled)
     (λ some. ⊎_elim (λ none. date_alone months days micros small_months small_days none some) (λ time. date_and_time months days micros small_months small_days small_micros time) (cases_Bool (int_eq micros (pos 0))))

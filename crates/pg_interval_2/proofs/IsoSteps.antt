@@ -6,7 +6,8 @@ use Rattle.scan_core.proofs.Joins.{join_push, join_same}
 use Rattle.pg_interval_2.specs.declared.order.Order.{Order}
 use Rattle.pg_interval_2.specs.declared.tally.Tally.{Tally}
 use Rattle.pg_interval_2.specs.Denotes.{HasNoShape}
-use Rattle.pg_interval_2.specs.Iso.{unit_in, IsPair, IsIso}
+use Rattle.pg_interval_2.specs.Iso.{unit_in, IsPair}
+use Rattle.pg_interval_2.specs.inside.IsoShapes.{IsIsoEither}
 use Rattle.pg_interval_2.specs.inside.IsoTally.{StopsBehindPairs, TakesPairs, ends_pairs}
 use Rattle.pg_interval_2.specs.inside.Orders.{Orders}
 use Rattle.scan_core.specs.Scanning.{Passes, Place, ahead}
@@ -47,7 +48,7 @@ one_more_pair in_time bytes rest after old mid new was now is c taken read adds 
 pub no_shape_behind_dates : (text date rest : List ℕ) (old new : Tally) (was is : Order) → text ≡ codes "P" ++ date
     → TakesPairs false date rest old new was is → read_pair (unit_in false) rest ≡ None → rest ≢ []
     → ((time : List ℕ) → rest ≢ codes "T" ++ time)
-    → HasNoShape IsIso text
+    → HasNoShape IsIsoEither text
 no_shape_behind_dates text date rest old new was is spelled taken stuck some no_time counts shape =
     elim (behind_dates text taken.front rest taken.counts counts taken.pairs stuck (spelled ∙ ap (λ (l : List ℕ). codes "P" ++ l) taken.split) shape) [
       | inl end ↦ some end.0
@@ -58,7 +59,7 @@ no_shape_behind_dates text date rest old new was is spelled taken stuck some no_
 pub no_shape_behind_times : (text date time rest : List ℕ) (old mid new : Tally) (was is from to : Order) → text ≡ codes "P" ++ date
     → TakesPairs false date (codes "T" ++ time) old mid was is → TakesPairs true time rest mid new from to
     → read_pair (unit_in true) rest ≡ None → rest ≢ []
-    → HasNoShape IsIso text
+    → HasNoShape IsIsoEither text
 no_shape_behind_times text date time rest old mid new was is from to spelled dates times stuck some counts shape =
     elim (behind_dates text dates.front (codes "T" ++ time) dates.counts counts dates.pairs (time_ends time) (spelled ∙ ap (λ (l : List ℕ). codes "P" ++ l) dates.split) shape) [
       | inl end ↦ no_time time end.0
@@ -94,12 +95,12 @@ no_time_left (b ∷ bs) time goes_on e = let letter : b ≡ 84 = cc in let ends 
 
 -- where the pairs of the date stop at something else, or those of the time, the text has no shape
 pub stopped_dates : (text date : List ℕ) (old : Tally) (was : Order) → text ≡ codes "P" ++ date → StopsBehindPairs false date old was
-    → HasNoShape IsIso text
+    → HasNoShape IsIsoEither text
 stopped_dates text date old was spelled stop =
     no_shape_behind_dates text date stop.rest old stop.mid was stop.order spelled stop.taken stop.stuck (some_left stop.rest stop.goes_on) (λ time. no_time_left stop.rest time stop.goes_on)
 
 pub stopped_times : (text date time : List ℕ) (old mid : Tally) (was is from : Order) → text ≡ codes "P" ++ date
     → TakesPairs false date (codes "T" ++ time) old mid was is → StopsBehindPairs true time mid from
-    → HasNoShape IsIso text
+    → HasNoShape IsIsoEither text
 stopped_times text date time old mid was is from spelled dates stop =
     no_shape_behind_times text date time stop.rest old mid stop.mid was is from stop.order spelled dates stop.taken stop.stuck (some_left stop.rest stop.goes_on)

@@ -1,5 +1,5 @@
 -- What weeks changed of the ISO style: texts without the letter `W` spell what they spelled, and one with it spelled nothing.
-use Rattle.std.proofs.Common.{◌≡◌, ◌↔◌, ◌⊎◌, ℕ, ◌==◌, ◌||◌, Bool, true, false, List, [], ◌∷◌, ◌++◌, Option, Some, refl, sym, ◌∙◌, ap, arith, inl, inr, codes}
+use Rattle.std.proofs.Common.{◌≡◌, ◌≢◌, ◌↔◌, ◌⊎◌, ℕ, ◌==◌, ◌||◌, Bool, true, false, List, [], ◌∷◌, ◌++◌, Option, Some, refl, sym, ◌∙◌, ap, arith, inl, inr, codes}
 use Rattle.std.specs.Char.{is_ascii_digit}
 use Rattle.std.specs.List.{list_all}
 use Rattle.std.proofs.lemmas.Bool.Decides.{nat_tests}
@@ -11,7 +11,8 @@ use Rattle.scan_core.specs.Number.{IsFraction, IsNumber, IsSign}
 use Rattle.scan_core.proofs.DigitFacts.{all_from_digits}
 use Rattle.scan_core.specs.declared.share.Unit.{Unit as TimeUnit}
 use Rattle.pg_interval_2.specs.Denotes.{HasNoShape}
-use Rattle.pg_interval_2.specs.Iso.{ArePairs, IsDateAlone, IsDateAndTime, IsIso, IsPair, unit_in}
+use Rattle.pg_interval_2.specs.Iso.{IsPair, IsIsoBy, IsIso, unit_in}
+use Rattle.pg_interval_2.specs.inside.IsoShapes.{ArePairs}
 use Rattle.pg_interval_2.specs.IsoWithoutWeeks.{IsIsoWithoutWeeks, has_week, unit_without_weeks}
 
 -- ---- a text without the letter
@@ -51,29 +52,31 @@ pairs_over from to over bytes [] none pairs = pairs
 pairs_over from to over bytes (c ∷ cs) none (piece, rest, pair, more, split) =
     let parts = apart bytes piece rest none split in (piece, rest, pair_over from to over piece c parts.0 pair, pairs_over from to over rest cs parts.1 more, split)
 
--- the shape by a table of what letters mean, before the `T` and behind it
-abbrev HasShapeBy : (Bool → ℕ → Option TimeUnit) → List ℕ → List Count → Type 0
-HasShapeBy units text counts = IsDateAlone units text counts ⊎ IsDateAndTime units text counts
+-- what stands behind the `T` has no such letter
+time_without : (date time rest : List ℕ) → ((rest ≡ []) × (time ≡ []) × (date ≢ [])) ⊎ (rest ≡ codes "T" ++ time) → has_week rest ≡ false
+    → has_week time ≡ false
+time_without date time rest (inl none) h = ap has_week none.1
+time_without date time rest (inr behind) h = (apart rest (codes "T") time h behind).1
 
 shape_over : (from to : Bool → ℕ → Option TimeUnit) → ((in_time : Bool) → GoesOver (from in_time) (to in_time))
-    → (text : List ℕ) (counts : List Count) → has_week text ≡ false → HasShapeBy from text counts
-    → HasShapeBy to text counts
-shape_over from to over text counts none (inl (date, pairs, some, spelled)) =
-    inl (date, pairs_over (from false) (to false) (over false) date counts (apart text (codes "P") date none spelled).1 pairs, some, spelled)
-shape_over from to over text counts none (inr timed) =
-    let behind = (apart text (codes "P") (timed.date ++ (codes "T" ++ timed.time)) none timed.spelled).1 in
-    let parts = apart _ timed.date (codes "T" ++ timed.time) behind refl in
-    let time = (apart _ (codes "T") timed.time parts.1 refl).1 in
-    inr (record {
-      date = timed.date;
-      time = timed.time;
-      date_counts = timed.date_counts;
-      time_counts = timed.time_counts;
-      dates = pairs_over (from false) (to false) (over false) timed.date timed.date_counts parts.0 timed.dates;
-      times = pairs_over (from true) (to true) (over true) timed.time timed.time_counts time timed.times;
-      spelled = timed.spelled;
-      counted = timed.counted;
-    })
+    → (text : List ℕ) (counts : List Count) → has_week text ≡ false → IsIsoBy from text counts
+    → IsIsoBy to text counts
+shape_over from to over text counts none iso =
+    let behind = (apart text (codes "P") (iso.date ++ iso.rest) none iso.joined).1 in
+    let parts = apart _ iso.date iso.rest behind refl in
+    let time = time_without iso.date iso.time iso.rest iso.timed parts.1 in
+    record {
+      date = iso.date;
+      time = iso.time;
+      rest = iso.rest;
+      date_counts = iso.date_counts;
+      time_counts = iso.time_counts;
+      dates = pairs_over (from false) (to false) (over false) iso.date iso.date_counts parts.0 iso.dates;
+      times = pairs_over (from true) (to true) (over true) iso.time iso.time_counts time iso.times;
+      timed = iso.timed;
+      joined = iso.joined;
+      counted = iso.counted;
+    }
 
 pub old_texts : (text : List ℕ) (counts : List Count) → has_week text ≡ false → (IsIso text counts ↔ IsIsoWithoutWeeks text counts)
 old_texts text counts none = (shape_over unit_in unit_without_weeks forth text counts none, shape_over unit_without_weeks unit_in back text counts none)
@@ -123,11 +126,16 @@ pairs : (in_time : Bool) (bytes : List ℕ) (counts : List Count) → ArePairs (
 pairs in_time bytes [] none = ap has_week none
 pairs in_time bytes (c ∷ cs) (piece, rest, first, more, split) = joined bytes piece rest split (pair in_time piece c first) (pairs in_time rest cs more)
 
+rest_without : (date time rest : List ℕ) → ((rest ≡ []) × (time ≡ []) × (date ≢ [])) ⊎ (rest ≡ codes "T" ++ time) → has_week time ≡ false
+    → has_week rest ≡ false
+rest_without date time rest (inl none) h = ap has_week none.0
+rest_without date time rest (inr behind) h = joined rest (codes "T") time behind refl h
+
 no_week : (text : List ℕ) (counts : List Count) → IsIsoWithoutWeeks text counts → has_week text ≡ false
-no_week text counts (inl (date, are, some, spelled)) = joined text (codes "P") date spelled refl (pairs false date counts are)
-no_week text counts (inr timed) =
-    joined text (codes "P") (timed.date ++ (codes "T" ++ timed.time)) timed.spelled refl
-    (joined _ timed.date (codes "T" ++ timed.time) refl (pairs false timed.date timed.date_counts timed.dates) (joined _ (codes "T") timed.time refl refl (pairs true timed.time timed.time_counts timed.times)))
+no_week text counts iso =
+    let time = pairs true iso.time iso.time_counts iso.times in
+    let rest = rest_without iso.date iso.time iso.rest iso.timed time in
+    joined text (codes "P") (iso.date ++ iso.rest) iso.joined refl (joined _ iso.date iso.rest refl (pairs false iso.date iso.date_counts iso.dates) rest)
 
 pub new_texts : (text : List ℕ) → has_week text ≡ true → HasNoShape IsIsoWithoutWeeks text
 new_texts text some counts shape = let none = no_week text counts shape in cc

@@ -10,10 +10,12 @@ use Rattle.scan_core.proofs.WordFacts.{words-closed}
 use Rattle.pg_interval_2.specs.declared.counted.Counted.{Counted}
 use Rattle.pg_interval_2.specs.inside.CountedItems.{IsCounted, TakesItem}
 use Rattle.pg_interval_2.specs.inside.ItemReading.{ClockFields, clock_of, after_blanks}
-use Rattle.pg_interval_2.specs.Postgres.{IsItem, AreItems, all_counts, has_distinct_units}
+use Rattle.pg_interval_2.specs.Postgres.{IsItem, AreItems, all_counts}
+use Rattle.pg_interval_2.specs.inside.UnitPlaces.{has_distinct_units}
 use Rattle.pg_interval_2.specs.inside.Reading.{Numeral, count_with}
 use Rattle.pg_interval_2.specs.Turned.{turned_counts}
-use Rattle.pg_interval_2.specs.UnitNames.{unit_named}
+use Rattle.pg_interval_2.specs.inside.NamedUnits.{unit_named}
+use Rattle.pg_interval_2.proofs.UnitsApart.{named_contains, distinct_pairs}
 use Rattle.pg_interval_2.proofs.CountedFacts.{clock_long, named_long}
 use Rattle.pg_interval_2.proofs.ItemFacts.{AreBlanks, are_skipped}
 use Rattle.pg_interval_2.proofs.ItemsRead.{StandsNamed, StandsClock, Stands, item_stands}
@@ -48,14 +50,14 @@ named_item names n letters bytes rest h unit found [] none =
     let solid = no_blanks-append h.number letters (number_no_blanks n.negative n.whole n.fraction h.number h.digits) (letters_no_blanks letters h.ascii) in
     let spelled : words (h.number ++ (h.blanks ++ letters)) ≡ word ∷ [] =
     ap (λ (l : List ℕ). words (h.number ++ (l ++ letters))) none ∙ ap words (sym (append-nil word)) ∙ words_in_front word [] (omega (arith, lengths, some)) solid tt in
-    inl (count_with n unit, record { number = h.number; name = letters; digits = h.digits; unit = found; spelled = inr spelled }, refl)
+    inl (count_with n unit, record { number = h.number; name = letters; digits = h.digits; unit = named_contains names letters unit found; spelled = inr spelled }, refl)
 named_item names n letters bytes rest h unit found (b ∷ bs) some =
     let blank : AreBlanks (b ∷ bs) = subst AreBlanks some h.blank in
     let first = words_in_front h.number ((b ∷ bs) ++ letters) (number_some n.negative n.whole n.fraction h.number h.digits) (number_no_blanks n.negative n.whole n.fraction h.number h.digits) (and_parts (is_blank b) (list_all is_blank bs) blank).0 in
     let second = words-blanks (b ∷ bs) letters blank ∙ ap words (sym (append-nil letters)) ∙ words_in_front letters [] h.some (letters_no_blanks letters h.ascii) tt in
     let spelled : words (h.number ++ (h.blanks ++ letters)) ≡ h.number ∷ letters ∷ [] =
     ap (λ (l : List ℕ). words (h.number ++ (l ++ letters))) some ∙ first ∙ ap (λ (l : List (List ℕ)). h.number ∷ l) second in
-    inl (count_with n unit, record { number = h.number; name = letters; digits = h.digits; unit = found; spelled = inl spelled }, refl)
+    inl (count_with n unit, record { number = h.number; name = letters; digits = h.digits; unit = named_contains names letters unit found; spelled = inl spelled }, refl)
 
 named_front : (names : Names) (bytes : List ℕ) (n : Numeral) (letters rest : List ℕ) (unit : TimeUnit) → StandsNamed bytes n letters rest
     → unit_named names letters ≡ Some unit
@@ -110,7 +112,7 @@ none_taken names turned text state h =
       consumed = skip.0;
       counts = [];
       split = skip.2;
-      items = ([], ap words (sym (append-nil skip.0)) ∙ words-blanks skip.0 [] skip.1, refl, refl);
+      items = ([], ap words (sym (append-nil skip.0)) ∙ words-blanks skip.0 [] skip.1, refl, distinct_pairs [] refl);
       closed = inr (closed_start skip.0 skip.1);
       solid = after_solid text;
       counted = h;
@@ -129,7 +131,7 @@ items_push : (names : Names) (consumed front : List (List ℕ)) (counts cs : Lis
     → IsItem names front cs → has_distinct_units (counts ++ cs) ≡ true
     → AreItems names (consumed ++ front) (counts ++ cs)
 items_push names consumed front counts cs (items, join, counted, distinct) item both_distinct =
-    (items ++ cs ∷ [], join_push (IsItem names) consumed front items cs join item, ap (λ (l : List Count). l ++ cs) counted ∙ sym (all_counts-push items cs), both_distinct)
+    (items ++ cs ∷ [], join_push (IsItem names) consumed front items cs join item, ap (λ (l : List Count). l ++ cs) counted ∙ sym (all_counts-push items cs), distinct_pairs (counts ++ cs) both_distinct)
 
 front_taken :
     (names : Names) (turned : Bool) (text rest after : List ℕ) (cs : List Count) (old new : Counted)

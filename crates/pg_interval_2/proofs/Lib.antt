@@ -63,3 +63,7 @@ pub mod DenotedRange
 pub mod EachByte
 pub mod Alphabet
 pub mod OneLine
+pub mod TextsInSteps
+pub mod IsoWhole
+pub mod SameShape
+pub mod UnitsApart

@@ -8,7 +8,7 @@ use Rattle.scan_core.specs.Blanks.{is_blank, words, EndsWord}
 use Rattle.scan_core.specs.Count.{Count}
 use Rattle.scan_core.specs.Number.{IsNumber}
 use Rattle.pg_interval_2.specs.Clock.{clock_counts}
-use Rattle.pg_interval_2.specs.Postgres.{has_distinct_units}
+use Rattle.pg_interval_2.specs.inside.UnitPlaces.{has_distinct_units}
 use Rattle.pg_interval_2.specs.inside.Reading.{Numeral, read_number}
 use Rattle.pg_interval_2.specs.inside.ItemReading.{ClockFields, NextItem, ClockItem, NamedItem, NoItem, read_item, NumberWord, OtherWord, kind_from, word_kind, Verdict, Unspelled, judge_word, is_name, clock_of, verdict, after_blanks}
 use Rattle.pg_interval_2.proofs.Numbers.{is_number}

@@ -1,5 +1,5 @@
 -- A written text is one line.
-use Rattle.std.proofs.Common.{◌≡◌, ℕ, ◌^◌, ◌<◌, ◌≤◌, ◌&&◌, ◌==◌, not, Bool, true, false, cond, ℤ, unsigned_abs, pos, IsTrue, List, [], ◌∷◌, ◌++◌, codes, decimal, refl, arith}
+use Rattle.std.proofs.Common.{◌≡◌, ℕ, ◌^◌, ◌<◌, ◌≤◌, ◌&&◌, ◌==◌, not, Bool, true, false, cond, ℤ, unsigned_abs, pos, IsTrue, List, [], ◌∷◌, ◌++◌, codes, decimal, refl, sym, subst, arith}
 use Rattle.std.proofs.lemmas.Bool.Decides.{nat_tests}
 use Rattle.std.specs.Char.{is_ascii_digit}
 use Rattle.std.specs.Int.{is_negative}
@@ -12,15 +12,18 @@ use Rattle.scan_core.proofs.DigitFacts.{digits_decimal}
 use Rattle.scan_core.proofs.PaddedFacts.{digits-padded}
 use Rattle.scan_core.proofs.TrimmedFacts.{digits-trimmed}
 use Rattle.pg_interval_2.specs.Alphabet.{is_no_feed}
-use Rattle.pg_interval_2.specs.ClockText.{hours_text, field_text, fraction_text, clock_text}
-use Rattle.pg_interval_2.specs.IsoText.{iso_part, nonzero_digits, iso_decimal, iso_seconds, iso_date, iso_time, iso_text}
-use Rattle.pg_interval_2.specs.Parts.{minus, years_of, months_of, hours_of, minutes_of, seconds_of, subsecond_of}
-use Rattle.pg_interval_2.specs.PostgresText.{counted_name, number_words, part_words, clock_words, postgres_words, postgres_text}
+use Rattle.pg_interval_2.specs.inside.ClockSteps.{hours_text, field_text, fraction_text, clock_steps}
+use Rattle.pg_interval_2.specs.IsoText.{iso_part}
+use Rattle.pg_interval_2.specs.inside.IsoSteps.{nonzero_digits, iso_decimal, iso_seconds, iso_date, iso_time, iso_steps}
+use Rattle.pg_interval_2.specs.Parts.{minus}
+use Rattle.pg_interval_2.specs.inside.PartSteps.{years_of, months_of, hours_of, minutes_of, seconds_of, subsecond_of}
+use Rattle.pg_interval_2.specs.inside.PostgresSteps.{counted_name, number_words, named_words, clock_words, postgres_words, postgres_steps}
 use Rattle.pg_interval_2.specs.Ranges.{IsInRange}
-use Rattle.pg_interval_2.specs.SqlText.{minus_or_plus, has_all_signs, year_month_text, signed_text, months_text, days_text, time_text, plain_text, sql_text}
+use Rattle.pg_interval_2.specs.SqlText.{minus_or_plus}
+use Rattle.pg_interval_2.specs.inside.SqlSteps.{has_all_signs, year_month_text, signed_text, months_text, days_text, time_text, plain_text, sql_steps}
 use Rattle.pg_interval_2.specs.Styles.{style_text}
 use Rattle.pg_interval_2.specs.Turned.{turned_sign}
-use Rattle.pg_interval_2.specs.VerboseText.{behind_spaces, unit_words, second_digits, second_words, verbose_date, verbose_time, parts_text, verbose_text, has_ago}
+use Rattle.pg_interval_2.specs.inside.VerboseSteps.{behind_spaces, unit_words, second_digits, second_words, verbose_date, verbose_time, parts_text, verbose_steps, has_ago}
 use Rattle.pg_interval_2.specs.declared.interval.Interval.{Interval}
 use Rattle.pg_interval_2.specs.declared.style.Style.{Style}
 use Rattle.pg_interval_2.specs.declared.style.Style.TheVariants.{Iso, Postgres, Verbose, Sql, IsoStrict}
@@ -28,6 +31,7 @@ use Rattle.pg_interval_2.proofs.EachByte.{Each, EachWord, each-append, each_word
 use Rattle.scan_core.proofs.Signs.{abs_fits}
 use Rattle.scan_core.proofs.FitFacts.{fits_32, fits_64}
 use Rattle.pg_interval_2.proofs.SumsTo.{}
+use Rattle.pg_interval_2.proofs.TextsInSteps.{steps_of, in_steps}
 
 abbrev OneLine : List ℕ → Type 0
 OneLine bytes = Each is_no_feed bytes
@@ -108,16 +112,16 @@ hours_line : (width n : ℕ) → n < 2 ^ 64 → OneLine (hours_text width n)
 unfolding hours_text
 hours_line width n small = padded_line width n small
 
-clock_line : (width : ℕ) (micros : ℤ) → IsSmall micros → OneLine (clock_text width micros)
-unfolding clock_text
+clock_line : (width : ℕ) (micros : ℤ) → IsSmall micros → OneLine (clock_steps width micros)
+unfolding clock_steps
 clock_line width micros u =
     let fraction = fraction_line (subsecond_of micros) (subsecond_small micros u) in
     let seconds = append (field_text (seconds_of micros)) (fraction_text (subsecond_of micros)) (field_line (seconds_of micros) (seconds_small micros u)) fraction in
     let minutes = append (field_text (minutes_of micros)) (field_text (seconds_of micros) ++ fraction_text (subsecond_of micros)) (field_line (minutes_of micros) (minutes_small micros u)) seconds in
     append (hours_text width (hours_of micros)) (field_text (minutes_of micros) ++ (field_text (seconds_of micros) ++ fraction_text (subsecond_of micros))) (hours_line width (hours_of micros) (hours_small micros u)) minutes
 
-signed_clock_line : (width : ℕ) (micros : ℤ) → IsSmall micros → OneLine (minus (is_negative micros) ++ clock_text width micros)
-signed_clock_line width micros u = append (minus (is_negative micros)) (clock_text width micros) (minus_line (is_negative micros)) (clock_line width micros u)
+signed_clock_line : (width : ℕ) (micros : ℤ) → IsSmall micros → OneLine (minus (is_negative micros) ++ clock_steps width micros)
+signed_clock_line width micros u = append (minus (is_negative micros)) (clock_steps width micros) (minus_line (is_negative micros)) (clock_line width micros u)
 
 -- ---- the ISO style
 
@@ -173,8 +177,8 @@ iso_time_line : (micros : ℤ) → IsSmall micros → OneLine (iso_time micros)
 unfolding iso_time
 iso_time_line micros u = if_line (int_eq micros (pos 0)) [] _ (lit [] refl) (append (codes "T") _ (lit (codes "T") refl) (iso_clock_line micros u))
 
-iso_line : (months days micros : ℤ) → IsSmall months → IsSmall days → IsSmall micros → OneLine (iso_text months days micros)
-unfolding iso_text
+iso_line : (months days micros : ℤ) → IsSmall months → IsSmall days → IsSmall micros → OneLine (iso_steps months days micros)
+unfolding iso_steps
 iso_line months days micros m d u =
     let parts = append (iso_date months days) (iso_time micros) (iso_date_line months days m d) (iso_time_line micros u) in
     if_line (int_eq months (pos 0) && (int_eq days (pos 0) && int_eq micros (pos 0))) (codes "PT0S") (codes "P" ++ (iso_date months days ++ iso_time micros)) (lit (codes "PT0S") refl)
@@ -198,14 +202,14 @@ counted_line negative plural n name small h = number_line negative n (counted_na
 
 clock_words_line : (micros : ℤ) → IsSmall micros → OneLineEach (clock_words micros)
 unfolding clock_words
-clock_words_line micros u = if_words (int_eq micros (pos 0)) [] ((minus (is_negative micros) ++ clock_text 2 micros) ∷ []) tt (signed_clock_line 2 micros u, tt)
+clock_words_line micros u = if_words (int_eq micros (pos 0)) [] ((minus (is_negative micros) ++ clock_steps 2 micros) ∷ []) tt (signed_clock_line 2 micros u, tt)
 
 postgres_words_line : (months days micros : ℤ) → IsSmall months → IsSmall days → IsSmall micros
     → OneLineEach (postgres_words months days micros)
 postgres_words_line months days micros m d u =
-    let year : List (List ℕ) = part_words (is_negative months) (years_of months) (codes "year") in
-    let month : List (List ℕ) = part_words (is_negative months) (months_of months) (codes "mon") in
-    let day : List (List ℕ) = part_words (is_negative days) (unsigned_abs days) (codes "day") in
+    let year : List (List ℕ) = named_words (is_negative months) (years_of months) (codes "year") in
+    let month : List (List ℕ) = named_words (is_negative months) (months_of months) (codes "mon") in
+    let day : List (List ℕ) = named_words (is_negative days) (unsigned_abs days) (codes "day") in
     let years = counted_line (is_negative months) (is_negative months) (years_of months) (codes "year") (years_small months m) refl in
     let months_in = counted_line (is_negative months) (is_negative months) (months_of months) (codes "mon") (months_small months m) refl in
     let days_in = counted_line (is_negative days) (is_negative days) (unsigned_abs days) (codes "day") (abs_small days d) refl in
@@ -218,8 +222,8 @@ joined_line (word ∷ next ∷ more) h =
     let rest = append (codes " ") (join_with_byte 32 (next ∷ more)) (lit (codes " ") refl) (joined_line (next ∷ more) h.1) in
     append word (codes " " ++ join_with_byte 32 (next ∷ more)) h.0 rest
 
-postgres_line : (months days micros : ℤ) → IsSmall months → IsSmall days → IsSmall micros → OneLine (postgres_text months days micros)
-unfolding postgres_text
+postgres_line : (months days micros : ℤ) → IsSmall months → IsSmall days → IsSmall micros → OneLine (postgres_steps months days micros)
+unfolding postgres_steps
 postgres_line months days micros m d u =
     if_line (int_eq months (pos 0) && (int_eq days (pos 0) && int_eq micros (pos 0))) (codes "00:00:00") (join_with_byte 32 (postgres_words months days micros)) (lit (codes "00:00:00") refl)
     (joined_line (postgres_words months days micros) (postgres_words_line months days micros m d u))
@@ -277,8 +281,8 @@ parts_line ago months days micros m d u =
     let behind : List ℕ = verbose_date ago months days ++ (verbose_time ago micros ++ (if ago then codes " ago" else [])) in
     append (codes "@") behind (lit (codes "@") refl) (append (verbose_date ago months days) (verbose_time ago micros ++ (if ago then codes " ago" else [])) (verbose_date_line ago months days m d) time)
 
-verbose_line : (months days micros : ℤ) → IsSmall months → IsSmall days → IsSmall micros → OneLine (verbose_text months days micros)
-unfolding verbose_text
+verbose_line : (months days micros : ℤ) → IsSmall months → IsSmall days → IsSmall micros → OneLine (verbose_steps months days micros)
+unfolding verbose_steps
 verbose_line months days micros m d u =
     if_line (int_eq months (pos 0) && (int_eq days (pos 0) && int_eq micros (pos 0))) (codes "@ 0") (parts_text (has_ago months days micros) months days micros) (lit (codes "@ 0") refl)
     (parts_line (has_ago months days micros) months days micros m d u)
@@ -300,10 +304,10 @@ unfolding signed_text
 signed_text_line months days micros m d u =
     let date : List ℕ = minus_or_plus (is_negative months) ++ year_month_text months in
     let day : List ℕ = minus_or_plus (is_negative days) ++ decimal (unsigned_abs days) in
-    let time : List ℕ = minus_or_plus (is_negative micros) ++ clock_text 1 micros in
+    let time : List ℕ = minus_or_plus (is_negative micros) ++ clock_steps 1 micros in
     let dates = append (minus_or_plus (is_negative months)) (year_month_text months) (plus_line (is_negative months)) (year_month_line months m) in
     let days_in = append (minus_or_plus (is_negative days)) (decimal (unsigned_abs days)) (plus_line (is_negative days)) (decimal_line (unsigned_abs days) (abs_small days d)) in
-    let times = append (minus_or_plus (is_negative micros)) (clock_text 1 micros) (plus_line (is_negative micros)) (clock_line 1 micros u) in
+    let times = append (minus_or_plus (is_negative micros)) (clock_steps 1 micros) (plus_line (is_negative micros)) (clock_line 1 micros u) in
     let behind_days = append (codes " ") time (lit (codes " ") refl) times in
     let behind_date = append (codes " ") (day ++ (codes " " ++ time)) (lit (codes " ") refl) (append day (codes " " ++ time) days_in behind_days) in
     append date (codes " " ++ (day ++ (codes " " ++ time))) dates behind_date
@@ -317,7 +321,7 @@ unfolding days_text
 days_line days micros d u =
     let day : List ℕ = minus (is_negative days) ++ decimal (unsigned_abs days) in
     let days_in = append (minus (is_negative days)) (decimal (unsigned_abs days)) (minus_line (is_negative days)) (decimal_line (unsigned_abs days) (abs_small days d)) in
-    append day (codes " " ++ clock_text 1 micros) days_in (append (codes " ") (clock_text 1 micros) (lit (codes " ") refl) (clock_line 1 micros u))
+    append day (codes " " ++ clock_steps 1 micros) days_in (append (codes " ") (clock_steps 1 micros) (lit (codes " ") refl) (clock_line 1 micros u))
 
 time_line : (micros : ℤ) → IsSmall micros → OneLine (time_text micros)
 unfolding time_text
@@ -330,8 +334,8 @@ plain_line months days micros m d u =
     if_line (not (int_eq months (pos 0))) (months_text months) rest (months_line months m)
     (if_line (not (int_eq days (pos 0))) (days_text days micros) (time_text micros) (days_line days micros d u) (time_line micros u))
 
-sql_line : (months days micros : ℤ) → IsSmall months → IsSmall days → IsSmall micros → OneLine (sql_text months days micros)
-unfolding sql_text
+sql_line : (months days micros : ℤ) → IsSmall months → IsSmall days → IsSmall micros → OneLine (sql_steps months days micros)
+unfolding sql_steps
 sql_line months days micros m d u =
     let rest : List ℕ = if has_all_signs months days micros then signed_text months days micros else plain_text months days micros in
     if_line (int_eq months (pos 0) && (int_eq days (pos 0) && int_eq micros (pos 0))) (codes "0") rest (lit (codes "0") refl)
@@ -339,7 +343,7 @@ sql_line months days micros m d u =
 
 -- ---- every style
 
-style_line : (style : Style) (t : Interval) → IsSmall t.months → IsSmall t.days → IsSmall t.microseconds → OneLine (style_text style t)
+style_line : (style : Style) (t : Interval) → IsSmall t.months → IsSmall t.days → IsSmall t.microseconds → OneLine (steps_of style t)
 style_line Iso t m d u = iso_line t.months t.days t.microseconds m d u
 style_line Postgres t m d u = postgres_line t.months t.days t.microseconds m d u
 style_line Verbose t m d u = verbose_line t.months t.days t.microseconds m d u
@@ -351,4 +355,4 @@ one_line style t range =
     let months = abs_fits Months t.months (fits_32 t.months range.months) in
     let days = abs_fits Days t.days (fits_32 t.days range.days) in
     let micros = abs_fits Micros t.microseconds (fits_64 t.microseconds range.microseconds) in
-    (style_line style t months days micros).passes
+    (subst (λ (l : List ℕ). OneLine l) (sym (in_steps style t)) (style_line style t months days micros)).passes

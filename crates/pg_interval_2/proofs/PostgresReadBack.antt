@@ -5,7 +5,7 @@ use Rattle.scan_core.specs.declared.share.Part.TheVariants.{Months, Days, Micros
 use Rattle.pg_interval_2.specs.declared.interval.Interval.{Interval}
 use Rattle.pg_interval_2.specs.Denotes.{Denotes}
 use Rattle.pg_interval_2.specs.Postgres.{IsPostgres}
-use Rattle.pg_interval_2.specs.PostgresText.{postgres_text}
+use Rattle.pg_interval_2.specs.inside.PostgresSteps.{postgres_steps}
 use Rattle.pg_interval_2.specs.Ranges.{IsInRange}
 use Rattle.scan_core.proofs.Signs.{int_eq-zero, abs_fits}
 use Rattle.pg_interval_2.proofs.WrittenCounts.{date_counts-sum}
@@ -24,13 +24,13 @@ sums : (t : Interval) → IsInRange t → SumsTo (postgres_counts t.months t.day
 sums t range = SumsTo-date_time _ _ t (date_counts-sum t range) (clock_part-sum t range)
 
 spelled : (t : Interval) → IsInRange t
-    → IsPostgres (postgres_text t.months t.days t.microseconds) (postgres_counts t.months t.days t.microseconds)
+    → IsPostgres (postgres_steps t.months t.days t.microseconds) (postgres_counts t.months t.days t.microseconds)
 spelled t range = postgres_spelled t.months t.days t.microseconds (abs_fits Months t.months (fits_32 t.months range.months)) (abs_fits Days t.days (fits_32 t.days range.days)) (abs_fits Micros t.microseconds (fits_64 t.microseconds range.microseconds))
 
-pub postgres_denotes : (t : Interval) → IsInRange t → Denotes IsPostgres (postgres_text t.months t.days t.microseconds) t
-postgres_denotes t range = Denotes-SumsTo IsPostgres (postgres_text t.months t.days t.microseconds) (postgres_counts t.months t.days t.microseconds) t range (spelled t range) (sums t range)
+pub postgres_denotes : (t : Interval) → IsInRange t → Denotes IsPostgres (postgres_steps t.months t.days t.microseconds) t
+postgres_denotes t range = Denotes-SumsTo IsPostgres (postgres_steps t.months t.days t.microseconds) (postgres_counts t.months t.days t.microseconds) t range (spelled t range) (sums t range)
 
-pub postgres_alone : (t u : Interval) → IsInRange t → Denotes IsPostgres (postgres_text t.months t.days t.microseconds) u → u ≡ t
+pub postgres_alone : (t u : Interval) → IsInRange t → Denotes IsPostgres (postgres_steps t.months t.days t.microseconds) u → u ≡ t
 postgres_alone t u range =
-    alone-SumsTo IsPostgres (postgres_text t.months t.days t.microseconds) (postgres_counts t.months t.days t.microseconds) t u
-    (λ others is. one_list (postgres_text t.months t.days t.microseconds) others _ is (spelled t range)) (sums t range)
+    alone-SumsTo IsPostgres (postgres_steps t.months t.days t.microseconds) (postgres_counts t.months t.days t.microseconds) t u
+    (λ others is. one_list (postgres_steps t.months t.days t.microseconds) others _ is (spelled t range)) (sums t range)

@@ -11,11 +11,15 @@ use Rattle.scan_core.specs.declared.share.Unit.{Unit as TimeUnit}
 use Rattle.scan_core.specs.declared.share.Unit.TheVariants.{Year, Month, Day}
 use Rattle.scan_core.proofs.DigitFacts.{digits_decimal}
 use Rattle.pg_interval_2.specs.Clock.{IsClock, IsField, is_nonzero}
-use Rattle.pg_interval_2.specs.ClockText.{hours_text, field_text, fraction_text, clock_text}
-use Rattle.pg_interval_2.specs.Parts.{minus, years_of, months_of, hours_of, minutes_of, seconds_of, subsecond_of}
-use Rattle.pg_interval_2.specs.Postgres.{IsNamed, IsItem, AreItems, IsPostgres, all_counts, has_distinct_units}
-use Rattle.pg_interval_2.specs.PostgresText.{counted_name, number_words, part_words, clock_words, postgres_words, postgres_text}
-use Rattle.pg_interval_2.specs.UnitNames.{postgres_names, unit_named}
+use Rattle.pg_interval_2.specs.inside.ClockSteps.{hours_text, field_text, fraction_text, clock_steps}
+use Rattle.pg_interval_2.specs.Parts.{minus}
+use Rattle.pg_interval_2.specs.inside.PartSteps.{years_of, months_of, hours_of, minutes_of, seconds_of, subsecond_of}
+use Rattle.pg_interval_2.specs.Postgres.{IsNamed, IsItem, AreItems, IsPostgres, all_counts}
+use Rattle.pg_interval_2.specs.inside.UnitPlaces.{has_distinct_units}
+use Rattle.pg_interval_2.specs.inside.PostgresSteps.{counted_name, number_words, named_words, clock_words, postgres_words, postgres_steps}
+use Rattle.pg_interval_2.specs.UnitNames.{postgres_names}
+use Rattle.pg_interval_2.specs.inside.NamedUnits.{unit_named}
+use Rattle.pg_interval_2.proofs.UnitsApart.{named_contains, distinct_pairs}
 use Rattle.pg_interval_2.proofs.ClockCounts.{micros_digits, three_counts}
 use Rattle.scan_core.proofs.Joins.{IsJoin-append, IsJoin-one}
 use Rattle.scan_core.proofs.PaddedFacts.{digits-padded, length-padded}
@@ -42,7 +46,7 @@ named names negative n word unit small is = record {
   number = minus negative ++ decimal n;
   name = word;
   digits = rw append-nil at (IsNumber-whole true negative (decimal n) (digits_decimal n small) (decimal_nonempty n small));
-  unit = is;
+  unit = named_contains names word unit is;
   spelled = inl refl;
 }
 
@@ -60,7 +64,7 @@ number_join names negative n word unit small is =
 
 part_join : (negative : Bool) (n : ℕ) (name : List ℕ) (unit : TimeUnit) → n < 2 ^ 64 → unit_named postgres_names name ≡ Some unit
     → unit_named postgres_names (name ++ codes "s") ≡ Some unit
-    → IsJoin (IsItem postgres_names) (part_words negative n name) (part_items negative n unit)
+    → IsJoin (IsItem postgres_names) (named_words negative n name) (part_items negative n unit)
 part_join negative n name unit small one more =
     number_join postgres_names negative n (counted_name negative n name) unit small (counted_unit postgres_names negative n name unit one more)
 
@@ -94,8 +98,8 @@ unfolding fraction_text
 fraction_is micros small = cond_two (micros == 0) IsFraction _ _ _ _ (λ _. inl (refl, refl)) (λ _. inr (digits-padded 6 micros small, refl))
 
 clock_is : (micros : ℤ) → unsigned_abs micros ≤ 2 ^ 63
-    → IsClock (minus (is_negative micros) ++ clock_text 2 micros) (filter is_nonzero (three_counts (is_negative micros) 2 micros))
-unfolding clock_text hours_text field_text
+    → IsClock (minus (is_negative micros) ++ clock_steps 2 micros) (filter is_nonzero (three_counts (is_negative micros) 2 micros))
+unfolding clock_steps hours_text field_text
 clock_is micros small = record {
   negative = is_negative micros;
   sign = minus (is_negative micros);
@@ -124,7 +128,7 @@ clock_join : (micros : ℤ) → unsigned_abs micros ≤ 2 ^ 63 → IsJoin (IsIte
 unfolding clock_words
 clock_join micros small =
     cond_two (int_eq micros (pos 0)) (IsJoin (IsItem postgres_names)) _ _ _ _ (λ _. refl)
-    (λ _. IsJoin-one (IsItem postgres_names) _ _ (inr (minus (is_negative micros) ++ clock_text 2 micros, clock_is micros small, refl)))
+    (λ _. IsJoin-one (IsItem postgres_names) _ _ (inr (minus (is_negative micros) ++ clock_steps 2 micros, clock_is micros small, refl)))
 
 all_counts-clock : (micros : ℤ) → all_counts (clock_items micros) ≡ clock_part micros
 all_counts-clock micros =
@@ -163,7 +167,7 @@ nonzero_items months days micros small_months small_days small_micros = (
   counts_of_four (part_items (is_negative months) (years_of months) Year) (part_items (is_negative months) (months_of months) Month) (part_items (is_negative days) (unsigned_abs days) Day) (clock_items micros) _ _ _ _
       (all_counts-part (is_negative months) (years_of months) Year) (all_counts-part (is_negative months) (months_of months) Month)
       (all_counts-part (is_negative days) (unsigned_abs days) Day) (all_counts-clock micros),
-  distinct months days micros,
+  distinct_pairs _ (distinct months days micros),
 )
 
 -- zero is a clock whose fields are 0, which has no counts
@@ -186,7 +190,7 @@ zero_clock = record {
 }
 
 zero_items : AreItems postgres_names (codes "00:00:00" ∷ []) []
-zero_items = ([] ∷ [], IsJoin-one (IsItem postgres_names) (codes "00:00:00" ∷ []) [] (inr (codes "00:00:00", zero_clock, refl)), refl, refl)
+zero_items = ([] ∷ [], IsJoin-one (IsItem postgres_names) (codes "00:00:00" ∷ []) [] (inr (codes "00:00:00", zero_clock, refl)), refl, distinct_pairs [] refl)
 
 zero_spelled : (months days micros : ℤ) → int_eq months (pos 0) && (int_eq days (pos 0) && int_eq micros (pos 0)) ≡ true
     → IsPostgres (codes "00:00:00") (postgres_counts months days micros)
@@ -200,8 +204,8 @@ zero_spelled months days micros zero_is =
 
 -- the written text spells these counts
 pub postgres_spelled : (months days micros : ℤ) → unsigned_abs months ≤ 2 ^ 63 → unsigned_abs days ≤ 2 ^ 63 → unsigned_abs micros ≤ 2 ^ 63
-    → IsPostgres (postgres_text months days micros) (postgres_counts months days micros)
-unfolding postgres_text
+    → IsPostgres (postgres_steps months days micros) (postgres_counts months days micros)
+unfolding postgres_steps
 postgres_spelled months days micros small_months small_days small_micros =
     cond_both _ _ _ (λ text. IsPostgres text (postgres_counts months days micros)) (zero_spelled months days micros)
     (λ _. rw (words-join (postgres_words months days micros) (AreWords-postgres_words months days micros small_months small_days small_micros)) (nonzero_items months days micros small_months small_days small_micros))

@@ -7,9 +7,10 @@ use Rattle.scan_core.specs.Padded.{padded_digits}
 use Rattle.scan_core.proofs.DigitFacts.{digits_decimal}
 use Rattle.scan_core.proofs.WordFacts.{NoBlanks}
 use Rattle.scan_core.proofs.PaddedFacts.{digits-padded, length-padded}
-use Rattle.pg_interval_2.specs.Parts.{minus, years_of, months_of, hours_of, minutes_of, seconds_of, subsecond_of}
-use Rattle.pg_interval_2.specs.PostgresText.{counted_name, number_words, part_words, clock_words, postgres_words}
-use Rattle.pg_interval_2.specs.ClockText.{hours_text, field_text, fraction_text, clock_text}
+use Rattle.pg_interval_2.specs.Parts.{minus}
+use Rattle.pg_interval_2.specs.inside.PartSteps.{years_of, months_of, hours_of, minutes_of, seconds_of, subsecond_of}
+use Rattle.pg_interval_2.specs.inside.PostgresSteps.{counted_name, number_words, named_words, clock_words, postgres_words}
+use Rattle.pg_interval_2.specs.inside.ClockSteps.{hours_text, field_text, fraction_text, clock_steps}
 use Rattle.pg_interval_2.proofs.Spaces.{AreWords}
 use Rattle.pg_interval_2.proofs.ItemWords.{no_blanks-append, digits_no_blanks}
 
@@ -36,18 +37,18 @@ AreWords-number_words negative n word small behind =
       (behind.0, behind.1, tt),
     ))
 
-AreWords-part_words : (negative : Bool) (n : ℕ) (name : List ℕ) → n < 2 ^ 64 → 0 < length name → NoBlanks name
-    → AreWords (part_words negative n name)
-AreWords-part_words negative n name small some clear = AreWords-number_words negative n (counted_name negative n name) small (counted_name_is negative n name some clear)
+AreWords-named_words : (negative : Bool) (n : ℕ) (name : List ℕ) → n < 2 ^ 64 → 0 < length name → NoBlanks name
+    → AreWords (named_words negative n name)
+AreWords-named_words negative n name small some clear = AreWords-number_words negative n (counted_name negative n name) small (counted_name_is negative n name some clear)
 
-pub year_words : (months : ℤ) → unsigned_abs months ≤ 2 ^ 63 → AreWords (part_words (is_negative months) (years_of months) (codes "year"))
-year_words months small = AreWords-part_words (is_negative months) (years_of months) (codes "year") (omega arith) (omega arith) (refl, (refl, (refl, (refl, tt))))
+pub year_words : (months : ℤ) → unsigned_abs months ≤ 2 ^ 63 → AreWords (named_words (is_negative months) (years_of months) (codes "year"))
+year_words months small = AreWords-named_words (is_negative months) (years_of months) (codes "year") (omega arith) (omega arith) (refl, (refl, (refl, (refl, tt))))
 
-pub month_words : (months : ℤ) → unsigned_abs months ≤ 2 ^ 63 → AreWords (part_words (is_negative months) (months_of months) (codes "mon"))
-month_words months small = AreWords-part_words (is_negative months) (months_of months) (codes "mon") (omega arith) (omega arith) (refl, (refl, (refl, tt)))
+pub month_words : (months : ℤ) → unsigned_abs months ≤ 2 ^ 63 → AreWords (named_words (is_negative months) (months_of months) (codes "mon"))
+month_words months small = AreWords-named_words (is_negative months) (months_of months) (codes "mon") (omega arith) (omega arith) (refl, (refl, (refl, tt)))
 
-pub day_words : (days : ℤ) → unsigned_abs days ≤ 2 ^ 63 → AreWords (part_words (is_negative days) (unsigned_abs days) (codes "day"))
-day_words days small = AreWords-part_words (is_negative days) (unsigned_abs days) (codes "day") (omega arith) (omega arith) (refl, (refl, (refl, tt)))
+pub day_words : (days : ℤ) → unsigned_abs days ≤ 2 ^ 63 → AreWords (named_words (is_negative days) (unsigned_abs days) (codes "day"))
+day_words days small = AreWords-named_words (is_negative days) (unsigned_abs days) (codes "day") (omega arith) (omega arith) (refl, (refl, (refl, tt)))
 
 -- ---- the word of a clock
 
@@ -63,15 +64,15 @@ unfolding fraction_text
 no_blank-fraction micros small =
     cond_both (micros == 0) _ _ (λ text. NoBlanks text) (λ _. tt) (λ _. no_blanks-append (codes ".") (padded_digits 6 micros) (refl, tt) (no_blank-padded 6 micros small))
 
-no_blank-clock : (width : ℕ) (micros : ℤ) → unsigned_abs micros ≤ 2 ^ 63 → NoBlanks (clock_text width micros)
-unfolding clock_text hours_text
+no_blank-clock : (width : ℕ) (micros : ℤ) → unsigned_abs micros ≤ 2 ^ 63 → NoBlanks (clock_steps width micros)
+unfolding clock_steps hours_text
 no_blank-clock width micros small =
     no_blanks-append (padded_digits width (hours_of micros)) _ (no_blank-padded width (hours_of micros) (omega arith))
     (no_blanks-append (field_text (minutes_of micros)) _ (no_blank-field (minutes_of micros) (omega arith))
     (no_blanks-append (field_text (seconds_of micros)) _ (no_blank-field (seconds_of micros) (omega arith)) (no_blank-fraction (subsecond_of micros) (omega arith))))
 
-clock_some : (width : ℕ) (micros : ℤ) → unsigned_abs micros ≤ 2 ^ 63 → 0 < length (clock_text width micros)
-unfolding clock_text hours_text
+clock_some : (width : ℕ) (micros : ℤ) → unsigned_abs micros ≤ 2 ^ 63 → 0 < length (clock_steps width micros)
+unfolding clock_steps hours_text
 clock_some width micros small =
     omega (arith, length-append (padded_digits width (hours_of micros)) (field_text (minutes_of micros) ++ (field_text (seconds_of micros) ++ fraction_text (subsecond_of micros))), length-padded width (hours_of micros), decimal_nonempty (hours_of micros) (omega arith))
 
@@ -80,8 +81,8 @@ unfolding clock_words
 time_words micros small =
     cond_both (int_eq micros (pos 0)) _ _ AreWords (λ _. tt)
     (λ _. (
-      omega (arith, length-append (minus (is_negative micros)) (clock_text 2 micros), clock_some 2 micros small),
-      no_blanks-append (minus (is_negative micros)) (clock_text 2 micros) (no_blank-minus (is_negative micros)) (no_blank-clock 2 micros small),
+      omega (arith, length-append (minus (is_negative micros)) (clock_steps 2 micros), clock_some 2 micros small),
+      no_blanks-append (minus (is_negative micros)) (clock_steps 2 micros) (no_blank-minus (is_negative micros)) (no_blank-clock 2 micros small),
       tt,
     ))
 

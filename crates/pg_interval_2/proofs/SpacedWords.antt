@@ -2,7 +2,7 @@
 use Rattle.std.proofs.Common.{◌≡◌, ℕ, List, [], ◌∷◌, ◌++◌, refl, sym, ◌∙◌, ap, append_assoc}
 use Rattle.scan_core.specs.Blanks.{words, EndsWord}
 use Rattle.scan_core.proofs.WordFacts.{words-blank}
-use Rattle.pg_interval_2.specs.VerboseText.{behind_spaces}
+use Rattle.pg_interval_2.specs.inside.VerboseSteps.{behind_spaces}
 use Rattle.pg_interval_2.proofs.ItemWords.{words_in_front}
 use Rattle.pg_interval_2.proofs.Spaces.{AreWords}
 

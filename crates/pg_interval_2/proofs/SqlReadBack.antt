@@ -12,10 +12,10 @@ use Rattle.scan_core.proofs.DigitFacts.{number_of-decimal}
 use Rattle.scan_core.proofs.RoundingFacts.{rounded-nil}
 use Rattle.pg_interval_2.specs.declared.interval.Interval.{Interval}
 use Rattle.pg_interval_2.specs.Denotes.{Denotes}
-use Rattle.pg_interval_2.specs.Parts.{has_negative, years_of, months_of}
+use Rattle.pg_interval_2.specs.inside.PartSteps.{has_negative, years_of, months_of}
 use Rattle.pg_interval_2.specs.Ranges.{IsInRange}
 use Rattle.pg_interval_2.specs.Sql.{IsSql}
-use Rattle.pg_interval_2.specs.SqlText.{has_positive, has_all_signs, sql_text}
+use Rattle.pg_interval_2.specs.inside.SqlSteps.{has_positive, has_all_signs, sql_steps}
 use Rattle.pg_interval_2.proofs.AddsUp.{AddsUp-append, AddsUp-same}
 use Rattle.pg_interval_2.proofs.ClockCounts.{field_sum, field_nothing, three_counts, three_counts-sum}
 use Rattle.scan_core.proofs.Signs.{int_eq-zero, Serves, is_negative-pos, abs_fits, signed-abs, signed_two}
@@ -137,11 +137,11 @@ sql-sum t range =
     SumsTo-nil t (int_eq-zero t.months outer.0) (int_eq-zero t.days inner.0) (int_eq-zero t.microseconds inner.1))
     (λ _. cond_both (has_all_signs t.months t.days t.microseconds) _ _ (λ counts. SumsTo counts t) (λ _. signed-sum t range) (λ one. plain-sum t range one))
 
-spelled : (t : Interval) → IsInRange t → IsSql (sql_text t.months t.days t.microseconds) (sql_counts t.months t.days t.microseconds)
+spelled : (t : Interval) → IsInRange t → IsSql (sql_steps t.months t.days t.microseconds) (sql_counts t.months t.days t.microseconds)
 spelled t range = sql_spelled t.months t.days t.microseconds (abs_fits Months t.months (fits_32 t.months range.months)) (abs_fits Days t.days (fits_32 t.days range.days)) (abs_fits Micros t.microseconds (fits_64 t.microseconds range.microseconds))
 
-pub sql_denotes : (t : Interval) → IsInRange t → Denotes IsSql (sql_text t.months t.days t.microseconds) t
+pub sql_denotes : (t : Interval) → IsInRange t → Denotes IsSql (sql_steps t.months t.days t.microseconds) t
 sql_denotes t range = Denotes-SumsTo IsSql _ _ t range (spelled t range) (sql-sum t range)
 
-pub sql_alone : (t u : Interval) → IsInRange t → Denotes IsSql (sql_text t.months t.days t.microseconds) u → u ≡ t
+pub sql_alone : (t u : Interval) → IsInRange t → Denotes IsSql (sql_steps t.months t.days t.microseconds) u → u ≡ t
 sql_alone t u range = alone-SumsTo IsSql _ _ t u (λ others is. one_list _ others _ is (spelled t range)) (sql-sum t range)

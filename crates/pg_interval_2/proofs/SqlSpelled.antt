@@ -10,10 +10,12 @@ use Rattle.scan_core.specs.declared.share.Unit.TheVariants.{Year, Month, Day, Ho
 use Rattle.scan_core.proofs.DigitFacts.{digits_decimal}
 use Rattle.scan_core.proofs.PaddedFacts.{length-padded}
 use Rattle.pg_interval_2.specs.Clock.{IsField}
-use Rattle.pg_interval_2.specs.ClockText.{hours_text, field_text, fraction_text, clock_text}
-use Rattle.pg_interval_2.specs.Parts.{minus, years_of, months_of, hours_of, minutes_of, seconds_of, subsecond_of}
+use Rattle.pg_interval_2.specs.inside.ClockSteps.{hours_text, field_text, fraction_text, clock_steps}
+use Rattle.pg_interval_2.specs.Parts.{minus}
+use Rattle.pg_interval_2.specs.inside.PartSteps.{years_of, months_of, hours_of, minutes_of, seconds_of, subsecond_of}
 use Rattle.pg_interval_2.specs.Sql.{IsSignOr, IsYearMonth, IsDays, IsTime, AreSqlWords, IsSql}
-use Rattle.pg_interval_2.specs.SqlText.{minus_or_plus, has_all_signs, year_month_text, signed_text, months_text, days_text, time_text, plain_text, sql_text}
+use Rattle.pg_interval_2.specs.SqlText.{minus_or_plus}
+use Rattle.pg_interval_2.specs.inside.SqlSteps.{has_all_signs, year_month_text, signed_text, months_text, days_text, time_text, plain_text, sql_steps}
 use Rattle.pg_interval_2.proofs.ClockCounts.{micros_digits, uncut_micros, three_counts}
 use Rattle.pg_interval_2.proofs.PostgresSpelled.{padded_field, fraction_is}
 use Rattle.pg_interval_2.proofs.Spaces.{AreWords, words-join}
@@ -77,8 +79,8 @@ short_micros micros below =
     cond_both (micros == 0) _ _ (λ (digits : List ℕ). length digits ≤ 6) (λ _. omega arith) (λ _. omega (arith, length-padded 6 micros, length_decimal_micros micros below))
 
 time_is : (default negative : Bool) (sign : List ℕ) (micros : ℤ) → IsSignOr default negative sign → unsigned_abs micros ≤ 2 ^ 63
-    → IsTime default (sign ++ clock_text 1 micros) (three_counts negative 1 micros)
-unfolding clock_text hours_text field_text
+    → IsTime default (sign ++ clock_steps 1 micros) (three_counts negative 1 micros)
+unfolding clock_steps hours_text field_text
 time_is default negative sign micros signed small = record {
   negative = negative;
   sign = sign;
@@ -120,7 +122,7 @@ signed_spelled months days micros small_months small_days small_micros =
     let solid_date = year_month_solid _ _ date in
     let solid_day = days_solid _ _ _ day in
     let solid_time = time_solid _ _ _ time in
-    spelled_by ((minus_or_plus (is_negative months) ++ year_month_text months) ∷ (minus_or_plus (is_negative days) ++ decimal (unsigned_abs days)) ∷ (minus_or_plus (is_negative micros) ++ clock_text 1 micros) ∷ []) _
+    spelled_by ((minus_or_plus (is_negative months) ++ year_month_text months) ∷ (minus_or_plus (is_negative days) ++ decimal (unsigned_abs days)) ∷ (minus_or_plus (is_negative micros) ++ clock_steps 1 micros) ∷ []) _
     (solid_date.0, solid_date.1, (solid_day.0, solid_day.1, (solid_time.0, solid_time.1, tt)))
     (record {
       negative = is_negative days;
@@ -148,7 +150,7 @@ days_spelled days micros small_days small_micros =
     let time = time_is (is_negative days) (is_negative days) [] micros (governed (is_negative days)) small_micros in
     let solid_day = days_solid _ _ _ day in
     let solid_time = time_solid _ _ _ time in
-    spelled_by ((minus (is_negative days) ++ decimal (unsigned_abs days)) ∷ clock_text 1 micros ∷ []) _ (solid_day.0, solid_day.1, (solid_time.0, solid_time.1, tt))
+    spelled_by ((minus (is_negative days) ++ decimal (unsigned_abs days)) ∷ clock_steps 1 micros ∷ []) _ (solid_day.0, solid_day.1, (solid_time.0, solid_time.1, tt))
     (record {
       negative = is_negative days;
       day_counts = day_counts (is_negative days) days;
@@ -163,7 +165,7 @@ unfolding time_text
 time_spelled micros small =
     let time = time_is false (is_negative micros) (minus (is_negative micros)) micros (minus_alone (is_negative micros)) small in
     let solid_time = time_solid _ _ _ time in
-    spelled_by ((minus (is_negative micros) ++ clock_text 1 micros) ∷ []) _ (solid_time.0, solid_time.1, tt) (inr time)
+    spelled_by ((minus (is_negative micros) ++ clock_steps 1 micros) ∷ []) _ (solid_time.0, solid_time.1, tt) (inr time)
 
 -- the counts of the written text
 abbrev pub plain_counts : ℤ → ℤ → ℤ → List Count
@@ -183,8 +185,8 @@ plain_spelled months days micros small_months small_days small_micros =
 
 -- the written text spells these counts
 pub sql_spelled : (months days micros : ℤ) → unsigned_abs months ≤ 2 ^ 63 → unsigned_abs days ≤ 2 ^ 63 → unsigned_abs micros ≤ 2 ^ 63
-    → IsSql (sql_text months days micros) (sql_counts months days micros)
-unfolding sql_text
+    → IsSql (sql_steps months days micros) (sql_counts months days micros)
+unfolding sql_steps
 sql_spelled months days micros small_months small_days small_micros =
     cond_two (int_eq months (pos 0) && (int_eq days (pos 0) && int_eq micros (pos 0))) IsSql _ _ _ _ (λ _. inl (refl, refl)) (λ _.
     cond_two (has_all_signs months days micros) IsSql _ _ _ _ (λ _. signed_spelled months days micros small_months small_days small_micros) (λ _. plain_spelled months days micros small_months small_days small_micros))

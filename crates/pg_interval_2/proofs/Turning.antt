@@ -6,7 +6,7 @@ use Rattle.scan_core.specs.declared.share.Unit.{Unit as TimeUnit}
 use Rattle.scan_core.specs.declared.share.Unit.TheVariants.{Hour, Minute, Second}
 use Rattle.pg_interval_2.specs.Clock.{is_nonzero}
 use Rattle.pg_interval_2.specs.inside.ItemReading.{ClockFields, clock_of}
-use Rattle.pg_interval_2.specs.Postgres.{counts_unit, has_distinct_units, place_of}
+use Rattle.pg_interval_2.specs.inside.UnitPlaces.{counts_unit, has_distinct_units, place_of}
 use Rattle.pg_interval_2.specs.Turned.{turned_count, turned_counts, turned_sign}
 
 pub turned-append : (turned : Bool) (xs ys : List Count)

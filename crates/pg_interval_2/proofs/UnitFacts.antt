@@ -2,7 +2,7 @@
 use Rattle.std.proofs.Common.{◌≡◌, ℕ, ◌<◌, ◌==◌, cond, refl, sym, ◌∙◌, ap, arith}
 use Rattle.scan_core.specs.declared.share.Unit.{Unit as TimeUnit}
 use Rattle.scan_core.specs.declared.share.Unit.TheVariants.{Year, Month, Week, Day, Hour, Minute, Second}
-use Rattle.pg_interval_2.specs.Postgres.{place_of}
+use Rattle.pg_interval_2.specs.inside.UnitPlaces.{place_of}
 
 pub place_small : (unit : TimeUnit) → place_of unit < 8
 place_small Year = omega arith
@@ -13,10 +13,10 @@ place_small Hour = omega arith
 place_small Minute = omega arith
 place_small Second = omega arith
 
-unit_at : ℕ → TimeUnit
+pub unit_at : ℕ → TimeUnit
 unit_at n = cond (n == 0) Year (cond (n == 1) Month (cond (n == 2) Week (cond (n == 3) Day (cond (n == 4) Hour (cond (n == 5) Minute Second)))))
 
-at_place : (unit : TimeUnit) → unit_at (place_of unit) ≡ unit
+pub at_place : (unit : TimeUnit) → unit_at (place_of unit) ≡ unit
 unfolding unit_at
 at_place Year = refl
 at_place Month = refl

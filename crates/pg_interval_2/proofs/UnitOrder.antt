@@ -3,7 +3,7 @@ use Rattle.std.proofs.Common.{◌≡◌, ℕ, suc, ◌<◌, ◌≤◌, Bool, tru
 use Rattle.std.proofs.lemmas.Bool.{and_from, ne_eqb}
 use Rattle.std.specs.List.{list_any}
 use Rattle.scan_core.specs.Count.{Count}
-use Rattle.pg_interval_2.specs.Postgres.{place_of, has_distinct_units}
+use Rattle.pg_interval_2.specs.inside.UnitPlaces.{place_of, has_distinct_units}
 
 -- the units' places rise, from this one on
 abbrev pub RisesFrom : ℕ → List Count → Type 0

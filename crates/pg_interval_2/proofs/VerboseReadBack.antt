@@ -13,11 +13,11 @@ use Rattle.scan_core.proofs.DigitFacts.{number_of-decimal}
 use Rattle.scan_core.proofs.TrimmedFacts.{rounded-trimmed}
 use Rattle.pg_interval_2.specs.declared.interval.Interval.{Interval}
 use Rattle.pg_interval_2.specs.Denotes.{Denotes}
-use Rattle.pg_interval_2.specs.Parts.{years_of, months_of, hours_of, minutes_of, seconds_of, subsecond_of}
+use Rattle.pg_interval_2.specs.inside.PartSteps.{years_of, months_of, hours_of, minutes_of, seconds_of, subsecond_of}
 use Rattle.pg_interval_2.specs.Ranges.{IsInRange}
 use Rattle.pg_interval_2.specs.Turned.{turned_sign, turned_count, turned_counts}
 use Rattle.pg_interval_2.specs.Verbose.{IsVerbose}
-use Rattle.pg_interval_2.specs.VerboseText.{has_ago, verbose_text}
+use Rattle.pg_interval_2.specs.inside.VerboseSteps.{has_ago, verbose_steps}
 use Rattle.pg_interval_2.proofs.AddsUp.{AddsUp, AddsUp-one}
 use Rattle.scan_core.proofs.Signs.{int_eq-zero, abs_fits}
 use Rattle.scan_core.proofs.FitFacts.{fits_32, fits_64}
@@ -100,11 +100,11 @@ sums t range =
     (λ _. rw (turned_all (has_ago t.months t.days t.microseconds) t.months t.days t.microseconds) (counts-sum t range))
 
 spelled : (t : Interval) → IsInRange t
-    → IsVerbose (verbose_text t.months t.days t.microseconds) (written_counts t.months t.days t.microseconds)
+    → IsVerbose (verbose_steps t.months t.days t.microseconds) (written_counts t.months t.days t.microseconds)
 spelled t range = verbose_spelled t.months t.days t.microseconds (abs_fits Months t.months (fits_32 t.months range.months)) (abs_fits Days t.days (fits_32 t.days range.days)) (abs_fits Micros t.microseconds (fits_64 t.microseconds range.microseconds))
 
-pub verbose_denotes : (t : Interval) → IsInRange t → Denotes IsVerbose (verbose_text t.months t.days t.microseconds) t
+pub verbose_denotes : (t : Interval) → IsInRange t → Denotes IsVerbose (verbose_steps t.months t.days t.microseconds) t
 verbose_denotes t range = Denotes-SumsTo IsVerbose _ _ t range (spelled t range) (sums t range)
 
-pub verbose_alone : (t u : Interval) → IsInRange t → Denotes IsVerbose (verbose_text t.months t.days t.microseconds) u → u ≡ t
+pub verbose_alone : (t u : Interval) → IsInRange t → Denotes IsVerbose (verbose_steps t.months t.days t.microseconds) u → u ≡ t
 verbose_alone t u range = alone-SumsTo IsVerbose _ _ t u (λ others is. one_list _ others _ is (spelled t range)) (sums t range)

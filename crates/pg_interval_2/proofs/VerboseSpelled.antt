@@ -14,13 +14,17 @@ use Rattle.scan_core.proofs.Joins.{IsJoin-append, IsJoin-one}
 use Rattle.scan_core.proofs.PaddedFacts.{digits-padded}
 use Rattle.scan_core.proofs.TrimmedFacts.{digits-trimmed, trimmed_some}
 use Rattle.scan_core.proofs.WordFacts.{NoBlanks}
-use Rattle.pg_interval_2.specs.Parts.{minus, years_of, months_of, hours_of, minutes_of, seconds_of, subsecond_of}
-use Rattle.pg_interval_2.specs.Postgres.{IsNamed, IsItem, all_counts, has_distinct_units}
-use Rattle.pg_interval_2.specs.PostgresText.{counted_name}
+use Rattle.pg_interval_2.specs.Parts.{minus}
+use Rattle.pg_interval_2.specs.inside.PartSteps.{years_of, months_of, hours_of, minutes_of, seconds_of, subsecond_of}
+use Rattle.pg_interval_2.specs.Postgres.{IsNamed, IsItem, all_counts}
+use Rattle.pg_interval_2.specs.inside.UnitPlaces.{has_distinct_units}
+use Rattle.pg_interval_2.specs.inside.PostgresSteps.{counted_name}
 use Rattle.pg_interval_2.specs.Turned.{turned_sign, turned_counts}
-use Rattle.pg_interval_2.specs.UnitNames.{verbose_names, unit_named}
+use Rattle.pg_interval_2.specs.UnitNames.{verbose_names}
+use Rattle.pg_interval_2.specs.inside.NamedUnits.{unit_named}
 use Rattle.pg_interval_2.specs.Verbose.{IsVerbose}
-use Rattle.pg_interval_2.specs.VerboseText.{behind_spaces, has_ago, unit_words, second_digits, second_words, verbose_date, verbose_time, parts_text, verbose_text}
+use Rattle.pg_interval_2.specs.inside.VerboseSteps.{behind_spaces, has_ago, unit_words, second_digits, second_words, verbose_date, verbose_time, parts_text, verbose_steps}
+use Rattle.pg_interval_2.proofs.UnitsApart.{named_contains, distinct_pairs}
 use Rattle.pg_interval_2.proofs.PostgresSpelled.{counted_unit, part_items, number_join, all_counts-part, all_counts-append}
 use Rattle.pg_interval_2.proofs.PostgresWords.{no_blank-minus, counted_name_is, AreWords-number_words, AreWords-append}
 use Rattle.pg_interval_2.proofs.Spaces.{AreWords}
@@ -115,7 +119,7 @@ second_named negative seconds micros small below some = record {
   number = minus negative ++ second_digits seconds micros;
   name = codes "secs";
   digits = IsNumber-point true negative (decimal seconds) (micros_behind micros) (digits_decimal seconds small) (digits-trimmed (padded_digits 6 micros) (digits-padded 6 micros below)) (trimmed_some 6 micros (positive micros some) below);
-  unit = second_names.1;
+  unit = named_contains verbose_names (codes "secs") Second second_names.1;
   spelled = inl refl;
 }
 
@@ -247,7 +251,7 @@ words_spelled ago months days micros small_months small_days small_micros =
       ago = ago;
       body_counts = verbose_counts ago months days micros;
       framed = record { after = []; blank_before = refl; blank_after = refl; joined = ap (λ (l : List ℕ). 64 ∷ l) (pieces ago months days micros _) ∙ ago_joined ago (behind_spaces all) };
-      spelled = inr (rw (ago_words ago all spells.words) (spells.items, spells.join, sym spells.counted, distinct ago months days micros));
+      spelled = inr (rw (ago_words ago all spells.words) (spells.items, spells.join, sym spells.counted, distinct_pairs _ (distinct ago months days micros)));
       counted = refl;
     }
 
@@ -269,8 +273,8 @@ written_counts months days micros =
     else turned_counts (has_ago months days micros) (verbose_counts (has_ago months days micros) months days micros)
 
 pub verbose_spelled : (months days micros : ℤ) → unsigned_abs months ≤ 2 ^ 63 → unsigned_abs days ≤ 2 ^ 63 → unsigned_abs micros ≤ 2 ^ 63
-    → IsVerbose (verbose_text months days micros) (written_counts months days micros)
-unfolding verbose_text
+    → IsVerbose (verbose_steps months days micros) (written_counts months days micros)
+unfolding verbose_steps
 verbose_spelled months days micros small_months small_days small_micros =
     cond_two (int_eq months (pos 0) && (int_eq days (pos 0) && int_eq micros (pos 0))) IsVerbose _ _ _ _ (λ _. zero_spelled)
     (λ _. words_spelled (has_ago months days micros) months days micros small_months small_days small_micros)

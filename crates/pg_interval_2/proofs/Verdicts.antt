@@ -1,5 +1,5 @@
 -- What words spell: items are gone over, a bad name is found, and what begins no item spells nothing.
-use Rattle.std.proofs.Common.{◌≡◌, if◌then◌else◌, ℕ, ◌+◌, ◌<◌, ◌||◌, ◌==◌, Bool, true, false, not, List, [], ◌∷◌, ◌++◌, length, Some, refl, sym, ◌∙◌, ap, append_assoc, append-nil, arith, inl, inr, lt-ltb}
+use Rattle.std.proofs.Common.{◌≡◌, if◌then◌else◌, ℕ, ◌+◌, ◌<◌, ◌||◌, ◌==◌, Bool, true, false, not, Contains, List, [], ◌∷◌, ◌++◌, length, Some, refl, sym, ◌∙◌, ap, append_assoc, append-nil, arith, inl, inr, lt-ltb}
 use Rattle.std.proofs.lemmas.Bool.Decides.{nat_tests}
 use Rattle.std.proofs.lemmas.List.Folds.{list_any-append}
 use Rattle.std.proofs.lemmas.Bool.{not-true, and_parts, or_parts}
@@ -9,10 +9,11 @@ use Rattle.scan_core.specs.Number.{IsNumber}
 use Rattle.scan_core.specs.declared.share.Unit.{Unit as TimeUnit}
 use Rattle.scan_core.proofs.WordFacts.{total_length, total_length-append}
 use Rattle.pg_interval_2.specs.Clock.{IsClock, clock_counts}
-use Rattle.pg_interval_2.specs.Postgres.{IsItem, all_counts, place_of, counts_unit, has_distinct_units}
+use Rattle.pg_interval_2.specs.Postgres.{IsItem, all_counts}
+use Rattle.pg_interval_2.specs.inside.UnitPlaces.{place_of, counts_unit, has_distinct_units}
 use Rattle.pg_interval_2.specs.inside.Reading.{Numeral, read_number}
 use Rattle.pg_interval_2.specs.inside.ItemReading.{read_item, ClockWord, GluedWord, NumberWord, word_kind, Verdict, Unspelled, judge_unit, judge_word, is_name, verdict}
-use Rattle.pg_interval_2.specs.UnitNames.{unit_named}
+use Rattle.pg_interval_2.specs.inside.NamedUnits.{unit_named}
 use Rattle.pg_interval_2.proofs.Numbers.{finds_number}
 use Rattle.pg_interval_2.proofs.ItemFacts.{AreLetters}
 use Rattle.pg_interval_2.proofs.ItemsInFront.{number_alone, named_read, clock_read}
@@ -22,9 +23,9 @@ use Rattle.pg_interval_2.proofs.ItemsInFront.{number_alone, named_read, clock_re
 abbrev pub Names : Type 0
 Names = TimeUnit → List (List ℕ)
 
--- every name of a unit is letters
+-- every name of a unit is letters, and names no other unit
 abbrev pub AreNames : Names → Type 0
-AreNames names = (word : List ℕ) (unit : TimeUnit) → unit_named names word ≡ Some unit → (0 < length word) × AreLetters word
+AreNames names = (word : List ℕ) (unit : TimeUnit) → Contains (names unit) word → (unit_named names word ≡ Some unit) × (0 < length word) × AreLetters word
 
 pub clock_kind : (word : List ℕ) (counts : List Count) (h : IsClock word counts)
     → word_kind word
@@ -155,8 +156,8 @@ advance_item names letters item more cs counts rest ink (inl (c, named, one)) di
     let fresh = fresh_behind counts c rest both_distinct in
     let name = letters named.name c.unit named.unit in
     elim named.spelled [
-      | inl two ↦ rw (two, one) (named_pair names c named.number named.name more counts ink named.digits named.unit name.0 name.1 fresh ∙ elsewhere names (counts ++ c ∷ []) _ _ more (omega arith))
-      | inr glued ↦ rw (glued, one) (glued_item names c named.number named.name more counts ink named.digits named.unit name.0 name.1 fresh ∙ elsewhere names (counts ++ c ∷ []) _ _ more (omega arith))
+      | inl two ↦ rw (two, one) (named_pair names c named.number named.name more counts ink named.digits name.0 name.1 name.2 fresh ∙ elsewhere names (counts ++ c ∷ []) _ _ more (omega arith))
+      | inr glued ↦ rw (glued, one) (glued_item names c named.number named.name more counts ink named.digits name.0 name.1 name.2 fresh ∙ elsewhere names (counts ++ c ∷ []) _ _ more (omega arith))
     ]
 advance_item names letters item more cs counts rest ink (inr (word, clock, one)) distinct =
     let front = distinct_front (counts ++ cs) rest (ap has_distinct_units (append_assoc counts cs rest) ∙ distinct) in

@@ -13,8 +13,8 @@ use Rattle.scan_core.specs.declared.share.Part.{Part}
 use Rattle.scan_core.specs.declared.share.Part.TheVariants.{Months, Days, Micros}
 use Rattle.pg_interval_2.specs.declared.interval.Interval.{Interval}
 use Rattle.pg_interval_2.specs.Ranges.{IsInRange}
-use Rattle.pg_interval_2.specs.IsoText.{nonzero_digits}
-use Rattle.pg_interval_2.specs.Parts.{years_of, months_of, hours_of, minutes_of, seconds_of, subsecond_of}
+use Rattle.pg_interval_2.specs.inside.IsoSteps.{nonzero_digits}
+use Rattle.pg_interval_2.specs.inside.PartSteps.{years_of, months_of, hours_of, minutes_of, seconds_of, subsecond_of}
 use Rattle.scan_core.proofs.DigitFacts.{number_of-decimal}
 use Rattle.scan_core.proofs.RoundingFacts.{rounded-nil}
 use Rattle.pg_interval_2.proofs.WrittenDigits.{rounded-padded}

@@ -5,7 +5,6 @@ pub mod IsoWithoutWeeks
 pub mod IsoStrict
 pub mod Parts
 pub mod IsoText
-pub mod ClockText
 pub mod PostgresText
 pub mod Ranges
 pub mod Cell

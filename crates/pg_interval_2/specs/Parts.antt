@@ -1,31 +1,51 @@
--- The parts of an interval's numbers, by magnitude: all parts of one number have its sign.
-use Rattle.std.specs.Prelude.{ℕ, ◌/◌, ◌%◌, ℤ, unsigned_abs, Bool, ◌||◌, List, [], codes, if◌then◌else◌}
+-- The parts of an interval as its texts write them: of each of its three numbers a sign, and its parts by magnitude.
+use Rattle.std.specs.Prelude.{ℕ, pos, ◌/◌, ◌%◌, unsigned_abs, Bool, ◌&&◌, List, [], ◌++◌, codes, ◌==◌, if◌then◌else◌}
+use Rattle.std.specs.Ordering.{int_eq}
 use Rattle.std.specs.Int.{is_negative}
+use Rattle.scan_core.specs.Padded.{padded_digits}
+use Rattle.pg_interval_2.specs.declared.interval.Interval.{Interval}
+
+-- years and months of the months, days, and hours, minutes, seconds and microseconds of the microseconds
+pub record Parts : Type 0 where
+  pub months_negative : Bool
+  pub years : ℕ
+  pub months : ℕ
+  pub days_negative : Bool
+  pub days : ℕ
+  pub time_negative : Bool
+  pub hours : ℕ
+  pub minutes : ℕ
+  pub seconds : ℕ
+  pub micros : ℕ
+
+abbrev pub parts_of : Interval → Parts
+parts_of t = record {
+  months_negative = is_negative t.months;
+  years = unsigned_abs t.months / 12;
+  months = unsigned_abs t.months % 12;
+  days_negative = is_negative t.days;
+  days = unsigned_abs t.days;
+  time_negative = is_negative t.microseconds;
+  hours = unsigned_abs t.microseconds / 3_600_000_000;
+  minutes = unsigned_abs t.microseconds / 60_000_000 % 60;
+  seconds = unsigned_abs t.microseconds / 1_000_000 % 60;
+  micros = unsigned_abs t.microseconds % 1_000_000;
+}
+
+-- all three numbers are 0
+abbrev pub is_zero : Interval → Bool
+is_zero t = int_eq t.months (pos 0) && (int_eq t.days (pos 0) && int_eq t.microseconds (pos 0))
 
 -- the minus of a negative number
 abbrev pub minus : Bool → List ℕ
 minus negative = if negative then codes "-" else []
 
--- one of the three numbers is negative
-abbrev pub has_negative : ℤ → ℤ → ℤ → Bool
-has_negative months days micros = is_negative months || (is_negative days || is_negative micros)
-
--- years and months of a number of months
-abbrev pub years_of : ℤ → ℕ
-years_of months = unsigned_abs months / 12
-
-abbrev pub months_of : ℤ → ℕ
-months_of months = unsigned_abs months % 12
-
--- hours, minutes, seconds and microseconds of a number of microseconds
-abbrev pub hours_of : ℤ → ℕ
-hours_of micros = unsigned_abs micros / 3_600_000_000
-
-abbrev pub minutes_of : ℤ → ℕ
-minutes_of micros = unsigned_abs micros / 60_000_000 % 60
-
-abbrev pub seconds_of : ℤ → ℕ
-seconds_of micros = unsigned_abs micros / 1_000_000 % 60
-
-abbrev pub subsecond_of : ℤ → ℕ
-subsecond_of micros = unsigned_abs micros % 1_000_000
+-- the time without its sign, the hours with at least this many digits: `04:05:06`, `04:05:06.500000`
+abbrev pub clock_text : ℕ → Parts → List ℕ
+clock_text width p =
+    padded_digits width p.hours
+    ++ (codes ":"
+    ++ (padded_digits 2 p.minutes
+    ++ (codes ":"
+    ++ (padded_digits 2 p.seconds
+    ++ (if p.micros == 0 then [] else (codes "." ++ padded_digits 6 p.micros))))))

@@ -1,16 +1,15 @@
 -- The `postgres` style, PostgreSQL's own default (its manual, section 8.5.5, "Interval Output"): items with blanks between them,
 -- each a number and the name of a unit, or a clock: `1 year 2 mons 3 days 04:05:06`. No unit is counted twice.
-use Rattle.std.specs.Prelude.{◌≡◌, ◌⊎◌, ℕ, ◌+◌, ◌<◌, length, Bool, true, false, ◌&&◌, not, ◌==◌, IsTrue, List, [], ◌∷◌, ◌++◌, Some}
-use Rattle.std.specs.List.{list_any, list_all}
+use Rattle.std.specs.Prelude.{◌≡◌, ◌≢◌, ◌⊎◌, ℕ, ◌+◌, ◌<◌, length, true, IsTrue, List, [], ◌∷◌, ◌++◌, All, AllPairs, Contains}
+use Rattle.std.specs.List.{list_all}
 use Rattle.std.specs.Char.{is_ascii_alphabetic}
 use Rattle.scan_core.specs.Blanks.{is_blank, words, EndsWord, EndsInBlank}
 use Rattle.scan_core.specs.Count.{Count}
 use Rattle.scan_core.specs.Join.{IsJoin}
 use Rattle.scan_core.specs.Number.{IsNumber}
 use Rattle.scan_core.specs.declared.share.Unit.{Unit as TimeUnit}
-use Rattle.scan_core.specs.declared.share.Unit.TheVariants.{Year, Month, Week, Day, Hour, Minute, Second}
 use Rattle.pg_interval_2.specs.Clock.{IsClock}
-use Rattle.pg_interval_2.specs.UnitNames.{postgres_names, unit_named}
+use Rattle.pg_interval_2.specs.UnitNames.{postgres_names}
 
 -- a number and the name of its unit, as two words or glued into one
 pub record IsNamed (names : TimeUnit → List (List ℕ)) (item : List (List ℕ)) (c : Count)
@@ -18,7 +17,7 @@ pub record IsNamed (names : TimeUnit → List (List ℕ)) (item : List (List ℕ
   pub number : List ℕ
   pub name : List ℕ
   pub digits : IsNumber true c.negative c.whole c.fraction number
-  pub unit : unit_named names name ≡ Some c.unit
+  pub unit : Contains (names c.unit) name
   pub spelled : (item ≡ number ∷ name ∷ []) ⊎ (item ≡ (number ++ name) ∷ [])
 
 -- an item: one count with its unit's name, or a clock
@@ -32,30 +31,11 @@ abbrev pub all_counts : List (List Count) → List Count
 all_counts [] = []
 all_counts (counts ∷ more) = counts ++ all_counts more
 
--- the place of a unit among the seven, the longest first
-abbrev pub place_of : TimeUnit → ℕ
-place_of Year = 0
-place_of Month = 1
-place_of Week = 2
-place_of Day = 3
-place_of Hour = 4
-place_of Minute = 5
-place_of Second = 6
-
--- one of the counts is of the unit
-abbrev pub counts_unit : TimeUnit → List Count → Bool
-counts_unit unit counts = list_any (λ c. place_of c.unit == place_of unit) counts
-
--- no unit is in two of the counts
-abbrev pub has_distinct_units : List Count → Bool
-has_distinct_units [] = true
-has_distinct_units (c ∷ cs) = not (counts_unit c.unit cs) && has_distinct_units cs
-
 -- the words are items, one after the other, with these counts and no unit twice
 abbrev pub AreItems : (TimeUnit → List (List ℕ)) → List (List ℕ) → List Count → Type 0
 AreItems names all counts =
     (items : List (List Count)) × IsJoin (IsItem names) all items × (counts ≡ all_counts items)
-    × IsTrue (has_distinct_units counts)
+    × AllPairs (λ c d. c.unit ≢ d.unit) counts
 
 -- the text is in `postgres` style and spells these counts
 abbrev pub IsPostgres : List ℕ → List Count → Type 0
@@ -64,7 +44,7 @@ IsPostgres text counts = AreItems postgres_names (words text) counts
 -- the letters are a unit's name that no count before has the unit of
 abbrev pub IsFreshName : (TimeUnit → List (List ℕ)) → List Count → List ℕ → Type 0
 IsFreshName names counts letters =
-    (unit : TimeUnit) × (unit_named names letters ≡ Some unit) × (counts_unit unit counts ≡ false)
+    (unit : TimeUnit) × Contains (names unit) letters × All (λ c. c.unit ≢ unit) counts
 
 -- Letters of a text, from start to end, that name no unit or one that was counted before: they stand behind a number, with
 -- blanks between or none, and before these stand items, in which no unit is counted twice.

@@ -43,8 +43,8 @@ not_in IsoStrict = not_iso_strict
 
 -- the written text of an interval
 abbrev pub style_text : Style → Interval → List ℕ
-style_text Iso t = iso_text t.months t.days t.microseconds
-style_text Postgres t = postgres_text t.months t.days t.microseconds
-style_text Verbose t = verbose_text t.months t.days t.microseconds
-style_text Sql t = sql_text t.months t.days t.microseconds
-style_text IsoStrict t = iso_text t.months t.days t.microseconds
+style_text Iso t = iso_text t
+style_text Postgres t = postgres_text t
+style_text Verbose t = verbose_text t
+style_text Sql t = sql_text t
+style_text IsoStrict t = iso_text t

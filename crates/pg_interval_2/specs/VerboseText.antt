@@ -1,65 +1,41 @@
 -- The one text that is written of an interval in `postgres_verbose` style (PostgreSQL's manual, section 8.5.5, "Interval Output"):
--- `@ 1 year 2 mons -3 days 4 hours 5 mins 6.5 secs`, and `@ 0` of zero. Behind the `@` each word stands behind a space.
-use Rattle.std.specs.Prelude.{ℕ, ℤ, pos, unsigned_abs, int_lt, Bool, not, false, List, [], ◌∷◌, ◌++◌, codes, decimal, ◌==◌, ◌&&◌, if◌then◌else◌}
-use Rattle.std.specs.Ordering.{int_eq}
-use Rattle.std.specs.Int.{is_negative}
+-- `@ 1 year 2 mons -3 days 4 hours 5 mins 6.5 secs`, and `@ 0` of zero. It is words with one space between each two.
+use Rattle.std.specs.Prelude.{ℕ, pos, int_lt, Bool, not, false, List, [], ◌∷◌, ◌++◌, codes, decimal, ◌==◌, ◌&&◌, ◌||◌, if◌then◌else◌}
+use Rattle.std.specs.List.{join_with_byte}
 use Rattle.scan_core.specs.Padded.{padded_digits, trimmed_digits}
-use Rattle.pg_interval_2.specs.Parts.{minus, has_negative, years_of, months_of, hours_of, minutes_of, seconds_of, subsecond_of}
-use Rattle.pg_interval_2.specs.PostgresText.{counted_name, number_words}
+use Rattle.pg_interval_2.specs.declared.interval.Interval.{Interval}
+use Rattle.pg_interval_2.specs.Parts.{Parts, parts_of, is_zero, minus}
+use Rattle.pg_interval_2.specs.PostgresText.{part_words}
 use Rattle.pg_interval_2.specs.Turned.{turned_sign}
 
--- each word behind a space
-abbrev pub behind_spaces : List (List ℕ) → List ℕ
-behind_spaces [] = []
-behind_spaces (word ∷ more) = codes " " ++ (word ++ behind_spaces more)
+-- the seconds, whose microseconds are an exact decimal without zeros at its end: `6 secs`, `6.5 secs`
+unfoldable pub second_words : Bool → Parts → List (List ℕ)
+second_words negative p =
+    if p.micros == 0 then part_words false negative p.seconds (codes "sec")
+    else ((minus negative
+    ++ (decimal p.seconds ++ (codes "." ++ trimmed_digits (padded_digits 6 p.micros))))
+    ∷ codes "secs"
+    ∷ [])
 
--- `ago` ends the text, and the sign of each part is turned: one of the three numbers is negative, and the time isn't positive
-unfoldable pub has_ago : ℤ → ℤ → ℤ → Bool
-has_ago months days micros = not (int_lt (pos 0) micros) && has_negative months days micros
+-- one of the three numbers is negative, and the time isn't positive: then `ago` ends the text, and each sign is turned
+abbrev pub has_ago : Interval → Bool
+has_ago t =
+    let p = parts_of t in
+    not (int_lt (pos 0) t.microseconds)
+    && (p.months_negative || (p.days_negative || p.time_negative))
 
--- a part's number and its name, which is singular at 1 and -1, or no words where it is 0
-abbrev pub unit_words : Bool → ℕ → List ℕ → List (List ℕ)
-unit_words negative n name = number_words negative n (counted_name false n name)
-
--- seconds with microseconds as one exact decimal without zeros at its end: `6.5`
-unfoldable pub second_digits : ℕ → ℕ → List ℕ
-second_digits seconds micros =
-    decimal seconds ++ (codes "." ++ trimmed_digits (padded_digits 6 micros))
-
--- the seconds with their microseconds, where these aren't 0
-unfoldable pub second_words : Bool → ℕ → ℕ → List (List ℕ)
-second_words negative seconds micros =
-    if micros == 0 then unit_words negative seconds (codes "sec")
-    else ((minus negative ++ second_digits seconds micros) ∷ codes "secs" ∷ [])
-
--- the years, months and days, each with its sign, turned or not
-unfoldable pub verbose_date : Bool → ℤ → ℤ → List ℕ
-verbose_date ago months days =
-    behind_spaces
-    (unit_words (turned_sign ago (is_negative months)) (years_of months) (codes "year"))
-    ++ (behind_spaces
-    (unit_words (turned_sign ago (is_negative months)) (months_of months) (codes "mon"))
-    ++ behind_spaces
-    (unit_words (turned_sign ago (is_negative days)) (unsigned_abs days) (codes "day")))
-
--- the hours, minutes and seconds, with their sign, turned or not
-unfoldable pub verbose_time : Bool → ℤ → List ℕ
-verbose_time ago micros =
-    behind_spaces
-    (unit_words (turned_sign ago (is_negative micros)) (hours_of micros) (codes "hour"))
-    ++ (behind_spaces
-    (unit_words (turned_sign ago (is_negative micros)) (minutes_of micros) (codes "min"))
-    ++ behind_spaces
-    (second_words (turned_sign ago (is_negative micros)) (seconds_of micros) (subsecond_of micros)))
-
--- the text of an interval that isn't zero
-unfoldable pub parts_text : Bool → ℤ → ℤ → ℤ → List ℕ
-parts_text ago months days micros =
-    codes "@"
-    ++ (verbose_date ago months days
-    ++ (verbose_time ago micros ++ (if ago then codes " ago" else [])))
-
-unfoldable pub verbose_text : ℤ → ℤ → ℤ → List ℕ
-verbose_text months days micros =
-    if int_eq months (pos 0) && (int_eq days (pos 0) && int_eq micros (pos 0)) then codes "@ 0"
-    else parts_text (has_ago months days micros) months days micros
+unfoldable pub verbose_text : Interval → List ℕ
+verbose_text t =
+    let p = parts_of t in
+    let ago = has_ago t in
+    let months_sign = turned_sign ago p.months_negative in
+    let time_sign = turned_sign ago p.time_negative in
+    join_with_byte 32
+    (codes "@"
+    ∷ (if is_zero t then (codes "0" ∷ [])
+    else (part_words false months_sign p.years (codes "year")
+    ++ (part_words false months_sign p.months (codes "mon")
+    ++ (part_words false (turned_sign ago p.days_negative) p.days (codes "day")
+    ++ (part_words false time_sign p.hours (codes "hour")
+    ++ (part_words false time_sign p.minutes (codes "min")
+    ++ (second_words time_sign p ++ (if ago then (codes "ago" ∷ []) else [])))))))))

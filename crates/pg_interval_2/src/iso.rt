@@ -3,6 +3,7 @@ ghost use Rattle.std.specs.Prelude.{◌≡◌, ◌+◌, ◌*◌, ◌-◌, ◌<�
 ghost use Rattle.scan_core.specs.Scanning.{Spends, ahead, unseen};
 ghost use Rattle.pg_interval_2.specs.Denotes.{Denotes, HasNoShape, NoPlace, Refuses};
 ghost use Rattle.pg_interval_2.specs.Iso.{IsIso, unit_in};
+ghost use Rattle.pg_interval_2.specs.inside.IsoShapes.{IsIsoEither};
 ghost use Rattle.pg_interval_2.specs.inside.IsoTally.{IsSpelled, StopsBehindPairs, TakesPairs, ends_pairs};
 ghost use Rattle.pg_interval_2.specs.Messages.{not_iso};
 ghost use Rattle.pg_interval_2.specs.inside.Reading.{IsDecimal, count_with, numeral_in, read_pair};
@@ -115,7 +116,7 @@ fn take_pairs<L: Ledger>(
 #[inline(always)]
 pub(crate) fn spelled<L: Ledger>(text: &Looked<'_>, steps: &mut Steps<L>) -> Option<OrderedTally>
     ensures some { IfSome result (IsSpelled text.now) }
-    ensures none { IfNone result (HasNoShape IsIso text.now) }
+    ensures none { IfNone result (HasNoShape IsIsoEither text.now) }
     ensures most { steps.new ≤ steps.old + 2 * length text.now }
     ensures least { IfSome result (λ _. steps.old + length text.now ≤ steps.new) }
 {
@@ -158,8 +159,8 @@ pub(crate) fn read_iso<L: Ledger>(
     text: &Looked<'_>,
     steps: &mut Steps<L>,
 ) -> Result<Interval, ParseError>
-    ensures ok { IfOk result (λ t. Denotes IsIso text.now t) }
-    ensures err { IfErr result (λ e. Refuses IsIso NoPlace not_iso text.now e) }
+    ensures ok { IfOk result (λ t. Denotes IsIsoEither text.now t) }
+    ensures err { IfErr result (λ e. Refuses IsIsoEither NoPlace not_iso text.now e) }
     ensures most { steps.new ≤ steps.old + 2 * length text.now }
     ensures least { IfOk result (λ _. steps.old + length text.now ≤ steps.new) }
 {

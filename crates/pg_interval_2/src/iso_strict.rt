@@ -2,6 +2,7 @@
 ghost use Rattle.std.specs.Prelude.{◌≡◌, ◌+◌, ◌*◌, ◌≤◌, length, IfSome, IfNone, IfOk, IfErr};
 ghost use Rattle.pg_interval_2.specs.Denotes.{Denotes, HasNoShape, NoPlace, Refuses};
 ghost use Rattle.pg_interval_2.specs.IsoStrict.{IsIsoStrict};
+ghost use Rattle.pg_interval_2.specs.inside.IsoShapes.{IsStrictEither};
 ghost use Rattle.pg_interval_2.specs.Messages.{not_iso_strict};
 ghost use Rattle.pg_interval_2.specs.inside.Tallies.{IsTallyOf};
 
@@ -18,8 +19,8 @@ use std::sync::ledger::{Blank, Ledger};
 /// The tally of the counts that the text spells, or None exactly where it isn't in the style.
 #[inline(always)]
 fn tally_of<L: Ledger>(text: &Looked<'_>, steps: &mut Steps<L>) -> Option<Tally>
-    ensures some { IfSome result (IsTallyOf IsIsoStrict text.now) }
-    ensures none { IfNone result (HasNoShape IsIsoStrict text.now) }
+    ensures some { IfSome result (IsTallyOf IsStrictEither text.now) }
+    ensures none { IfNone result (HasNoShape IsStrictEither text.now) }
     ensures most { steps.new ≤ steps.old + 2 * length text.now }
     ensures least { IfSome result (λ _. steps.old + length text.now ≤ steps.new) }
 {
@@ -40,8 +41,8 @@ pub(crate) fn read_iso_strict<L: Ledger>(
     text: &Looked<'_>,
     steps: &mut Steps<L>,
 ) -> Result<Interval, ParseError>
-    ensures ok { IfOk result (λ t. Denotes IsIsoStrict text.now t) }
-    ensures err { IfErr result (λ e. Refuses IsIsoStrict NoPlace not_iso_strict text.now e) }
+    ensures ok { IfOk result (λ t. Denotes IsStrictEither text.now t) }
+    ensures err { IfErr result (λ e. Refuses IsStrictEither NoPlace not_iso_strict text.now e) }
     ensures most { steps.new ≤ steps.old + 2 * length text.now }
     ensures least { IfOk result (λ _. steps.old + length text.now ≤ steps.new) }
 {

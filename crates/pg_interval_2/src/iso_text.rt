@@ -1,7 +1,8 @@
 //! Written texts in ISO style.
 ghost use Rattle.std.specs.Prelude.{◌≡◌, ◌+◌, ◌≤◌, ◌<◌, ◌++◌, length, codes};
 ghost use Rattle.arrayvec.specs.ArrayString.{array_string_len};
-ghost use Rattle.pg_interval_2.specs.IsoText.{iso_part, nonzero_digits, iso_decimal, iso_seconds, iso_date, iso_time, iso_text};
+ghost use Rattle.pg_interval_2.specs.IsoText.{iso_part};
+ghost use Rattle.pg_interval_2.specs.inside.IsoSteps.{nonzero_digits, iso_decimal, iso_seconds, iso_date, iso_time, iso_steps};
 
 use crate::parts::{
     hours_of, minutes_of, months_of, push_digits, push_fraction, push_minus, seconds_of,
@@ -26,7 +27,7 @@ fn push_part<const CAP: usize>(out: &mut ArrayString<CAP>, negative: bool, value
 }
 
 /// Appends the digits of a number, or nothing where it is 0.
-#[tactic(auto, unfolding(crate::specs::IsoText::nonzero_digits))]
+#[tactic(auto, unfolding(crate::specs::inside::IsoSteps::nonzero_digits))]
 fn push_nonzero<const CAP: usize>(out: &mut ArrayString<CAP>, value: u32)
     requires { array_string_len out.old + 10 ≤ CAP }
     ensures bytes { out.new.bytes ≡ out.old.bytes ++ nonzero_digits value }
@@ -38,7 +39,7 @@ fn push_nonzero<const CAP: usize>(out: &mut ArrayString<CAP>, value: u32)
 }
 
 /// Appends seconds with microseconds that aren't 0.
-#[tactic(auto, unfolding(crate::specs::IsoText::iso_decimal))]
+#[tactic(auto, unfolding(crate::specs::inside::IsoSteps::iso_decimal))]
 fn push_decimal<const CAP: usize>(
     out: &mut ArrayString<CAP>,
     negative: bool,
@@ -57,7 +58,7 @@ fn push_decimal<const CAP: usize>(
 }
 
 /// Appends the seconds, or nothing where they and the microseconds are 0.
-#[tactic(auto, unfolding(crate::specs::IsoText::iso_seconds))]
+#[tactic(auto, unfolding(crate::specs::inside::IsoSteps::iso_seconds))]
 fn push_seconds<const CAP: usize>(
     out: &mut ArrayString<CAP>,
     negative: bool,
@@ -77,7 +78,7 @@ fn push_seconds<const CAP: usize>(
 }
 
 /// Appends the time, or nothing where it is 0.
-#[tactic(auto, unfolding(crate::specs::IsoText::iso_time))]
+#[tactic(auto, unfolding(crate::specs::inside::IsoSteps::iso_time))]
 fn push_time<const CAP: usize>(out: &mut ArrayString<CAP>, micros: i64)
     requires { array_string_len out.old + 44 ≤ CAP }
     ensures bytes { out.new.bytes ≡ out.old.bytes ++ iso_time micros }
@@ -97,7 +98,7 @@ fn push_time<const CAP: usize>(out: &mut ArrayString<CAP>, micros: i64)
 }
 
 /// Appends the years, months and days, each where it isn't 0.
-#[tactic(auto, unfolding(crate::specs::IsoText::iso_date))]
+#[tactic(auto, unfolding(crate::specs::inside::IsoSteps::iso_date))]
 fn push_date<const CAP: usize>(out: &mut ArrayString<CAP>, months: i32, days: i32)
     requires { array_string_len out.old + 36 ≤ CAP }
     ensures bytes { out.new.bytes ≡ out.old.bytes ++ iso_date months days }
@@ -121,10 +122,10 @@ fn push_parts<const CAP: usize>(out: &mut ArrayString<CAP>, months: i32, days: i
 }
 
 /// Appends the text of an interval of these parts: `P1Y1M1DT1H` of 13, 1 and 3_600_000_000.
-#[tactic(auto, unfolding(crate::specs::IsoText::iso_text))]
+#[tactic(auto, unfolding(crate::specs::inside::IsoSteps::iso_steps))]
 pub fn push_iso<const CAP: usize>(out: &mut ArrayString<CAP>, months: i32, days: i32, micros: i64)
     requires { array_string_len out.old + 96 ≤ CAP }
-    ensures bytes { out.new.bytes ≡ out.old.bytes ++ iso_text months days micros }
+    ensures bytes { out.new.bytes ≡ out.old.bytes ++ iso_steps months days micros }
     ensures len { array_string_len out.new ≤ array_string_len out.old + 96 }
 {
     if months == 0 && days == 0 && micros == 0 {

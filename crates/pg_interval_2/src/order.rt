@@ -2,7 +2,7 @@
 ghost use Rattle.std.specs.Prelude.{◌≡◌, ◌++◌, ◌∷◌, ◌&&◌, not, true, false, [], Bool, List};
 ghost use Rattle.scan_core.specs.Count.{Count};
 ghost use Rattle.pg_interval_2.specs.inside.Orders.{Orders, end_place, first_place, is_kept, place_behind};
-ghost use Rattle.pg_interval_2.specs.Postgres.{place_of};
+ghost use Rattle.pg_interval_2.specs.inside.UnitPlaces.{place_of};
 
 use crate::units::place_of;
 use scan_core::Unit;

@@ -3,7 +3,8 @@ ghost use Rattle.std.specs.Prelude.{◌≡◌, ◌+◌, ◌≤◌, ◌<◌, ◌+
 ghost use Rattle.arrayvec.specs.ArrayString.{array_string_len};
 ghost use Rattle.scan_core.specs.Padded.{padded_digits};
 ghost use Rattle.pg_interval_2.specs.Turned.{turned_sign};
-ghost use Rattle.pg_interval_2.specs.Parts.{minus, has_negative, years_of, months_of, hours_of, minutes_of, seconds_of, subsecond_of};
+ghost use Rattle.pg_interval_2.specs.Parts.{minus};
+ghost use Rattle.pg_interval_2.specs.inside.PartSteps.{has_negative, years_of, months_of, hours_of, minutes_of, seconds_of, subsecond_of};
 
 use arrayvec::ArrayString;
 use scan_core::{push_num, push_padded, push_text};

@@ -2,7 +2,7 @@
 ghost use Rattle.std.specs.Prelude.{◌≡◌, ◌+◌, ◌≤◌, ◌++◌, ◌||◌, length};
 ghost use Rattle.std.specs.List.{join_with_byte};
 ghost use Rattle.arrayvec.specs.ArrayString.{array_string_len};
-ghost use Rattle.pg_interval_2.specs.PostgresText.{counted_name, part_words, clock_words, postgres_words, postgres_text};
+ghost use Rattle.pg_interval_2.specs.inside.PostgresSteps.{counted_name, named_words, clock_words, postgres_words, postgres_steps};
 ghost use Rattle.pg_interval_2.specs.inside.Writing.{has_words, space_behind, words_behind};
 
 use crate::clock_text::push_clock;
@@ -22,7 +22,7 @@ fn push_space<const CAP: usize>(out: &mut ArrayString<CAP>, words: bool)
 }
 
 /// Appends the name that stands behind a number: singular at 1 alone.
-#[tactic(auto, unfolding(crate::specs::PostgresText::counted_name))]
+#[tactic(auto, unfolding(crate::specs::inside::PostgresSteps::counted_name))]
 pub fn push_name<const CAP: usize>(
     out: &mut ArrayString<CAP>,
     negative: bool,
@@ -41,7 +41,7 @@ pub fn push_name<const CAP: usize>(
 }
 
 /// Appends a number with its minus and its name, or nothing where it is 0, and answers whether words stand there now.
-#[tactic(auto, unfolding(crate::specs::PostgresText::number_words))]
+#[tactic(auto, unfolding(crate::specs::inside::PostgresSteps::number_words))]
 fn push_part<const CAP: usize>(
     out: &mut ArrayString<CAP>,
     words: bool,
@@ -52,8 +52,8 @@ fn push_part<const CAP: usize>(
     requires name { length name.now ≤ 4 }
     requires room { array_string_len out.old + 18 ≤ CAP }
     ensures bytes { out.new.bytes
-        ≡ out.old.bytes ++ words_behind words (part_words negative value name.now) }
-    ensures words { result ≡ (words || has_words (part_words negative value name.now)) }
+        ≡ out.old.bytes ++ words_behind words (named_words negative value name.now) }
+    ensures words { result ≡ (words || has_words (named_words negative value name.now)) }
     ensures len { array_string_len out.new ≤ array_string_len out.old + 18 }
 {
     if value == 0 {
@@ -68,7 +68,7 @@ fn push_part<const CAP: usize>(
 }
 
 /// Appends the time with its minus, or nothing where it is 0.
-#[tactic(auto, unfolding(crate::specs::PostgresText::clock_words))]
+#[tactic(auto, unfolding(crate::specs::inside::PostgresSteps::clock_words))]
 fn push_time<const CAP: usize>(out: &mut ArrayString<CAP>, words: bool, micros: i64)
     requires { array_string_len out.old + 25 ≤ CAP }
     ensures bytes { out.new.bytes ≡ out.old.bytes ++ words_behind words (clock_words micros) }
@@ -96,7 +96,7 @@ fn push_words<const CAP: usize>(out: &mut ArrayString<CAP>, months: i32, days: i
 }
 
 /// Appends the text of an interval of these parts: `1 year 1 mon 1 day 01:00:00` of 13, 1 and 3_600_000_000.
-#[tactic(auto, unfolding(crate::specs::PostgresText::postgres_text))]
+#[tactic(auto, unfolding(crate::specs::inside::PostgresSteps::postgres_steps))]
 pub fn push_postgres<const CAP: usize>(
     out: &mut ArrayString<CAP>,
     months: i32,
@@ -104,7 +104,7 @@ pub fn push_postgres<const CAP: usize>(
     micros: i64,
 )
     requires { array_string_len out.old + 96 ≤ CAP }
-    ensures bytes { out.new.bytes ≡ out.old.bytes ++ postgres_text months days micros }
+    ensures bytes { out.new.bytes ≡ out.old.bytes ++ postgres_steps months days micros }
     ensures len { array_string_len out.new ≤ array_string_len out.old + 96 }
 {
     if months == 0 && days == 0 && micros == 0 {

@@ -2,7 +2,8 @@
 ghost use Rattle.std.specs.Prelude.{◌≡◌, ◌+◌, ◌≤◌, ◌++◌, codes, unsigned_abs};
 ghost use Rattle.std.specs.Int.{is_negative};
 ghost use Rattle.arrayvec.specs.ArrayString.{array_string_len};
-ghost use Rattle.pg_interval_2.specs.SqlText.{minus_or_plus, has_positive, has_all_signs, year_month_text, signed_text, months_text, days_text, time_text, plain_text, sql_text};
+ghost use Rattle.pg_interval_2.specs.SqlText.{minus_or_plus};
+ghost use Rattle.pg_interval_2.specs.inside.SqlSteps.{has_positive, has_all_signs, year_month_text, signed_text, months_text, days_text, time_text, plain_text, sql_steps};
 
 use crate::clock_text::push_clock;
 use crate::parts::{has_negative, months_of, push_digits, push_minus, years_of};
@@ -23,7 +24,7 @@ fn push_sign<const CAP: usize>(out: &mut ArrayString<CAP>, negative: bool)
 }
 
 /// Appends years, a minus and months, by magnitude.
-#[tactic(auto, unfolding(crate::specs::SqlText::year_month_text))]
+#[tactic(auto, unfolding(crate::specs::inside::SqlSteps::year_month_text))]
 fn push_year_month<const CAP: usize>(out: &mut ArrayString<CAP>, months: i32)
     requires { array_string_len out.old + 21 ≤ CAP }
     ensures bytes { out.new.bytes ≡ out.old.bytes ++ year_month_text months }
@@ -43,7 +44,7 @@ fn has_positive(months: i32, days: i32, micros: i64) -> bool
 
 /// Whether each number has a sign of its own in the text: two of them have opposite signs, or months stand beside days or
 /// time.
-#[tactic(auto, unfolding(crate::specs::SqlText::has_all_signs))]
+#[tactic(auto, unfolding(crate::specs::inside::SqlSteps::has_all_signs))]
 fn has_all_signs(months: i32, days: i32, micros: i64) -> bool
     ensures { result ≡ has_all_signs months days micros }
 {
@@ -70,7 +71,7 @@ fn push_signed<const CAP: usize>(out: &mut ArrayString<CAP>, months: i32, days: 
 }
 
 /// Appends months alone.
-#[tactic(auto, unfolding(crate::specs::SqlText::months_text))]
+#[tactic(auto, unfolding(crate::specs::inside::SqlSteps::months_text))]
 fn push_months<const CAP: usize>(out: &mut ArrayString<CAP>, months: i32)
     requires { array_string_len out.old + 96 ≤ CAP }
     ensures bytes { out.new.bytes ≡ out.old.bytes ++ months_text months }
@@ -81,7 +82,7 @@ fn push_months<const CAP: usize>(out: &mut ArrayString<CAP>, months: i32)
 }
 
 /// Appends days and the time, whose sign is that of the days.
-#[tactic(auto, unfolding(crate::specs::SqlText::days_text))]
+#[tactic(auto, unfolding(crate::specs::inside::SqlSteps::days_text))]
 fn push_days<const CAP: usize>(out: &mut ArrayString<CAP>, days: i32, micros: i64)
     requires { array_string_len out.old + 96 ≤ CAP }
     ensures bytes { out.new.bytes ≡ out.old.bytes ++ days_text days micros }
@@ -94,7 +95,7 @@ fn push_days<const CAP: usize>(out: &mut ArrayString<CAP>, days: i32, micros: i6
 }
 
 /// Appends the time alone.
-#[tactic(auto, unfolding(crate::specs::SqlText::time_text))]
+#[tactic(auto, unfolding(crate::specs::inside::SqlSteps::time_text))]
 fn push_time<const CAP: usize>(out: &mut ArrayString<CAP>, micros: i64)
     requires { array_string_len out.old + 96 ≤ CAP }
     ensures bytes { out.new.bytes ≡ out.old.bytes ++ time_text micros }
@@ -105,7 +106,7 @@ fn push_time<const CAP: usize>(out: &mut ArrayString<CAP>, micros: i64)
 }
 
 /// Appends the text in which one sign serves all.
-#[tactic(auto, unfolding(crate::specs::SqlText::plain_text))]
+#[tactic(auto, unfolding(crate::specs::inside::SqlSteps::plain_text))]
 fn push_plain<const CAP: usize>(out: &mut ArrayString<CAP>, months: i32, days: i32, micros: i64)
     requires { array_string_len out.old + 96 ≤ CAP }
     ensures bytes { out.new.bytes ≡ out.old.bytes ++ plain_text months days micros }
@@ -121,10 +122,10 @@ fn push_plain<const CAP: usize>(out: &mut ArrayString<CAP>, months: i32, days: i
 }
 
 /// Appends the text of an interval of these parts: `+1-1 +1 +1:00:00` of 13, 1 and 3_600_000_000.
-#[tactic(auto, unfolding(crate::specs::SqlText::sql_text))]
+#[tactic(auto, unfolding(crate::specs::inside::SqlSteps::sql_steps))]
 pub fn push_sql<const CAP: usize>(out: &mut ArrayString<CAP>, months: i32, days: i32, micros: i64)
     requires { array_string_len out.old + 96 ≤ CAP }
-    ensures bytes { out.new.bytes ≡ out.old.bytes ++ sql_text months days micros }
+    ensures bytes { out.new.bytes ≡ out.old.bytes ++ sql_steps months days micros }
     ensures len { array_string_len out.new ≤ array_string_len out.old + 96 }
 {
     if months == 0 && days == 0 && micros == 0 {

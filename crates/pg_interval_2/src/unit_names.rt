@@ -3,7 +3,7 @@ ghost use Rattle.std.specs.Prelude.{◌≡◌, ◌^◌, List, ℕ, IsTrue};
 ghost use Rattle.std.specs.Char.{is_ascii_alphabetic};
 ghost use Rattle.std.specs.List.{list_all};
 ghost use Rattle.scan_core.specs.Runs.{Knows, packed};
-ghost use Rattle.pg_interval_2.specs.UnitNames.{unit_named};
+ghost use Rattle.pg_interval_2.specs.inside.NamedUnits.{unit_named};
 ghost use Rattle.pg_interval_2.specs.inside.NameSets.{is_packed, names_in, unit_packed};
 ghost use Rattle.scan_core.specs.declared.share.Unit.TheVariants.{Minute, Second};
 

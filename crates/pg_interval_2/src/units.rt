@@ -1,6 +1,6 @@
 //! The set of units that a text has counted.
 ghost use Rattle.std.specs.Prelude.{◌≡◌};
-ghost use Rattle.pg_interval_2.specs.Postgres.{place_of};
+ghost use Rattle.pg_interval_2.specs.inside.UnitPlaces.{place_of};
 
 use scan_core::Unit;
 
@@ -14,7 +14,7 @@ pub(crate) struct Units {
 impl Units {
     ghost use Rattle.std.specs.Prelude.{◌≡◌, ◌≢◌, true, false};
     ghost use Rattle.scan_core.specs.declared.share.Unit.{Unit as TimeUnit};
-    ghost use Rattle.pg_interval_2.specs.Postgres.{place_of};
+    ghost use Rattle.pg_interval_2.specs.inside.UnitPlaces.{place_of};
     ghost use Rattle.pg_interval_2.specs.inside.UnitSets.{holds_unit};
 
     /// No unit.

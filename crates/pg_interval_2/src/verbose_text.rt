@@ -1,7 +1,7 @@
 //! Texts in `postgres_verbose` style: `@ 1 year 2 mons -3 days 4 hours 5 mins 6.5 secs ago`.
 ghost use Rattle.std.specs.Prelude.{◌≡◌, ◌+◌, ◌<◌, ◌≤◌, ◌++◌, length};
 ghost use Rattle.arrayvec.specs.ArrayString.{array_string_len};
-ghost use Rattle.pg_interval_2.specs.VerboseText.{behind_spaces, has_ago, unit_words, second_digits, second_words, verbose_date, verbose_time, parts_text, verbose_text};
+ghost use Rattle.pg_interval_2.specs.inside.VerboseSteps.{behind_spaces, has_ago, unit_words, second_digits, second_words, verbose_date, verbose_time, parts_text, verbose_steps};
 
 use crate::parts::{
     has_negative, hours_of, minutes_of, months_of, push_digits, push_minus, seconds_of,
@@ -12,7 +12,7 @@ use arrayvec::ArrayString;
 use scan_core::{push_text, push_trimmed};
 
 /// Whether ` ago` ends the text, and the sign of each part is turned.
-#[tactic(auto, unfolding(crate::specs::VerboseText::has_ago))]
+#[tactic(auto, unfolding(crate::specs::inside::VerboseSteps::has_ago))]
 fn has_ago(months: i32, days: i32, micros: i64) -> bool
     ensures { result ≡ has_ago months days micros }
 {
@@ -20,7 +20,7 @@ fn has_ago(months: i32, days: i32, micros: i64) -> bool
 }
 
 /// Appends a part's number and its name, each behind a space, or nothing where it is 0.
-#[tactic(auto, unfolding(crate::specs::PostgresText::number_words))]
+#[tactic(auto, unfolding(crate::specs::inside::PostgresSteps::number_words))]
 fn push_unit<const CAP: usize>(out: &mut ArrayString<CAP>, negative: bool, value: u32, name: &str)
     requires name { length name.now ≤ 4 }
     requires room { array_string_len out.old + 18 ≤ CAP }
@@ -39,7 +39,7 @@ fn push_unit<const CAP: usize>(out: &mut ArrayString<CAP>, negative: bool, value
 }
 
 /// Appends seconds with microseconds as one exact decimal.
-#[tactic(auto, using(crate::proofs::Widths::length_decimal_micros), unfolding(crate::specs::VerboseText::second_digits))]
+#[tactic(auto, using(crate::proofs::Widths::length_decimal_micros), unfolding(crate::specs::inside::VerboseSteps::second_digits))]
 fn push_decimal<const CAP: usize>(out: &mut ArrayString<CAP>, seconds: u32, micros: u32)
     requires seconds { seconds < 60 }
     requires micros { micros < 1_000_000 }
@@ -53,7 +53,7 @@ fn push_decimal<const CAP: usize>(out: &mut ArrayString<CAP>, seconds: u32, micr
 }
 
 /// Appends the seconds with their microseconds, or nothing where they are 0.
-#[tactic(auto, unfolding(crate::specs::VerboseText::second_words))]
+#[tactic(auto, unfolding(crate::specs::inside::VerboseSteps::second_words))]
 fn push_seconds<const CAP: usize>(
     out: &mut ArrayString<CAP>,
     negative: bool,
@@ -95,7 +95,7 @@ fn push_date<const CAP: usize>(out: &mut ArrayString<CAP>, ago: bool, months: i3
 }
 
 /// Appends the hours, minutes and seconds, with their sign, turned or not.
-#[tactic(auto, unfolding(crate::specs::VerboseText::verbose_time))]
+#[tactic(auto, unfolding(crate::specs::inside::VerboseSteps::verbose_time))]
 fn push_time<const CAP: usize>(out: &mut ArrayString<CAP>, ago: bool, micros: i64)
     requires { array_string_len out.old + 47 ≤ CAP }
     ensures bytes { out.new.bytes ≡ out.old.bytes ++ verbose_time ago micros }
@@ -108,7 +108,7 @@ fn push_time<const CAP: usize>(out: &mut ArrayString<CAP>, ago: bool, micros: i6
 }
 
 /// Appends the text of an interval that isn't zero.
-#[tactic(auto, unfolding(crate::specs::VerboseText::parts_text))]
+#[tactic(auto, unfolding(crate::specs::inside::VerboseSteps::parts_text))]
 fn push_parts<const CAP: usize>(
     out: &mut ArrayString<CAP>,
     ago: bool,
@@ -129,7 +129,7 @@ fn push_parts<const CAP: usize>(
 }
 
 /// Appends the text of an interval of these parts: `@ 1 year 1 mon 1 day 1 hour` of 13, 1 and 3_600_000_000.
-#[tactic(auto, unfolding(crate::specs::VerboseText::verbose_text))]
+#[tactic(auto, unfolding(crate::specs::inside::VerboseSteps::verbose_steps))]
 pub fn push_verbose<const CAP: usize>(
     out: &mut ArrayString<CAP>,
     months: i32,
@@ -137,7 +137,7 @@ pub fn push_verbose<const CAP: usize>(
     micros: i64,
 )
     requires { array_string_len out.old + 96 ≤ CAP }
-    ensures bytes { out.new.bytes ≡ out.old.bytes ++ verbose_text months days micros }
+    ensures bytes { out.new.bytes ≡ out.old.bytes ++ verbose_steps months days micros }
     ensures len { array_string_len out.new ≤ array_string_len out.old + 96 }
 {
     if months == 0 && days == 0 && micros == 0 {

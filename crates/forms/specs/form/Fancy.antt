@@ -1,19 +1,13 @@
--- Short durations, as the crate `fancy-duration` has them: the strict texts, whose sum is a length.
-use Rattle.std.specs.Prelude.{ℕ, ◌*◌, ◌^◌, ◌==◌, ◌&&◌, Bool, List, ℤ, pos, negsuc, Result, Ok, Err, nat_lt, if◌then◌else◌}
+-- Short durations, as the crate `fancy-duration` has them: what a strict text spells is a length.
+use Rattle.std.specs.Prelude.{ℕ, ◌*◌, ◌^◌, ◌==◌, ◌&&◌, Bool, ℤ, pos, negsuc, Result, Ok, Err, nat_lt, if◌then◌else◌}
 use Rattle.std.specs.Ordering.{int_eq}
 use Rattle.fancy_duration.specs.Breakdown.{count_of}
-use Rattle.fancy_duration.specs.Strict.{IsStrict}
-use Rattle.fancy_duration.specs.Sums.{SumsTo}
 use Rattle.fancy_duration.specs.declared.part.DurationPart.TheVariants.{Months, Weeks, Days, Hours, Minutes}
 use Rattle.forms.specs.declared.cause.Cause.{Cause}
 use Rattle.forms.specs.declared.cause.Cause.TheVariants.{Range, Kind, Ambiguous}
 use Rattle.forms.specs.declared.value.Value.{Value}
 use Rattle.forms.specs.declared.value.Value.TheVariants.{Triple, Length}
 use Rattle.forms.specs.Values.{nanos_of}
-
--- counts, units and blanks alone, and the nanoseconds that they make
-abbrev pub Spells : List ℕ → ℕ → Type 0
-Spells text nanos = IsStrict text × SumsTo text nanos
 
 -- the length of fewer than 2^64 seconds
 unfoldable pub worth : ℕ → Result Value Cause

@@ -1,7 +1,5 @@
 -- Dates of ISO 8601: a day of the years -9999 to 9999, by month, by week or by its number in the year.
-use Rattle.std.specs.Prelude.{◌≡◌, ℕ, List, Result, Ok, Err}
-use Rattle.jiff_core.specs.Date.{epoch_day}
-use Rattle.jiff_core.specs.declared.civil.date.Date.{Date as CivilDate}
+use Rattle.std.specs.Prelude.{◌≡◌, ℕ, ◌≤◌, ℤ, unsigned_abs, List, Result, Ok, Err}
 use Rattle.iso8601.specs.Calendar.{day_of, Exists, IsCivilDay}
 use Rattle.iso8601.specs.Dates.{IsDate}
 use Rattle.iso8601.specs.declared.types.Date.{Date}
@@ -19,11 +17,10 @@ Spells = IsDate
 abbrev pub Worth : Date → Result Value Cause → Type 0
 Worth date = Judged (Exists date) (IsCivilDay (day_of date)) (Day (day_of date))
 
--- by year, month and day
-abbrev pub date_of : CivilDate → Date
-date_of d = YMD d.year d.month d.day
-
--- the civil date with this day
+-- the date by year, month and day that there is in the years -9999 to 9999 with this day
 abbrev pub Holds : Value → Result Date Cause → Type 0
-Holds (Day day) held = (d : CivilDate) × (epoch_day d ≡ day) × (held ≡ Ok (date_of d))
+Holds (Day day) held =
+    (year : ℤ) × (month : ℕ) × (n : ℕ)
+    × (unsigned_abs year ≤ 9999) × Exists (YMD year month n) × (day_of (YMD year month n) ≡ day)
+    × (held ≡ Ok (YMD year month n))
 Holds _ held = held ≡ Err Kind

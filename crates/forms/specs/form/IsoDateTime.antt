@@ -1,10 +1,9 @@
 -- Date-times of ISO 8601: a moment of the years -9999 to 9999 to the millisecond; one without an offset is in UTC.
-use Rattle.std.specs.Prelude.{◌≡◌, ◌⊎◌, ℕ, ◌+◌, ◌*◌, ◌/◌, ◌%◌, ◌<◌, ◌==◌, List, ℤ, pos, ◌+ℤ◌, ◌-ℤ◌, ◌*ℤ◌, unsigned_abs, Result, Ok, Err, if◌then◌else◌}
-use Rattle.jiff_core.specs.DateTime.{civil_nanos, IsCivilNanos}
-use Rattle.jiff_core.specs.declared.civil.datetime.DateTime.{DateTime as CivilDateTime}
+use Rattle.std.specs.Prelude.{◌≡◌, ◌⊎◌, ℕ, ◌+◌, ◌*◌, ◌<◌, ◌≤◌, ◌==◌, List, ℤ, pos, ◌+ℤ◌, ◌-ℤ◌, ◌*ℤ◌, unsigned_abs, Result, Ok, Err, if◌then◌else◌}
 use Rattle.iso8601.specs.Calendar.{day_of, Exists, IsCivilDay}
 use Rattle.iso8601.specs.DateTimes.{IsDateTime}
 use Rattle.iso8601.specs.Moments.{IsOnClock, offset_of}
+use Rattle.iso8601.specs.declared.types.Date.TheVariants.{YMD}
 use Rattle.iso8601.specs.declared.types.Time.{Time}
 use Rattle.iso8601.specs.declared.types.DateTime.{DateTime}
 use Rattle.forms.specs.declared.cause.Cause.{Cause}
@@ -12,7 +11,6 @@ use Rattle.forms.specs.declared.cause.Cause.TheVariants.{Range, Kind, Precision}
 use Rattle.forms.specs.declared.value.Value.{Value}
 use Rattle.forms.specs.declared.value.Value.TheVariants.{Instant}
 use Rattle.forms.specs.Answers.{Judged}
-use Rattle.forms.specs.form.IsoDate.{date_of}
 
 abbrev pub Spells : List ℕ → DateTime → Type 0
 Spells = IsDateTime
@@ -40,27 +38,24 @@ Worth t = Judged (IsReal t) (IsCivilDay (day_of t.date)) (Instant (instant_of t)
 
 -- ---- writing
 
--- with offset `+00:00`
-abbrev pub utc : CivilDateTime → DateTime
-utc c = record {
-  date = date_of c.date;
-  time = record {
-    hour = c.time.hour;
-    minute = c.time.minute;
-    second = c.time.second;
-    millisecond = c.time.subsec_nanosecond / 1_000_000;
-    tz_offset_hours = pos 0;
-    tz_offset_minutes = pos 0;
-  };
-}
+-- The moment is in the millisecond of the date-time, so many nanoseconds into it; the date-time is in UTC, by year, month and day, and
+-- of the years -9999 to 9999.
+pub record IsAt (nanos : ℤ) (t : DateTime) (part : ℕ) : Type 0 where
+  pub year : ℤ
+  pub month : ℕ
+  pub day : ℕ
+  pub date : t.date ≡ YMD year month day
+  pub years : unsigned_abs year ≤ 9999
+  pub hours : t.time.tz_offset_hours ≡ pos 0
+  pub minutes : t.time.tz_offset_minutes ≡ pos 0
+  pub real : IsReal t
+  pub below : part < 1_000_000
+  pub same : instant_of t +ℤ pos part ≡ nanos
 
--- the same, where the milliseconds are whole
-unfoldable pub in_millis : CivilDateTime → Result DateTime Cause
-in_millis c = if (c.time.subsec_nanosecond % 1_000_000 == 0) then Ok (utc c) else Err Precision
-
--- the civil date-time in UTC of the moment, or `Range` where the civil years have none
+-- the date-time at the moment, where its milliseconds are whole, or `Range` where there is none
 abbrev pub Holds : Value → Result DateTime Cause → Type 0
 Holds (Instant nanos) held =
-    ((c : CivilDateTime) × (civil_nanos c ≡ nanos) × (held ≡ in_millis c))
-    ⊎ ((IsCivilNanos nanos → ⊥) × (held ≡ Err Range))
+    ((t : DateTime) × (part : ℕ) × IsAt nanos t part
+    × (held ≡ (if part == 0 then Ok t else Err Precision)))
+    ⊎ (((t : DateTime) (part : ℕ) → IsAt nanos t part → ⊥) × (held ≡ Err Range))
 Holds _ held = held ≡ Err Kind

@@ -1,7 +1,8 @@
 -- Date-times of TOML 1.1: a date-time with an offset is a moment, one without is local, and a date or a time may stand alone.
 use Rattle.std.specs.Prelude.{◌≡◌, ◌⊎◌, ℕ, ◌+◌, ◌*◌, ◌/◌, ◌%◌, ◌==◌, List, ℤ, pos, ◌+ℤ◌, ◌-ℤ◌, ◌*ℤ◌, unsigned_abs, Option, Some, None, unwrap_or, Result, Ok, Err, if◌then◌else◌}
 use Rattle.std.specs.Int.{int_div_euclid, int_rem_euclid}
-use Rattle.jiff_core.specs.Calendar.{days_from_civil}
+use Rattle.iso8601.specs.Calendar.{day_of as calendar_day}
+use Rattle.iso8601.specs.declared.types.Date.TheVariants.{YMD}
 use Rattle.port_toml_datetime.specs.Datetimes.{IsDatetime, datetime_of}
 use Rattle.port_toml_datetime.specs.WellFormed.{IsRealDay}
 use Rattle.port_toml_datetime.specs.declared.date.Date.{Date}
@@ -20,9 +21,9 @@ Spells = IsDatetime
 
 -- ---- reading
 
--- the number of a date's day
+-- the number of a date's day, by the calendar of ISO 8601
 abbrev pub day_of : Date → ℤ
-day_of d = days_from_civil (pos d.year) d.month d.day
+day_of d = calendar_day (YMD (pos d.year) d.month d.day)
 
 -- nanoseconds since midnight, where seconds and nanoseconds that aren't written are 0
 abbrev pub clock_of : Time → ℕ

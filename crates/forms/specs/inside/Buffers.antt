@@ -1,6 +1,6 @@
 -- The next reply that goes into a buffer: cited by private contracts alone.
 use Rattle.std.specs.Prelude.{◌≡◌, ℕ, ◌+◌, ◌-◌, ◌≤◌, List, ◌++◌, codes, length, take, drop}
-use Rattle.forms.specs.Replies.{IsReplyLine}
+use Rattle.forms.specs.Buffers.{IsReplyLine}
 use Rattle.forms.specs.inside.Pieces.{NoFeed}
 
 -- the reply to the first whole line with its line feed, for which there is room, and what follows that line

@@ -3,7 +3,7 @@ use Rattle.std.specs.Prelude.{◌≡◌, ℕ, List, [], ◌++◌, codes, Option,
 use Rattle.std.specs.Io.KnownBytes.{Appends}
 use Rattle.forms.specs.declared.form.Form.{Form}
 use Rattle.forms.specs.Names.{name_of}
-use Rattle.forms.specs.Replies.{IsReplyLine}
+use Rattle.forms.specs.Buffers.{IsReplyLine}
 
 -- what follows a word: nothing, or a space and the rest
 abbrev pub behind : Option (List ℕ) → List ℕ

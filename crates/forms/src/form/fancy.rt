@@ -22,6 +22,7 @@ const NANOSECONDS_A_SECOND: u128 = 1_000_000_000;
 pub fn read(text: &str) -> Result<Value, Cause>
     ensures { Reads AnyForm.Fancy text.now result }
 {
+    fancy_duration::laws::strict_texts_spell_their_sums();
     if !FancyDuration::<Duration>::is_fancy_text(text) {
         return Err(Cause::Syntax);
     }
@@ -120,6 +121,7 @@ pub fn lawful()
     ensures { Lawful AnyForm.Fancy }
 {
     fancy_duration::laws::texts_have_one_sum();
+    fancy_duration::laws::strict_texts_spell_their_sums();
     fancy_duration::laws::written_texts_are_strict();
     fancy_duration::laws::written_texts_are_read_back();
 }

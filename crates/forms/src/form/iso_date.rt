@@ -7,7 +7,8 @@ ghost use Rattle.forms.specs.declared.form.Form.{Form as AnyForm};
 ghost use Rattle.forms.specs.Answers.{bytes_of};
 ghost use Rattle.forms.specs.Forms.{Reads, Writes};
 ghost use Rattle.forms.specs.Values.{IsWithinBounds};
-ghost use Rattle.forms.specs.form.IsoDate.{Worth, date_of, Holds};
+ghost use Rattle.forms.specs.form.IsoDate.{Worth, Holds};
+ghost use Rattle.forms.specs.inside.CivilDates.{date_of};
 ghost use Rattle.forms.specs.inside.Lawful.{Lawful};
 
 use crate::cause::Cause;
@@ -64,6 +65,8 @@ fn date_for(value: Value) -> Result<Date, Cause>
     requires { IsWithinBounds value }
     ensures { Holds value result }
 {
+    iso8601::laws::civil_dates_are_calendar_dates();
+    iso8601::laws::years_and_weeks_follow_each_other();
     match value {
         Value::Day(day) => Ok(date_of(civil_date(day))),
         _ => Err(Cause::Kind),

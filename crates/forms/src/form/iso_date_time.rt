@@ -9,7 +9,8 @@ ghost use Rattle.forms.specs.declared.value.Value.{Value as AnyValue};
 ghost use Rattle.forms.specs.Answers.{bytes_of};
 ghost use Rattle.forms.specs.Forms.{Reads, Writes};
 ghost use Rattle.forms.specs.Values.{IsWithinBounds};
-ghost use Rattle.forms.specs.form.IsoDateTime.{IsReal, Worth, utc, in_millis, Holds};
+ghost use Rattle.forms.specs.form.IsoDateTime.{IsReal, Worth, Holds};
+ghost use Rattle.forms.specs.inside.CivilMoments.{utc, in_millis, HoldsCivil};
 ghost use Rattle.forms.specs.inside.Lawful.{Lawful};
 
 use crate::cause::Cause;
@@ -109,6 +110,8 @@ fn datetime_for(value: Value) -> Result<DateTime, Cause>
     ensures held { Holds value result }
     ensures short { IfOk result (λ datetime. length (date_time_text datetime) ≤ 96) }
 {
+    iso8601::laws::civil_dates_are_calendar_dates();
+    iso8601::laws::years_and_weeks_follow_each_other();
     match value {
         Value::Instant(nanos) => datetime_at(nanos),
         _ => Err(Cause::Kind),
@@ -117,7 +120,7 @@ fn datetime_for(value: Value) -> Result<DateTime, Cause>
 
 /// The date-time of a moment.
 fn datetime_at(nanos: i128) -> Result<DateTime, Cause>
-    ensures held { Holds (AnyValue.Instant nanos) result }
+    ensures held { HoldsCivil (AnyValue.Instant nanos) result }
     ensures short { IfOk result (λ datetime. length (date_time_text datetime) ≤ 96) }
 {
     match civil::DateTime::from_nanosecond(nanos) {

@@ -62,6 +62,7 @@ fn day_of(date: Date) -> i32
     requires { IsRealDay date }
     ensures { result ≡ day_of date }
 {
+    iso8601::laws::civil_dates_are_calendar_dates();
     let civil = civil::Date {
         year: civil_year(date.year),
         month: date.month,
@@ -176,6 +177,7 @@ fn dated(day: i64, time: Option<Time>, offset: Option<Offset>) -> Result<Datetim
 fn date_of(day: i64) -> Result<Date, Cause>
     ensures { HoldsDay day result }
 {
+    iso8601::laws::civil_dates_are_calendar_dates();
     let Ok(civil) = civil::Date::from_unix_epoch_day(day) else {
         return Err(Cause::Range);
     };
@@ -222,6 +224,7 @@ fn fraction_of(nanos: u64) -> Option<u32>
 pub fn lawful()
     ensures { Lawful AnyForm.Toml }
 {
+    iso8601::laws::civil_dates_are_calendar_dates();
     port_toml_datetime::laws::one_value();
     port_toml_datetime::laws::values_are_well_formed();
     port_toml_datetime::laws::texts_are_read_back();

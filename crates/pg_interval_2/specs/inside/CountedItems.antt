@@ -8,11 +8,12 @@ use Rattle.pg_interval_2.specs.declared.counted.Step.TheVariants as step
 use Rattle.scan_core.specs.declared.runs.Word.{Word}
 use Rattle.pg_interval_2.specs.Clock.{is_nonzero}
 use Rattle.pg_interval_2.specs.inside.ItemReading.{ClockFields, ClockItem, NamedItem, NoItem, clock_of, read_item}
-use Rattle.pg_interval_2.specs.Postgres.{IsFreshName, counts_unit, has_distinct_units}
+use Rattle.pg_interval_2.specs.Postgres.{IsFreshName}
+use Rattle.pg_interval_2.specs.inside.UnitPlaces.{counts_unit, has_distinct_units}
 use Rattle.pg_interval_2.specs.inside.Reading.{Numeral, count_with}
 use Rattle.pg_interval_2.specs.inside.Tallies.{Tallies}
 use Rattle.pg_interval_2.specs.Turned.{turned_counts}
-use Rattle.pg_interval_2.specs.UnitNames.{unit_named}
+use Rattle.pg_interval_2.specs.inside.NamedUnits.{unit_named}
 use Rattle.pg_interval_2.specs.inside.UnitSets.{holds_unit}
 
 -- these counts, no unit twice, were counted

@@ -5,8 +5,9 @@ use Rattle.pg_interval_2.specs.declared.iso.OrderedTally.{OrderedTally}
 use Rattle.pg_interval_2.specs.declared.order.Order.{Order}
 use Rattle.pg_interval_2.specs.declared.tally.Tally.{Tally}
 use Rattle.pg_interval_2.specs.Denotes.{HasNoShape}
-use Rattle.pg_interval_2.specs.Iso.{unit_in, ArePairs, IsIso}
-use Rattle.pg_interval_2.specs.IsoStrict.{IsIsoStrict}
+use Rattle.pg_interval_2.specs.Iso.{unit_in}
+use Rattle.pg_interval_2.specs.inside.IsoShapes.{ArePairs, IsIsoEither}
+use Rattle.pg_interval_2.specs.inside.IsoShapes.{IsStrictEither}
 use Rattle.pg_interval_2.specs.inside.Orders.{Orders}
 use Rattle.pg_interval_2.specs.inside.Reading.{read_pair}
 use Rattle.pg_interval_2.specs.inside.Tallies.{IsTallyOf, Tallies}
@@ -39,6 +40,6 @@ pub record StopsBehindPairs (in_time : Bool) (bytes : List ℕ) (old : Tally) (w
 
 -- what a text in ISO style spells, and whether it does so in the strict style
 pub record IsSpelled (text : List ℕ) (spelled : OrderedTally) : Type 0 where
-  pub tallied : IsTallyOf IsIso text spelled.tally
-  pub strict : spelled.in_order ≡ true → IsTallyOf IsIsoStrict text spelled.tally
-  pub loose : spelled.in_order ≡ false → HasNoShape IsIsoStrict text
+  pub tallied : IsTallyOf IsIsoEither text spelled.tally
+  pub strict : spelled.in_order ≡ true → IsTallyOf IsStrictEither text spelled.tally
+  pub loose : spelled.in_order ≡ false → HasNoShape IsStrictEither text

@@ -7,9 +7,9 @@ use Rattle.scan_core.specs.Count.{Count}
 use Rattle.scan_core.specs.Fronts.{behind, leading, front_digits, after_digits}
 use Rattle.scan_core.specs.declared.share.Unit.{Unit as TimeUnit}
 use Rattle.pg_interval_2.specs.Clock.{clock_counts}
-use Rattle.pg_interval_2.specs.Postgres.{counts_unit, has_distinct_units}
+use Rattle.pg_interval_2.specs.inside.UnitPlaces.{counts_unit, has_distinct_units}
 use Rattle.pg_interval_2.specs.inside.Reading.{Numeral, count_with, read_sign, read_fraction, read_number}
-use Rattle.pg_interval_2.specs.UnitNames.{unit_named}
+use Rattle.pg_interval_2.specs.inside.NamedUnits.{unit_named}
 
 -- what follows the blanks in front
 abbrev pub after_blanks : List ℕ → List ℕ

@@ -18,15 +18,7 @@ returns-in-Ok-clause-reply g c =
     let all = gains (Turns c.in-Some.from c.in-Some.to text) _ _ c.in-Ok.ensures.turned in
     record {
       text = all.text;
-      is = inr (record {
-        from = c.in-Some.from;
-        to = c.in-Some.to;
-        text = text;
-        answer = Ok all.text;
-        asked = c.in-Some.ensures.found;
-        answered = (c.answers_are_readings_written.ensures c.in-Some.from c.in-Some.to text (Ok all.text)).1 all.is;
-        told = refl;
-      });
+      is = inr (c.in-Some.from, c.in-Some.to, text, Ok all.text, c.in-Some.ensures.found, (c.answers_are_readings_written.ensures c.in-Some.from c.in-Some.to text (Ok all.text)).1 all.is, refl);
       gained = all.gained;
     }
 
@@ -36,14 +28,6 @@ returns-in-Err-clause-reply g c =
     let none = refuses (Turns c.in-Some.from c.in-Some.to text) _ _ c.in-Err.cause c.in-Err.ensures.turned in
     record {
       text = codes "refused " ++ cause_name c.in-Err.cause;
-      is = inr (record {
-        from = c.in-Some.from;
-        to = c.in-Some.to;
-        text = text;
-        answer = Err c.in-Err.cause;
-        asked = c.in-Some.ensures.found;
-        answered = (c.answers_are_readings_written.ensures c.in-Some.from c.in-Some.to text (Err c.in-Err.cause)).1 none.0;
-        told = refl;
-      });
+      is = inr (c.in-Some.from, c.in-Some.to, text, Err c.in-Err.cause, c.in-Some.ensures.found, (c.answers_are_readings_written.ensures c.in-Some.from c.in-Some.to text (Err c.in-Err.cause)).1 none.0, refl);
       gained = simp (c.push_refusal-in-Err.ensures.bytes, c.name.ensures, none.1) refl;
     }

@@ -2,17 +2,20 @@
 use Rattle.std.proofs.Common.{◌≡◌, ◌++◌, List, ℕ, Some, ap, ◌∙◌}
 use Rattle.forms.specs.Names.{name_of}
 use Rattle.forms.specs.inside.Reading.{IsNamed}
+use Rattle.forms.proofs.Requests.{by_tail, whole}
 use Rattle.forms.proofs.AsciiNames.{utf8_behind, request_of}
 use Rattle.forms.proofs.Words.{tail_behind, one_name}
 use Rattle.forms.proofs.line.request.Goals as goal
 
 pub returns-in_err-from-clause-none : goal.returns-in_err-from-clause-none
 returns-in_err-from-clause-none c =
-    rw c.from_residual.ensures (λ from to text asked. c.in_err-from.ensures.none from (Some (name_of to ++ asked.tail)) asked.joined)
+    rw c.from_residual.ensures (λ from to text request.
+    let asked = by_tail c.args.line.now from to text request in c.in_err-from.ensures.none from (Some (name_of to ++ asked.tail)) asked.joined)
 
 pub returns-in_err-to-clause-none : goal.returns-in_err-to-clause-none
 returns-in_err-to-clause-none c =
-    rw c.from_residual-in_err-to.ensures (λ from to text asked.
+    rw c.from_residual-in_err-to.ensures (λ from to text request.
+    let asked = by_tail c.args.line.now from to text request in
     let tail = tail_behind text asked.tail asked.rest in
     let here : IsNamed c.args.line.now c.in_ok-from.from (Some c.in_ok-rest.field-0.now) = rw c.in_ok-rest.was at c.in_ok-from.ensures.found in
     let both = one_name c.args.line.now (Some c.in_ok-rest.field-0.now) (Some (name_of to ++ asked.tail)) c.in_ok-from.from from here asked.joined in
@@ -22,7 +25,8 @@ returns-in_err-to-clause-none c =
 
 pub returns-in_err-text-clause-none : goal.returns-in_err-text-clause-none
 returns-in_err-text-clause-none c =
-    rw c.from_residual-in_err-text.ensures (λ from to text asked.
+    rw c.from_residual-in_err-text.ensures (λ from to text request.
+    let asked = by_tail c.args.line.now from to text request in
     let here : IsNamed c.args.line.now c.in_ok-from.from (Some c.in_ok-rest.field-0.now) = rw c.in_ok-rest.was at c.in_ok-from.ensures.found in
     let rest = utf8_behind c.args.line.now c.in_ok-from.from (Some c.in_ok-rest.field-0.now) here asked.utf8 in
     c.in_err-text.ensures.none (utf8_behind c.in_ok-rest.field-0.now c.in_ok-to.to _ c.in_ok-to.ensures.found rest))
@@ -30,4 +34,4 @@ returns-in_err-text-clause-none c =
 pub returns-clause-found : goal.returns-clause-found
 returns-clause-found c =
     let here : IsNamed c.args.line.now c.in_ok-from.from (Some c.in_ok-rest.field-0.now) = rw c.in_ok-rest.was at c.in_ok-from.ensures.found in
-    request_of c.args.line.now c.in_ok-rest.field-0.now c.in_ok-text.text.now c.in_ok-from.from c.in_ok-to.to _ here c.in_ok-to.ensures.found c.in_ok-text.ensures.found.0 c.in_ok-text.ensures.found.1
+    whole _ _ _ _ (request_of c.args.line.now c.in_ok-rest.field-0.now c.in_ok-text.text.now c.in_ok-from.from c.in_ok-to.to _ here c.in_ok-to.ensures.found c.in_ok-text.ensures.found.0 c.in_ok-text.ensures.found.1)

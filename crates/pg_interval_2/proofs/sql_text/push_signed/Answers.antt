@@ -1,6 +1,6 @@
 -- Answers to the goals of `sql_text::push_signed`.
 use Rattle.std.proofs.Common.{FitsSigned, append_assoc, refl, to_z-of_z, w32, w64}
-use Rattle.pg_interval_2.specs.SqlText.{signed_text}
+use Rattle.pg_interval_2.specs.inside.SqlSteps.{signed_text}
 use Rattle.pg_interval_2.proofs.sql_text.push_signed.Goals as goal
 
 pub returns-clause-bytes : goal.returns-clause-bytes

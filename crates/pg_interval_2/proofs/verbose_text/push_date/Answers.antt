@@ -1,6 +1,6 @@
 -- Answers to the goals of `verbose_text::push_date`.
 use Rattle.std.proofs.Common.{FitsSigned, append_assoc, refl, to_z-of_z, w32}
-use Rattle.pg_interval_2.specs.VerboseText.{verbose_date}
+use Rattle.pg_interval_2.specs.inside.VerboseSteps.{verbose_date}
 use Rattle.pg_interval_2.proofs.verbose_text.push_date.Goals as goal
 
 pub returns-clause-bytes : goal.returns-clause-bytes

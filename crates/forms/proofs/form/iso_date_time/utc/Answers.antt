@@ -2,7 +2,7 @@
 use Rattle.std.proofs.Common.{◌≤◌, length, subst, sym}
 use Rattle.iso8601.specs.Written.{date_time_text}
 use Rattle.iso8601.specs.declared.types.Date.{Date}
-use Rattle.forms.specs.form.IsoDateTime.{utc}
+use Rattle.forms.specs.inside.CivilMoments.{utc}
 use Rattle.forms.proofs.IsoDateTimes.{short_text}
 use Rattle.forms.proofs.form.iso_date_time.utc.Goals as goal
 

@@ -6,11 +6,10 @@ use Rattle.scan_core.specs.Scanning.{ahead}
 use Rattle.scan_core.proofs.Between.{length-between}
 use Rattle.pg_interval_2.specs.inside.CountedItems.{IsCounted}
 use Rattle.pg_interval_2.specs.inside.ItemReading.{clock_of}
-use Rattle.pg_interval_2.specs.inside.NameSets.{names_in}
-use Rattle.pg_interval_2.specs.Postgres.{has_distinct_units}
+use Rattle.pg_interval_2.specs.inside.UnitPlaces.{has_distinct_units}
 use Rattle.pg_interval_2.specs.inside.Reading.{count_with, numeral_in}
 use Rattle.pg_interval_2.specs.Turned.{turned_counts}
-use Rattle.pg_interval_2.proofs.CountedFacts.{clock_long, named_long, not_fresh, turned_has, turned_number}
+use Rattle.pg_interval_2.proofs.CountedFacts.{clock_long, named_long, no_unit, not_fresh, turned_has, turned_number}
 use Rattle.pg_interval_2.proofs.Turning.{clock-turned, counts_unit-turned, distinct-turned, turned-append, turned_fields}
 use Rattle.pg_interval_2.proofs.counted.Counted.take_item.Goals as goal
 
@@ -69,7 +68,23 @@ returns-else-count-clause-step g c =
       number = numeral_in text c.in-Named.number;
       letters = letters_of text c.in-Named.letters;
       read = c.in-Named.ensures.read;
-      bad = not_fresh (names_in c.args.names) counts (letters_of text c.in-Named.letters) c.in-Some.unit named before;
+      bad = not_fresh c.args.names counts (letters_of text c.in-Named.letters) c.in-Some.unit named before;
+      starts = omega (arith, long, word.order);
+      ends = c.in-Named.ensures.runs.1.1;
+    }
+
+pub returns-in-None-clause-step : goal.returns-in-None-clause-step
+returns-in-None-clause-step g c =
+    λ counts h.
+    let text = c.next_item.new.scan.text in
+    let word = c.in-Named.ensures.runs.1.0 in
+    let none = sym (c.in-None.ensures (letters_of text c.in-Named.letters) word.letters word.value) in
+    let long = length-between text c.in-Named.letters.start c.in-Named.letters.end word.order word.within in
+    record {
+      number = numeral_in text c.in-Named.number;
+      letters = letters_of text c.in-Named.letters;
+      read = c.in-Named.ensures.read;
+      bad = no_unit c.args.names counts (letters_of text c.in-Named.letters) none;
       starts = omega (arith, long, word.order);
       ends = c.in-Named.ensures.runs.1.1;
     }

@@ -1,6 +1,6 @@
 -- Answers to the goals of `order::Order::take`.
 use Rattle.std.proofs.Common.{ap, sym}
-use Rattle.pg_interval_2.specs.Postgres.{place_of}
+use Rattle.pg_interval_2.specs.inside.UnitPlaces.{place_of}
 use Rattle.pg_interval_2.proofs.OrderFacts.{orders_push}
 use Rattle.pg_interval_2.proofs.order.Order.take.Goals as goal
 

@@ -2,7 +2,7 @@
 use Rattle.std.proofs.Common.{refl}
 use Rattle.std.specs.Int.{w8}
 use Rattle.std.proofs.lemmas.Nat.Bits.{bit_at_set_same, bit_at_set_other}
-use Rattle.pg_interval_2.specs.Postgres.{place_of}
+use Rattle.pg_interval_2.specs.inside.UnitPlaces.{place_of}
 use Rattle.pg_interval_2.specs.inside.UnitSets.{holds_unit}
 use Rattle.pg_interval_2.proofs.UnitFacts.{place_small}
 use Rattle.pg_interval_2.proofs.units.Units.insert.Goals as goal
