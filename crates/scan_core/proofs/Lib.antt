@@ -14,5 +14,4 @@ pub mod FitFacts
 pub mod SumFacts
 pub mod WordFacts
 pub mod PaddedFacts
-pub mod PairFacts
 pub mod TrimmedFacts

@@ -9,14 +9,6 @@ use itoa::Buffer;
 /// A text of at most 128 bytes that takes no memory.
 pub type Short = ArrayString<128>;
 
-/// The two digits of each number below 100.
-const PAIRS: &str = "\
-0001020304050607080910111213141516171819\
-2021222324252627282930313233343536373839\
-4041424344454647484950515253545556575859\
-6061626364656667686970717273747576777879\
-8081828384858687888990919293949596979899";
-
 /// Appends the text: `push_text(&mut out, "T")`.
 pub fn push_text<const CAP: usize>(out: &mut ArrayString<CAP>, text: &str)
     requires { array_string_len out.old + length text.now ≤ CAP }
@@ -33,7 +25,8 @@ pub fn push_num<const CAP: usize>(out: &mut ArrayString<CAP>, value: u64)
     ensures bytes { out.new.bytes ≡ out.old.bytes ++ decimal value }
     ensures len { array_string_len out.new ≡ array_string_len out.old + length (decimal value) }
 {
-    push_padded(out, value, 0);
+    let mut buffer = Buffer::new();
+    out.push_str(buffer.format(value));
 }
 
 /// Appends the decimal digits of the value with leading zeros to at least `width` digits, `width` at most 20: 7 in width 2 is `07`.
@@ -46,94 +39,12 @@ pub fn push_padded<const CAP: usize>(out: &mut ArrayString<CAP>, value: u64, wid
     ensures len { array_string_len out.new
         ≡ array_string_len out.old + max width (length (decimal value)) }
 {
-    if value < 10_000 && width < 5 {
-        push_up_to_four(out, value, width);
-    } else {
-        push_many(out, value, width);
-    }
-}
-
-/// Appends five digits or more.
-fn push_many<const CAP: usize>(out: &mut ArrayString<CAP>, value: u64, width: usize)
-    requires many { ((value < 10_000) × (5 ≤ width)) ⊎ (10_000 ≤ value) }
-    requires width { width ≤ 20 }
-    requires room { array_string_len out.old + length (padded_digits width value) ≤ CAP }
-    ensures bytes { out.new.bytes ≡ out.old.bytes ++ padded_digits width value }
-{
-    if value < 100_000_000 && width < 9 {
-        push_up_to_four(out, value / 10_000, width.saturating_sub(4));
-        push_pair(out, value / 100 % 100);
-        push_pair(out, value % 100);
-    } else {
-        push_long(out, value, width);
-    }
-}
-
-/// Appends the digits of a number as `push_padded` does, however many they are.
-fn push_long<const CAP: usize>(out: &mut ArrayString<CAP>, value: u64, width: usize)
-    requires width { width ≤ 20 }
-    requires room { array_string_len out.old + max width (length (decimal value)) ≤ CAP }
-    ensures bytes { out.new.bytes ≡ out.old.bytes ++ padded_digits width value }
-{
     let mut buffer = Buffer::new();
     let digits = buffer.format(value);
     for _ in digits.len()..width {
         out.push('0');
     }
     out.push_str(digits);
-}
-
-/// Appends one to four digits.
-#[inline(always)]
-fn push_up_to_four<const CAP: usize>(out: &mut ArrayString<CAP>, value: u64, width: usize)
-    requires value { value < 10_000 }
-    requires width { width < 5 }
-    requires room { array_string_len out.old + length (padded_digits width value) ≤ CAP }
-    ensures bytes { out.new.bytes ≡ out.old.bytes ++ padded_digits width value }
-{
-    if value < 100 && width < 3 {
-        push_up_to_two(out, value, width);
-    } else {
-        push_up_to_two(out, value / 100, width.saturating_sub(2));
-        push_pair(out, value % 100);
-    }
-}
-
-/// Appends one digit or two.
-#[inline(always)]
-fn push_up_to_two<const CAP: usize>(out: &mut ArrayString<CAP>, value: u64, width: usize)
-    requires value { value < 100 }
-    requires width { width < 3 }
-    requires room { array_string_len out.old + length (padded_digits width value) ≤ CAP }
-    ensures bytes { out.new.bytes ≡ out.old.bytes ++ padded_digits width value }
-{
-    if value < 10 && width < 2 {
-        push_digit(out, value);
-    } else {
-        push_pair(out, value);
-    }
-}
-
-/// Appends the digit of a number below 10, which is the second of its pair.
-#[inline(always)]
-fn push_digit<const CAP: usize>(out: &mut ArrayString<CAP>, value: u64)
-    requires value { value < 10 }
-    requires room { array_string_len out.old + 1 ≤ CAP }
-    ensures bytes { out.new.bytes ≡ out.old.bytes ++ decimal value }
-{
-    let at = value as usize * 2 + 1;
-    out.push_str(&PAIRS[at..at + 1]);
-}
-
-/// Appends the two digits of a number below 100.
-#[inline(always)]
-fn push_pair<const CAP: usize>(out: &mut ArrayString<CAP>, value: u64)
-    requires value { value < 100 }
-    requires room { array_string_len out.old + 2 ≤ CAP }
-    ensures bytes { out.new.bytes ≡ out.old.bytes ++ padded_digits 2 value }
-{
-    let at = value as usize * 2;
-    out.push_str(&PAIRS[at..at + 2]);
 }
 
 /// The number without the zeros at its end, and how many digits of so many are left.
