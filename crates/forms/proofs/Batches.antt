@@ -1,5 +1,5 @@
 -- Replies that are written in batches: what was written and what waits are the replies to the whole lines so far.
-use Rattle.std.proofs.Common.{◌≡◌, ℕ, ◌<◌, List, [], ◌∷◌, ◌++◌, codes, length, Option, refl, sym, ◌∙◌, ap, subst, append_assoc}
+use Rattle.std.proofs.Common.{◌≡◌, ℕ, ◌<◌, List, [], ◌∷◌, ◌++◌, codes, length, Option, refl, sym, ◌∙◌, ap, subst, append_assoc, append-nil}
 use Rattle.std.proofs.KnownBytes.{Appends-nil, Appends-trans}
 use Rattle.std.specs.Io.KnownBytes.{Appends}
 use Rattle.scan_core.proofs.Joins.{join_push, IsJoin-one}
@@ -8,7 +8,8 @@ use Rattle.forms.specs.Outside.{AppendsFront}
 use Rattle.forms.specs.Replies.{AreReplies}
 use Rattle.forms.specs.Buffers.{IsReplyLine}
 use Rattle.forms.specs.Ends.{GainsReplies, GainsFront}
-use Rattle.forms.specs.inside.Reading.{MovesFront, PushesReply}
+use Rattle.forms.specs.Waiting.{Moves}
+use Rattle.forms.specs.inside.Reading.{PushesReply}
 use Rattle.forms.specs.inside.Pieces.{NoFeed, IsEnded, AreWhole, Answers}
 use Rattle.forms.proofs.LinePieces.{whole_lines_behind, part_alone}
 
@@ -25,9 +26,10 @@ pub record IsAnswered (old new : Option (List ℕ)) (bytes rest waiting : List �
 pub none_answered : (old : Option (List ℕ)) (bytes waiting : List ℕ) → waiting ≡ [] → IsAnswered old old bytes bytes waiting
 none_answered old bytes waiting none = record { answered = []; front = []; written = []; whole = refl; split = refl; replies = none; gained = Appends-nil old }
 
-pub answered_moved : (a b c : Option (List ℕ)) (bytes rest before after : List ℕ) → IsAnswered a b bytes rest before → MovesFront b c before after → IsAnswered a c bytes rest after
+pub answered_moved : (a b c : Option (List ℕ)) (bytes rest before after : List ℕ) → IsAnswered a b bytes rest before → Moves b c before [] after → IsAnswered a c bytes rest after
 answered_moved a b c bytes rest before after h m =
-    let same : h.written ++ before ≡ (h.written ++ m.front) ++ after = ap (λ (l : List ℕ). h.written ++ l) m.split ∙ sym (append_assoc h.written m.front after) in
+    let split : before ≡ m.front ++ after = sym (append-nil before) ∙ m.split in
+    let same : h.written ++ before ≡ (h.written ++ m.front) ++ after = ap (λ (l : List ℕ). h.written ++ l) split ∙ sym (append_assoc h.written m.front after) in
     record {
       answered = h.answered;
       front = h.front;
@@ -35,7 +37,7 @@ answered_moved a b c bytes rest before after h m =
       whole = h.whole;
       split = h.split;
       replies = subst (AreReplies h.answered) same h.replies;
-      gained = Appends-trans a b c h.written m.front h.gained m.written;
+      gained = Appends-trans a b c h.written m.front h.gained m.gained;
     }
 
 pub answered_pushed : (a b : Option (List ℕ)) (bytes rest line after before waiting : List ℕ) → IsAnswered a b bytes rest before → NoFeed line → rest ≡ line ++ (codes "\n" ++ after) → PushesReply line before waiting

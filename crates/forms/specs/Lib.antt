@@ -1,6 +1,7 @@
 -- What a caller must believe, by subject.
 pub mod Outside
 pub mod Memory
+pub mod Waiting
 pub mod Lines
 pub mod Values
 pub mod Answers

@@ -21,8 +21,8 @@ pub enum Cause {
 }
 
 impl Cause {
-    /// The cause's name, as a reply has it behind `refused `.
-    pub(crate) fn name(self) -> &'static str
+    /// The cause's name, as a reply has it behind `refused `: `Cause::Range.name()` is `Range`.
+    pub fn name(self) -> &'static str
         ensures { result.now ≡ cause_name self }
     {
         match self {

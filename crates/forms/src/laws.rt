@@ -1,5 +1,6 @@
 //! Laws of forms, lines, replies and the ends of runs.
-ghost use Rattle.std.specs.Prelude.{pos, ◌≡◌, ◌⊎◌, ◌↔◌, ◌+◌, ◌-◌, ◌/◌, ◌^◌, ◌<◌, List, ℕ, Result as AnyResult, Ok, IfSome};
+ghost use Rattle.std.specs.Prelude.{pos, ◌≡◌, ◌⊎◌, ◌↔◌, ◌+◌, ◌-◌, ◌/◌, ◌^◌, ◌<◌, ◌++◌, List, ℕ, Option, Result as AnyResult, Ok, IfSome};
+ghost use Rattle.std.specs.Io.KnownBytes.{Appends};
 ghost use Rattle.pg_interval_2.specs.Denotes.{Denotes};
 ghost use Rattle.pg_interval_2.specs.Styles.{Shape};
 ghost use Rattle.pg_interval_2.specs.declared.interval.Interval.{Interval as AnyInterval};
@@ -12,11 +13,12 @@ ghost use Rattle.forms.specs.declared.value.Value.{Value as AnyValue};
 ghost use Rattle.forms.specs.Ends.{Ended, EndsByLength, GainsFront, Streams};
 ghost use Rattle.forms.specs.Forms.{Reads, Writes};
 ghost use Rattle.forms.specs.Lines.{lines, whole_lines};
-ghost use Rattle.forms.specs.Outside.{Rose};
+ghost use Rattle.forms.specs.Outside.{Rose, AppendsFront};
 ghost use Rattle.forms.specs.ReadBack.{Turns, IsReadBack};
 ghost use Rattle.forms.specs.Replies.{IsAnswer, IsIntervalAnswer, IsReply, AreReplies};
 ghost use Rattle.forms.specs.Sample.{answers, refusals, sample_lines};
 ghost use Rattle.forms.specs.Values.{IsWithinBounds};
+ghost use Rattle.forms.specs.Waiting.{Moves};
 ghost use Rattle.forms.specs.inside.Lawful.{Lawful};
 ghost use Rattle.iso8601.specs.Calendar.{days_in_month};
 ghost use Rattle.port_toml_datetime.specs.Dates.{days_in_month as toml_days_in_month};
@@ -127,6 +129,22 @@ pub fn a_tenth_of_a_sample_is_refused()
     pg_interval_2::laws::written_text_is_read_back();
     one_output();
 }
+
+/// Texts that are put behind what waits are written in order: one behind another, all once what waits is written, and a front of them
+/// where a write fails.
+pub fn waiting_texts_keep_their_order()
+    ensures next { (a b c : Option (List ℕ)) (before first between second after : List ℕ)
+        → Moves a b before first between → Moves b c between second after
+        → Moves a c before (first ++ second) after }
+    ensures next_fails { (a b c : Option (List ℕ)) (before first between second : List ℕ)
+        → Moves a b before first between → AppendsFront b c (between ++ second)
+        → AppendsFront a c (before ++ (first ++ second)) }
+    ensures flushed { (a b c : Option (List ℕ)) (before text after : List ℕ)
+        → Moves a b before text after → Appends b c after → Appends a c (before ++ text) }
+    ensures flush_fails { (a b c : Option (List ℕ)) (before text after : List ℕ)
+        → Moves a b before text after → AppendsFront b c after
+        → AppendsFront a c (before ++ text) }
+{}
 
 /// A count of faults that stands still didn't rise, but at its greatest value.
 pub fn still_count_is_no_fault()

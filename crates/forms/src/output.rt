@@ -1,27 +1,19 @@
 //! Answering the lines of a piece, and writing the replies.
-ghost use Rattle.std.specs.Prelude.{◌≡◌, ◌+◌, ◌<◌, ◌≤◌, [], ◌++◌, length, IfOk, OnOk, OnErr, vec_len, vec_capacity};
-ghost use Rattle.std.specs.Io.{WritesAtMost};
-ghost use Rattle.std.specs.Io.KnownBytes.{Appends, WriteAppends};
+ghost use Rattle.std.specs.Prelude.{◌≡◌, ◌+◌, ◌≤◌, [], ◌++◌, length, OnOk, OnErr, vec_len, vec_capacity};
 ghost use Rattle.arrayvec.specs.ArrayString.{array_string_len};
 ghost use Rattle.forms.specs.Lines.{lines, whole_lines};
-ghost use Rattle.forms.specs.Outside.{HasCause, AppendsFront};
+ghost use Rattle.forms.specs.Outside.{HasCause};
 ghost use Rattle.forms.specs.Ends.{GainsReplies, GainsFront};
-ghost use Rattle.forms.specs.inside.Reading.{MovesFront, PushesReply};
+ghost use Rattle.forms.specs.inside.Reading.{PushesReply};
 ghost use Rattle.forms.specs.inside.Pieces.{NoFeed, Answers};
 
 use crate::answer::push_line_reply;
 use crate::line::split_line;
 use crate::outside::{Failed, Sink};
-use arrayvec::ArrayString;
+use crate::waiting::{BATCH, Batch, flush, make_room};
 
 /// The longest reply, with its line feed: a written text has at most 96 bytes.
 pub const LONGEST: usize = 97;
-
-/// How many bytes wait for one write at most.
-const BATCH: usize = 65_536;
-
-/// Replies that wait for one write.
-pub type Batch = ArrayString<BATCH>;
 
 /// Writes the reply to each line that a line feed in the piece ends, many at once, and keeps what follows the last one.
 /// The first of these lines begins with what was kept.
@@ -45,7 +37,7 @@ pub fn answer_piece<K: Sink>(
 {
     let mut rest = piece;
     while let Some((line, after)) = split_line(rest) {
-        make_room(sink, batch)?;
+        make_room(sink, batch, LONGEST)?;
         push_joined(batch, kept, line);
         rest = after;
     }
@@ -67,32 +59,6 @@ pub fn answer_last<K: Sink>(sink: &mut K, batch: &mut Batch, line: &[u8]) -> Res
     }
     push_reply(batch, line);
     flush(sink, batch)
-}
-
-/// Writes what waits where there may be no room for one more reply.
-fn make_room<K: Sink>(sink: &mut K, batch: &mut Batch) -> Result<(), Failed>
-    ensures room { OnOk result (array_string_len batch.new + LONGEST ≤ BATCH) }
-    ensures ok { OnOk result
-        (MovesFront (K.held sink.old) (K.held sink.new) batch.old.bytes batch.new.bytes) }
-    ensures err { OnErr result (AppendsFront (K.held sink.old) (K.held sink.new) batch.old.bytes) }
-    ensures cause { HasCause (K.faults sink.old) (K.faults sink.new) result }
-{
-    if batch.remaining_capacity() < LONGEST {
-        return flush(sink, batch);
-    }
-    Ok(())
-}
-
-/// Writes all that waits.
-fn flush<K: Sink>(sink: &mut K, batch: &mut Batch) -> Result<(), Failed>
-    ensures ok { OnOk result (Appends (K.held sink.old) (K.held sink.new) batch.old.bytes) }
-    ensures err { OnErr result (AppendsFront (K.held sink.old) (K.held sink.new) batch.old.bytes) }
-    ensures empty { OnOk result (batch.new.bytes ≡ []) }
-    ensures cause { HasCause (K.faults sink.old) (K.faults sink.new) result }
-{
-    write_all(sink, batch.as_str().as_bytes())?;
-    batch.clear();
-    Ok(())
 }
 
 /// Appends the reply to a line whose first bytes were kept, and keeps nothing.
@@ -120,28 +86,4 @@ fn push_reply(batch: &mut Batch, line: &[u8])
 {
     push_line_reply(line, batch);
     batch.push('\n');
-}
-
-/// Writes the whole text, or as much as the sink takes before it fails.
-pub fn write_all<K: Sink>(sink: &mut K, text: &[u8]) -> Result<(), Failed>
-    ensures ok { OnOk result (Appends (K.held sink.old) (K.held sink.new) text.now) }
-    ensures err { OnErr result (AppendsFront (K.held sink.old) (K.held sink.new) text.now) }
-    ensures cause { HasCause (K.faults sink.old) (K.faults sink.new) result }
-{
-    let mut at = 0;
-    while at < text.len() {
-        at += write_some(sink, &text[at..])?;
-    }
-    Ok(())
-}
-
-/// Writes a front of a piece that isn't empty. Each write of a run goes through here, so none is of an empty piece.
-fn write_some<K: Sink>(sink: &mut K, piece: &[u8]) -> Result<usize, Failed>
-    requires some { 0 < length piece.now }
-    ensures bound { WritesAtMost result piece.now }
-    ensures bytes { WriteAppends (K.held sink.old) (K.held sink.new) result piece.now }
-    ensures progress { IfOk result (λ n. 0 < n) }
-    ensures cause { HasCause (K.faults sink.old) (K.faults sink.new) result }
-{
-    sink.write(piece)
 }

@@ -2,9 +2,10 @@
 ghost use Rattle.std.specs.Prelude.{◌≡◌, ◌≢◌, ◌+◌, ◌^◌, ◌≤◌, vec_len, vec_capacity};
 ghost use Rattle.forms.specs.Ends.{Ended, streams};
 
-use crate::output::{Batch, answer_last, answer_piece};
+use crate::output::{answer_last, answer_piece};
 use crate::outside::{Failed, Sink, Source};
 use crate::run_end::RunEnd;
+use crate::waiting::Batch;
 
 /// How many bytes a read asks for at most.
 const PIECE: usize = 65_536;

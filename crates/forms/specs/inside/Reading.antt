@@ -1,6 +1,5 @@
 -- What private functions answer: cited by private contracts alone.
 use Rattle.std.specs.Prelude.{◌≡◌, ℕ, List, [], ◌++◌, codes, Option, Some, None}
-use Rattle.std.specs.Io.KnownBytes.{Appends}
 use Rattle.forms.specs.declared.form.Form.{Form}
 use Rattle.forms.specs.Names.{name_of}
 use Rattle.forms.specs.Buffers.{IsReplyLine}
@@ -13,12 +12,6 @@ behind (Some rest) = codes " " ++ rest
 -- the text begins with the form's name, and then ends or goes on behind a space
 abbrev pub IsNamed : List ℕ → Form → Option (List ℕ) → Type 0
 IsNamed text form rest = text ≡ name_of form ++ behind rest
-
--- a front of what waits was written, and the rest still waits
-pub record MovesFront (old new : Option (List ℕ)) (before after : List ℕ) : Type 0 where
-  pub front : List ℕ
-  pub split : before ≡ front ++ after
-  pub written : Appends old new front
 
 -- the reply to a line was put behind what waits
 pub record PushesReply (line before after : List ℕ) : Type 0 where

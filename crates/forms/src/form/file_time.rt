@@ -6,7 +6,7 @@ ghost use Rattle.forms.specs.declared.form.Form.{Form as AnyForm};
 ghost use Rattle.forms.specs.Answers.{bytes_of};
 ghost use Rattle.forms.specs.Forms.{Reads, Writes};
 ghost use Rattle.forms.specs.Values.{IsWithinBounds};
-ghost use Rattle.forms.specs.form.FileTime.{ticks_after};
+ghost use Rattle.forms.specs.form.FileTime.{held, ticks_after};
 ghost use Rattle.forms.specs.inside.Lawful.{Lawful};
 
 use crate::cause::Cause;
@@ -35,11 +35,22 @@ pub fn write(value: Value) -> Result<Short, Cause>
     ensures answer { Writes AnyForm.FileTime value (bytes_of result) }
     ensures len { IfOk result (λ out. array_string_len out ≤ 96) }
 {
-    let Value::Instant(nanos) = value else {
-        return Err(Cause::Kind);
-    };
-    let ticks = ticks_at(nanos)?;
+    let ticks = file_time_of(value)?;
     Ok(digits_of(ticks))
+}
+
+/// The file time of a value, the count of ticks of 100 nanoseconds since 1601-01-01 00:00:00 UTC, which `write_value` writes: of the
+/// instant 0, 1970-01-01 00:00:00 UTC, it is 116_444_736_000_000_000.
+///
+/// `Kind` where the value is no instant, `Range` where it is before 1601 or behind the last tick of 64 bits, `Precision` where it
+/// isn't a whole number of ticks.
+pub fn file_time_of(value: Value) -> Result<u64, Cause>
+    ensures { result ≡ held value }
+{
+    match value {
+        Value::Instant(nanos) => ticks_at(nanos),
+        _ => Err(Cause::Kind),
+    }
 }
 
 /// The decimal digits of a number.

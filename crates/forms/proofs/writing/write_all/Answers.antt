@@ -1,8 +1,8 @@
--- Answers to the goals of `output::write_all`.
+-- Answers to the goals of `writing::write_all`.
 use Rattle.std.proofs.Common.{◌≤◌, length, drop, length-drop, arith}
 use Rattle.std.proofs.lemmas.List.{take_rest}
 use Rattle.forms.proofs.Writes.{appends_more, front_written, on_err}
-use Rattle.forms.proofs.output.write_all.Goals as goal
+use Rattle.forms.proofs.writing.write_all.Goals as goal
 
 pub returns-in_err-at-clause-err : goal.returns-in_err-at-clause-err
 returns-in_err-at-clause-err g c = on_err _ c.from_residual.result (front_written _ _ _ c.args.text.now c.loop-at.at c.loop-at.invariant.written c.in_err-at.ensures.bytes)

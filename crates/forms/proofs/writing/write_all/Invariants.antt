@@ -1,7 +1,7 @@
--- The invariant and the measure of the loop of `output::write_all`.
+-- The invariant and the measure of the loop of `writing::write_all`.
 use Rattle.std.proofs.Common.{◌-◌, ◌≤◌, length, take}
 use Rattle.std.specs.Io.KnownBytes.{Appends}
-use Rattle.forms.proofs.output.write_all.Given as goal
+use Rattle.forms.proofs.writing.write_all.Given as goal
 
 abbrev pub invariant-loop-at : goal.invariant-loop-at
 invariant-loop-at g l = record {
