@@ -72,13 +72,19 @@ class Builder:
             target = (folder / path.relative_to(source)).with_suffix(".rs")
             target.parent.mkdir(parents=True, exist_ok=True)
             target.write_text(plain(stripped(path.read_text(encoding="utf-8"))), encoding="utf-8")
-        return folder / "lib.rs"
+        return folder / ("lib.rs" if (folder / "lib.rs").exists() else "main.rs")
 
     def below(self, name):
         """Builds the crates that one stands on, unless they are built."""
         for one in BELOW:
             if one in reach(name) and one not in self.marks:
                 self.library(one, self.put(one), self.externs(one))
+
+    def program(self, name, root):
+        """Builds a program, and answers the command that runs it."""
+        target = self.work / f"{name}_program"
+        self.must(name, root, ["-o", str(target)], self.externs(name))
+        return [str(target)]
 
     def tests(self, name, root):
         """Builds the tests of a crate, and answers the command that runs them."""

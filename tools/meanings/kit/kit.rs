@@ -8,12 +8,17 @@ pub fn turned() -> u32 {
 pub struct HostRuntime;
 impl HostRuntime {
     pub fn alloc(&self) -> alloc::Global { alloc::Global }
+    pub fn println(&self, line: String) -> std::io::Result<()> { println!("{line}"); Ok(()) }
 }
+pub fn read_to_string(_: &HostRuntime, path: &str) -> std::io::Result<String> { std::fs::read_to_string(path).map(String) }
 pub mod alloc {
     #[derive(Clone, Copy, Debug, PartialEq, Eq)]
     pub struct Global;
     #[derive(Clone, Copy, Debug, PartialEq, Eq)]
     pub struct AllocError;
+    impl From<AllocError> for std::io::Error {
+        fn from(_: AllocError) -> std::io::Error { std::io::ErrorKind::OutOfMemory.into() }
+    }
 }
 pub mod test {
     pub struct Fail;
