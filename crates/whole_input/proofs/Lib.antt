@@ -1,0 +1,4 @@
+-- Lemmas by subject.
+pub mod FirstByte
+pub mod Numbering
+pub mod Outcomes

@@ -1,0 +1,16 @@
+//! Programs that take their whole input, up to a limit, before they write.
+//!
+//! `answer_whole` is such a program for any [`Command`]; `read_lines` reads each line of an input up to the first that has a fault.
+#![tactic(auto)]
+
+mod command;
+mod lines;
+mod reading;
+mod split;
+mod writing;
+
+pub use command::{Command, Response, answer_whole};
+pub use lines::{LineError, ReadLine, first_line, read_lines};
+pub use reading::{Taken, take_all};
+pub use split::{split_at, split_text};
+pub use writing::{respond_waiting, respond_with};
