@@ -80,6 +80,12 @@ pub mod civil {
         pub fn date(self) -> Date { self.date }
         pub fn time(self) -> Time { self.time }
         pub fn year(self) -> i16 { self.date.year }
+        pub fn month(self) -> i8 { self.date.month() }
+        pub fn day(self) -> i8 { self.date.day() }
+        pub fn hour(self) -> i8 { self.time.hour() }
+        pub fn minute(self) -> i8 { self.time.minute() }
+        pub fn second(self) -> i8 { self.time.second() }
+        pub fn subsec_nanosecond(self) -> i32 { self.time.subsec_nanosecond() }
         pub fn to_plain(self) -> DateTime { self }
         pub fn from_plain(plain: DateTime) -> DateTime { plain }
         pub fn to_second(self) -> i64 {
