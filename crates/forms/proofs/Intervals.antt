@@ -1,5 +1,5 @@
 -- The interval forms: what counts are worth, what interval is held of a value, and that it is read back. What is said is said of any style.
-use Rattle.std.proofs.Common.{◌≡◌, ℕ, ◌/◌, ◌%◌, ◌==◌, ◌&&◌, true, false, IsTrue, List, Option, Some, None, Ok, Err, FitsSigned, w32, w64, refl, sym, ◌∙◌, ap, subst, inl, inr, arith}
+use Rattle.std.proofs.Common.{◌≡◌, ℕ, ◌/◌, ◌%◌, ◌==◌, ◌&&◌, true, false, IsTrue, List, Some, None, Ok, Err, FitsSigned, w32, w64, refl, sym, ◌∙◌, ap, subst, inl, inr, arith}
 use Rattle.std.specs.Prelude.{ℤ, pos}
 use Rattle.std.proofs.lemmas.Bool.{and_parts, and_left, and_right, false_from_ne_true}
 use Rattle.std.proofs.lemmas.Bool.Decides.{nat_tests}
@@ -40,22 +40,12 @@ pub worth_fits : (counts : List Count) → IsTrue (fits counts) → worth counts
 unfolding worth
 worth_fits counts h = rw h refl
 
-worth_misfits : (counts : List Count) → fits counts ≡ false → worth counts ≡ Err Range
+pub worth_misfits : (counts : List Count) → fits counts ≡ false → worth counts ≡ Err Range
 unfolding worth
 worth_misfits counts h = rw h refl
 
 not_fitting : (counts : List Count) (part : Part) → misfit counts ≡ Some part → fits counts ≡ false
 not_fitting counts part h = false_from_ne_true (fits counts) (λ all. let none : None ≡ Some part = sym ((misfit-none counts).1 all) ∙ h in cc)
-
-named_misfit : (counts : List Count) → fits counts ≡ false → (found : Option Part) → misfit counts ≡ found
-    → (part : Part) × (worth counts ≡ Err Range) × (misfit counts ≡ Some part)
-named_misfit counts h (Some part) e = (part, worth_misfits counts h, e)
-named_misfit counts h None e = absurd (let both : true ≡ false = sym ((misfit-none counts).0 e) ∙ h in cc)
-
--- counts that don't fit have a first part that doesn't, and are worth nothing
-pub misfit_of : (counts : List Count) → fits counts ≡ false
-    → (part : Part) × (worth counts ≡ Err Range) × (misfit counts ≡ Some part)
-misfit_of counts h = named_misfit counts h (misfit counts) refl
 
 pub reads_interval : (s : Style) (text : List ℕ) (t : Interval) → Denotes (Shape s) text t
     → ReadsBy (Shape s) (Is worth) text (Ok (triple t))

@@ -1,6 +1,6 @@
 -- Lemmas on lines whose bytes come in pieces.
 use Rattle.std.proofs.Common.{◌≡◌, ℕ, ◌<◌, ◌==◌, Bool, true, false, List, [], ◌∷◌, ◌++◌, cond, length, codes, refl, ◌∙◌, ap, arith, append_assoc}
-use Rattle.scan_core.specs.Join.{onto_first}
+use Rattle.std.specs.List.{onto_first}
 use Rattle.forms.specs.Lines.{lines, onto_line, whole_lines}
 use Rattle.forms.specs.inside.Pieces.{NoFeed, AreWhole}
 

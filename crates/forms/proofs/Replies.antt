@@ -18,7 +18,7 @@ use Rattle.forms.specs.Names.{style_of}
 use Rattle.forms.specs.ReadBack.{Turns}
 use Rattle.forms.specs.Replies.{IsIntervalAnswer, IsAnswer}
 use Rattle.forms.specs.form.Intervals.{worth, held}
-use Rattle.forms.proofs.Intervals.{triple, worth_fits, IsDenotedInRange, held_parts, reads_interval, reads_misfit, reads_no_shape, misfit_of}
+use Rattle.forms.proofs.Intervals.{triple, worth_fits, IsDenotedInRange, held_parts, worth_misfits, reads_interval, reads_no_shape}
 use Rattle.forms.proofs.Lawful.{HasRows}
 
 -- reading in one style and writing in another
@@ -43,7 +43,7 @@ onto_turn from to in_range text (Ok out) h =
     let P : List ℕ → Type 0 = λ l. WritesBy (Is held) (style_text to) (triple h.0) (Ok l) in
     (Ok (triple h.0), reads_interval from text h.0 h.1, subst P (sym h.2) (written_triple from to in_range text h.0 h.1))
 onto_turn from to in_range text (Err Syntax) h = (Err Syntax, reads_no_shape from text h, refl)
-onto_turn from to in_range text (Err Range) h = (Err Range, reads_misfit from text h.0 h.1, refl)
+onto_turn from to in_range text (Err Range) h = (Err Range, inl (h.0, h.1, sym (worth_misfits h.0 h.2)), refl)
 onto_turn from to in_range text (Err _) h = absurd h
 
 -- counts that are spelled, by whether they fit
@@ -57,10 +57,9 @@ by_fit from to in_range text counts spelled true all value h answer turned =
     let is : answer ≡ Ok (style_text to (sum_of counts)) = w.2 ∙ ap (result_map (style_text to)) (w.1 ∙ sym (held_triple from in_range text (sum_of counts) denoted)) in
     subst (IsIntervalAnswer from to text) (sym is) (sum_of counts, denoted, refl)
 by_fit from to in_range text counts spelled false all value h answer turned =
-    let m = misfit_of counts (sym all) in
     let P : Result Value Cause → Type 0 = λ v. Then (WritesBy (Is held) (style_text to)) v answer in
-    let is : answer ≡ Err Range = subst P (h ∙ m.1) turned in
-    subst (IsIntervalAnswer from to text) (sym is) (m.0, (counts, spelled, m.2))
+    let is : answer ≡ Err Range = subst P (h ∙ worth_misfits counts (sym all)) turned in
+    subst (IsIntervalAnswer from to text) (sym is) (counts, spelled, sym all)
 
 onto_answer : (from to : Style) → IsDenotedInRange from → (text : List ℕ) (answer : Result (List ℕ) Cause)
     → TurnsBy from to text answer → IsIntervalAnswer from to text answer

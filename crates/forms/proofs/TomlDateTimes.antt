@@ -4,14 +4,14 @@ use Rattle.std.specs.Prelude.{ℤ, pos, negsuc, neg_ℤ, ◌+ℤ◌, ◌-ℤ◌,
 use Rattle.std.specs.Int.{int_div_euclid, int_rem_euclid, w16}
 use Rattle.std.proofs.lemmas.Bool.Decides.{nat_tests}
 use Rattle.std.proofs.lemmas.Int.{ints}
-use Rattle.iso8601.specs.Calendar.{days_in_month as iso_days_in_month, day_of as iso_day_of}
+use Rattle.iso8601.specs.Calendar.{day_of as iso_day_of}
+use Rattle.scan_core.specs.Calendar.{days_in_month}
 use Rattle.iso8601.specs.declared.types.Date.TheVariants.{YMD}
 use Rattle.jiff_core.specs.Calendar.{IsYear, IsEpochDay, days_in_month as civil_days_in_month, days_from_civil}
 use Rattle.jiff_core.specs.Date.{epoch_day}
 use Rattle.jiff_core.specs.declared.civil.date.Date.{Date as CivilDate}
 use Rattle.jiff_core.proofs.DateLemmas.{epoch_day_range, epoch_day_injective}
 use Rattle.jiff_core.proofs.SignedLemmas.{signed_arith}
-use Rattle.port_toml_datetime.specs.Dates.{days_in_month}
 use Rattle.port_toml_datetime.specs.Datetimes.{IsDatetime, datetime_of}
 use Rattle.port_toml_datetime.specs.Texts.{text_of}
 use Rattle.port_toml_datetime.specs.WellFormed.{IsRealDay, IsRealTime, AreRealSeconds, IsOffsetInRange, AreWellFormed, IsWellFormed}
@@ -33,9 +33,8 @@ use Rattle.forms.proofs.Lawful.{else_ok, same_ok, map_ok, one_image, IsHeldBack,
 
 -- ---- days
 
--- both calendars have the same days in a month
-same_month : (year month : ℕ) → civil_days_in_month (pos year) month ≡ days_in_month year month
-unfolding days_in_month
+-- civil months have these days too
+same_month : (year month : ℕ) → civil_days_in_month (pos year) month ≡ days_in_month (pos year) month
 same_month year month = refl
 
 pub most_days : (d : Date) → IsRealDay d → d.day ≤ civil_days_in_month (pos d.year) d.month
@@ -55,11 +54,6 @@ civil_of d real = record {
   month_in = (real.month, real.months);
   day_in = (real.day, most_days d real);
 }
-
--- the calendar of ISO 8601 is the same
-pub one_month : (year month : ℕ) → days_in_month year month ≡ iso_days_in_month (pos year) month
-unfolding days_in_month
-one_month year month = refl
 
 -- what the law of the crate below says of civil dates
 abbrev pub SameDays : Type 0

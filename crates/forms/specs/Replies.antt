@@ -1,11 +1,12 @@
 -- Requests and replies. A line is a request: a form's name, a space, a form's name, then the end or a space and a text.
 -- Its reply is what the text is in the second form, or `refused` and the cause.
-use Rattle.std.specs.Prelude.{◌≡◌, ◌⊎◌, ℕ, List, [], ◌++◌, codes, Some, None, Result, Ok, Err, IsUtf8}
+use Rattle.std.specs.Prelude.{◌≡◌, ◌⊎◌, ℕ, false, List, [], ◌++◌, codes, Some, None, Result, Ok, Err, IsUtf8}
 use Rattle.scan_core.specs.Join.{IsJoin}
-use Rattle.scan_core.specs.declared.share.Part.{Part}
+use Rattle.scan_core.specs.Count.{Count}
+use Rattle.scan_core.specs.Sums.{fits}
 use Rattle.pg_interval_2.specs.declared.interval.Interval.{Interval}
 use Rattle.pg_interval_2.specs.declared.style.Style.{Style}
-use Rattle.pg_interval_2.specs.Denotes.{Denotes, HasNoShape, Misfits}
+use Rattle.pg_interval_2.specs.Denotes.{Denotes}
 use Rattle.pg_interval_2.specs.Styles.{Shape, style_text}
 use Rattle.forms.specs.declared.form.Form.{Form}
 use Rattle.forms.specs.declared.cause.Cause.{Cause}
@@ -14,12 +15,13 @@ use Rattle.forms.specs.Names.{name_of, style_of, cause_name}
 use Rattle.forms.specs.ReadBack.{Turns}
 
 -- Between two interval forms: the second form's written text of the one interval that the text denotes by the first form's grammar,
--- `Syntax` exactly without its shape, and `Range` exactly where a share or a sum doesn't fit.
+-- `Syntax` exactly where the text spells no counts, and `Range` exactly where it does and a share or a sum doesn't fit.
 abbrev pub IsIntervalAnswer : Style → Style → List ℕ → Result (List ℕ) Cause → Type 0
 IsIntervalAnswer from to text (Ok out) =
     (t : Interval) × Denotes (Shape from) text t × (out ≡ style_text to t)
-IsIntervalAnswer from to text (Err Syntax) = HasNoShape (Shape from) text
-IsIntervalAnswer from to text (Err Range) = (part : Part) × Misfits (Shape from) text part
+IsIntervalAnswer from to text (Err Syntax) = (counts : List Count) → ¬ (Shape from text counts)
+IsIntervalAnswer from to text (Err Range) =
+    (counts : List Count) × Shape from text counts × (fits counts ≡ false)
 IsIntervalAnswer from to text (Err _) = ⊥
 
 -- What a text of one form is in another, or the cause why it is nothing: between two interval forms by their styles, and else what

@@ -20,8 +20,6 @@ ghost use Rattle.forms.specs.Sample.{answers, refusals, sample_lines};
 ghost use Rattle.forms.specs.Values.{IsWithinBounds};
 ghost use Rattle.forms.specs.Waiting.{Moves};
 ghost use Rattle.forms.specs.inside.Lawful.{Lawful};
-ghost use Rattle.iso8601.specs.Calendar.{days_in_month};
-ghost use Rattle.port_toml_datetime.specs.Dates.{days_in_month as toml_days_in_month};
 
 use crate::answer::line_reply;
 use crate::form::{fancy, file_time, intervals, iso_date, iso_date_time, iso_duration, toml};
@@ -173,10 +171,4 @@ pub fn too_long_is_past_the_limit()
 pub fn each_end_leaves_a_front()
     ensures { (limit : ℕ) (old new : Streams) (end : AnyEnd) → Ended limit old new end
         → IfSome old.left (λ bytes. GainsFront (lines bytes) old.held new.held) }
-{}
-
-/// All forms have one calendar: a month of TOML has the days of the same month of ISO 8601.
-pub fn calendars_agree()
-    ensures { (year month : ℕ) → toml_days_in_month year month
-        ≡ days_in_month (pos year) month }
 {}

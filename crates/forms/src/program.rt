@@ -73,7 +73,8 @@ pub fn top<S: Source, K: Sink>(alloc: Global, words: &str, source: &mut S, sink:
     // At status 0 the end came, and each line of all that was left has its reply, however the bytes were cut.
     ensures done { words.now ≡ [] → result ≡ 0 → IsAtEnd (S.left source.new) }
     ensures replies { words.now ≡ [] → result ≡ 0 → IfSome (S.left source.old) (λ bytes.
-        GainsReplies (lines bytes) (K.held sink.old) (K.held sink.new)) }
+        (out : List ℕ) × AreReplies (lines bytes) out
+        × Appends (K.held sink.old) (K.held sink.new) out) }
 
     // Whatever the status, a front of the replies to all lines was written.
     ensures front { words.now ≡ [] → IfSome (S.left source.old) (λ bytes.

@@ -1,26 +1,14 @@
 -- The days of dates in the proleptic Gregorian calendar and in its weeks (ISO 8601-1:2019, 4.2 and 5.2; RFC 3339,
 -- appendix C), numbered from 1970-01-01. Years are whole numbers without bounds; the year before 1 is 0.
-use Rattle.std.specs.Prelude.{◌≡◌, ℕ, zero, suc, ◌+◌, ◌-◌, ◌≤◌, ◌%◌, ◌==◌, ◌&&◌, ◌||◌, not, Bool, ℤ, pos, neg_ℤ, unsigned_abs, ◌+ℤ◌, ◌-ℤ◌, ◌*ℤ◌, ◌<ℤ◌, ◌≤ℤ◌, if◌then◌else◌}
+use Rattle.std.specs.Prelude.{◌≡◌, ℕ, zero, suc, ◌+◌, ◌-◌, ◌≤◌, ℤ, pos, neg_ℤ, unsigned_abs, ◌+ℤ◌, ◌-ℤ◌, ◌*ℤ◌, ◌<ℤ◌, ◌≤ℤ◌, if◌then◌else◌}
 use Rattle.std.specs.Int.{int_div_euclid, int_rem_euclid}
+use Rattle.scan_core.specs.Calendar.{is_leap_year, days_in_month}
 use Rattle.iso8601.specs.declared.types.Date.{Date}
 use Rattle.iso8601.specs.declared.types.Date.TheVariants.{YMD, Week, Ordinal}
 
--- the year is a multiple of n
-abbrev pub is_multiple : ℕ → ℤ → Bool
-is_multiple n year = unsigned_abs year % n == 0
-
--- every fourth year, but of the centuries only every fourth
-abbrev pub is_leap_year : ℤ → Bool
-is_leap_year year = is_multiple 4 year && (not (is_multiple 100 year) || is_multiple 400 year)
-
+-- 365 days, and one more in leap years
 abbrev pub days_in_year : ℤ → ℕ
 days_in_year year = if is_leap_year year then 366 else 365
-
--- thirty days have April, June, September and November
-abbrev pub days_in_month : ℤ → ℕ → ℕ
-days_in_month year month =
-    if month == 2 then (if is_leap_year year then 29 else 28)
-    else (if (month == 4) || (month == 6) || (month == 9) || (month == 11) then 30 else 31)
 
 -- the days of the first n months of a year
 unfoldable pub days_of_months : ℤ → ℕ → ℕ

@@ -5,9 +5,11 @@ use Rattle.std.proofs.lemmas.Bool.{and_from}
 use Rattle.std.proofs.lemmas.List.Folds.{list_all-append}
 use Rattle.scan_core.specs.Count.{Count}
 use Rattle.scan_core.specs.Digits.{number_of}
-use Rattle.scan_core.specs.Shares.{signed, magnitude, scale_of, rounded, fits_type}
+use Rattle.scan_core.specs.Shares.{signed, rounded, fits_type}
+use Rattle.scan_core.specs.ShareSteps.{magnitude, scale_of}
 use Rattle.scan_core.specs.Sums.{total, part_fits}
 use Rattle.scan_core.specs.declared.share.Part.{Part}
+use Rattle.scan_core.proofs.ShareFacts.{share-steps}
 use Rattle.scan_core.proofs.SumFacts.{total-append}
 use Rattle.pg_interval_2.specs.inside.Tallies.{each_fits}
 
@@ -30,8 +32,8 @@ pub AddsUp-one : (part : Part) (c : Count) (w r : ℕ) → number_of c.whole ≡
     → IsTrue (fits_type part (signed c.negative (magnitude part c.unit w r)))
     → AddsUp part (c ∷ []) (signed c.negative (magnitude part c.unit w r))
 AddsUp-one part c w r whole fraction fits = record {
-  each = rw (whole, fraction) (and_from _ true fits refl);
-  total_is = rw (whole, fraction) (omega (arith, ints));
+  each = rw (share-steps part c, whole, fraction) (and_from _ true fits refl);
+  total_is = rw (share-steps part c, whole, fraction) (omega (arith, ints));
 }
 
 -- the same number by another name

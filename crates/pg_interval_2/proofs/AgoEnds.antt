@@ -8,14 +8,16 @@ use Rattle.std.proofs.lemmas.Bool.{not-true, and_parts}
 use Rattle.scan_core.specs.Blanks.{is_blank, words}
 use Rattle.scan_core.specs.Count.{Count}
 use Rattle.scan_core.specs.Digits.{AreDigits}
-use Rattle.scan_core.specs.Join.{onto_first, IsJoin}
+use Rattle.scan_core.specs.Join.{IsJoin}
+use Rattle.std.specs.List.{onto_first}
 use Rattle.scan_core.specs.Number.{IsFraction}
 use Rattle.scan_core.specs.declared.share.Unit.{Unit as TimeUnit}
 use Rattle.scan_core.specs.declared.share.Unit.TheVariants.{Year, Month, Week, Day, Hour, Minute, Second}
 use Rattle.pg_interval_2.specs.Clock.{IsClock}
 use Rattle.pg_interval_2.specs.Postgres.{IsItem}
 use Rattle.pg_interval_2.specs.UnitNames.{verbose_names}
-use Rattle.pg_interval_2.specs.Verbose.{IsFramed, IsBody, EndsInAgo}
+use Rattle.pg_interval_2.specs.Verbose.{IsFramed, EndsInAgo}
+use Rattle.pg_interval_2.specs.inside.VerboseParts.{IsBody}
 use Rattle.pg_interval_2.proofs.ItemFacts.{AreBlanks}
 use Rattle.pg_interval_2.proofs.UnitsApart.{contains_passes}
 

@@ -7,7 +7,8 @@ use Rattle.std.specs.List.{list_all}
 use Rattle.scan_core.specs.Blanks.{is_blank, words}
 use Rattle.scan_core.specs.Count.{Count}
 use Rattle.scan_core.specs.Digits.{AreDigits}
-use Rattle.scan_core.specs.Join.{IsJoin, onto_first}
+use Rattle.scan_core.specs.Join.{IsJoin}
+use Rattle.std.specs.List.{onto_first}
 use Rattle.scan_core.specs.Number.{IsSign, IsFraction, IsNumber}
 use Rattle.scan_core.specs.declared.share.Unit.{Unit as TimeUnit}
 use Rattle.scan_core.specs.declared.share.Unit.TheVariants.{Year, Month, Week, Day, Hour, Minute, Second}
@@ -18,10 +19,12 @@ use Rattle.pg_interval_2.proofs.IsoWhole.{either, strict_either}
 use Rattle.pg_interval_2.specs.inside.IsoShapes.{date_unit, time_unit, ArePairs, IsDateAlone, IsDateAndTime, IsIsoEither}
 use Rattle.pg_interval_2.specs.inside.IsoShapes.{IsStrictEither}
 use Rattle.pg_interval_2.specs.Postgres.{IsItem, IsPostgres}
-use Rattle.pg_interval_2.specs.Sql.{IsSignOr, IsYearMonth, IsDays, HasSeconds, IsTime, AreSqlWords, IsSql}
+use Rattle.pg_interval_2.specs.Sql.{IsSignOr, IsYearMonth, IsDays, IsTime, AreSqlWords, IsSql}
+use Rattle.pg_interval_2.specs.inside.SqlParts.{HasSeconds}
 use Rattle.pg_interval_2.specs.Styles.{Shape}
 use Rattle.pg_interval_2.specs.UnitNames.{postgres_names, verbose_names}
-use Rattle.pg_interval_2.specs.Verbose.{ago_or_none, IsBody, IsVerbose}
+use Rattle.pg_interval_2.specs.Verbose.{IsVerbose}
+use Rattle.pg_interval_2.specs.inside.VerboseParts.{ago_or_none, IsBody}
 use Rattle.pg_interval_2.specs.declared.style.Style.{Style}
 use Rattle.pg_interval_2.specs.declared.style.Style.TheVariants.{Iso, Postgres, Verbose, Sql, IsoStrict}
 use Rattle.pg_interval_2.proofs.EachByte.{Each, EachWord, each-append, each_word-append, each-weaker, each-digits}
@@ -261,9 +264,9 @@ sql_words_in : (all : List (List ℕ)) (counts : List Count) → AreSqlWords all
 sql_words_in [] counts h = absurd h
 sql_words_in (word ∷ []) counts (inl h) = (year_month_in word counts h, tt)
 sql_words_in (word ∷ []) counts (inr h) = (time_in false word counts h, tt)
-sql_words_in (a ∷ b ∷ []) counts h = (days_in h.negative a h.day_counts h.days, (time_in h.negative b h.time_counts h.time, tt))
+sql_words_in (a ∷ b ∷ []) counts h = (days_in h.0 a h.1 h.3, (time_in h.0 b h.2 h.4, tt))
 sql_words_in (a ∷ b ∷ c ∷ []) counts h =
-    (year_month_in a h.date_counts h.date, (days_in h.negative b h.day_counts h.days, (time_in false c h.time_counts h.time, tt)))
+    (year_month_in a h.1 h.4, (days_in h.0 b h.2 h.5, (time_in false c h.3 h.6, tt)))
 sql_words_in (a ∷ b ∷ c ∷ d ∷ more) counts h = absurd h
 
 sql_in : (text : List ℕ) (counts : List Count) → IsSql text counts → In text

@@ -9,7 +9,7 @@ use Rattle.pg_interval_2.specs.declared.interval.Interval.{Interval}
 use Rattle.pg_interval_2.specs.declared.error.ParseError.{ParseError}
 use Rattle.pg_interval_2.specs.declared.error.ParseError.TheVariants.{InvalidInterval, BadUnit, InvalidYearMonth, InvalidDay, InvalidTime}
 use Rattle.pg_interval_2.specs.Denotes.{Denotes, HasNoShape, IsRange, IsRangeOf, Misfits, Refuses, sum_of}
-use Rattle.pg_interval_2.specs.inside.Tallies.{Answers}
+use Rattle.pg_interval_2.specs.inside.Tallies.{AnswersCounts}
 
 -- a text has one list of counts
 abbrev pub HasOneList : (List ℕ → List Count → Type 0) → Type 0
@@ -20,14 +20,14 @@ fits_or_not counts part fit misses = let none = (misfit-none counts).1 fit in le
 
 -- what is answered is what the text denotes, or why it denotes nothing
 pub answers_ok : (Shape : List ℕ → List Count → Type 0) (text : List ℕ) (counts : List Count) → Shape text counts
-    → (result : Result Interval ParseError) → Answers counts result
+    → (result : Result Interval ParseError) → AnswersCounts counts result
     → IfOk result (λ t. Denotes Shape text t)
 answers_ok Shape text counts shape (Ok t) answer = (counts, shape, answer.0, answer.1)
 answers_ok Shape text counts shape (Err e) answer = tt
 
 pub answers_err :
     (Shape : List ℕ → List Count → Type 0) (IsBadPlace : List ℕ → ℕ → ℕ → Type 0) (message text : List ℕ) (counts : List Count)
-    → Shape text counts → (result : Result Interval ParseError) → Answers counts result
+    → Shape text counts → (result : Result Interval ParseError) → AnswersCounts counts result
     → IfErr result (λ e. Refuses Shape IsBadPlace message text e)
 answers_err Shape IsBadPlace message text counts shape (Ok t) answer = tt
 answers_err Shape IsBadPlace message text counts shape (Err (InvalidInterval m)) answer = absurd answer

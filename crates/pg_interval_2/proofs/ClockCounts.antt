@@ -9,14 +9,15 @@ use Rattle.std.specs.List.{list_all}
 use Rattle.scan_core.specs.Count.{Count, count_of}
 use Rattle.scan_core.specs.Digits.{number_of}
 use Rattle.scan_core.specs.Padded.{padded_digits}
-use Rattle.scan_core.specs.Shares.{share, signed, magnitude, scale_of, rounded, fits_type}
+use Rattle.scan_core.specs.Shares.{share, signed, rounded, fits_type}
+use Rattle.scan_core.specs.ShareSteps.{magnitude, scale_of}
 use Rattle.scan_core.specs.Sums.{total}
 use Rattle.scan_core.specs.declared.share.Unit.TheVariants.{Hour, Minute, Second}
 use Rattle.scan_core.specs.declared.share.Part.{Part}
 use Rattle.scan_core.specs.declared.share.Part.TheVariants.{Months, Days, Micros}
 use Rattle.scan_core.proofs.RoundingFacts.{rounded-nil, power-pos}
 use Rattle.scan_core.proofs.PaddedFacts.{number_of-padded, length-padded}
-use Rattle.pg_interval_2.specs.Clock.{is_nonzero}
+use Rattle.pg_interval_2.specs.inside.Reading.{is_nonzero}
 use Rattle.pg_interval_2.specs.declared.interval.Interval.{Interval}
 use Rattle.pg_interval_2.specs.Ranges.{IsInRange}
 use Rattle.pg_interval_2.specs.inside.PartSteps.{hours_of, minutes_of, seconds_of, subsecond_of}
@@ -25,6 +26,7 @@ use Rattle.pg_interval_2.proofs.WrittenDigits.{rounded-padded}
 use Rattle.scan_core.proofs.Signs.{Serves, signed-zero, signed-abs, fits_type-serves, fits_type-signed_zero, abs_fits, signed_three}
 use Rattle.pg_interval_2.proofs.AddsUp.{AddsUp, AddsUp-one, AddsUp-append, AddsUp-same}
 use Rattle.scan_core.proofs.FitFacts.{fits_64}
+use Rattle.scan_core.proofs.ShareFacts.{share-steps}
 use Rattle.pg_interval_2.proofs.SumsTo.{SumsTo, time_of}
 use Rattle.pg_interval_2.proofs.WrittenCounts.{magnitude-zero, time_parts}
 
@@ -42,7 +44,7 @@ nothing_counted part c zero_is =
     let parts = and_parts _ _ (not-false _ zero_is) in
     let whole : number_of c.whole ≡ 0 = eqb-true _ _ parts.0 in
     let fraction : rounded (scale_of c.unit) c.fraction ≡ 0 = rounded-zero (scale_of c.unit) c.fraction (eqb-true _ _ parts.1) in
-    rw (whole, fraction, magnitude-zero) (signed-zero c.negative)
+    rw (share-steps part c, whole, fraction, magnitude-zero) (signed-zero c.negative)
 
 total-filter : (part : Part) (counts : List Count) → total part (filter is_nonzero counts) ≡ total part counts
 total-filter part [] = refl

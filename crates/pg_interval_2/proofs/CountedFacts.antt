@@ -8,7 +8,7 @@ use Rattle.scan_core.specs.Count.{Count, count_of}
 use Rattle.scan_core.specs.declared.share.Unit.{Unit as TimeUnit}
 use Rattle.scan_core.specs.declared.share.Unit.TheVariants.{Second}
 use Rattle.pg_interval_2.specs.declared.counted.Counted.{Counted}
-use Rattle.pg_interval_2.specs.Clock.{is_nonzero}
+use Rattle.pg_interval_2.specs.inside.Reading.{is_nonzero}
 use Rattle.pg_interval_2.specs.inside.CountedItems.{IsCounted, CountsPerhaps, CountsAll}
 use Rattle.pg_interval_2.specs.inside.ItemReading.{ClockFields, ClockItem, NamedItem, read_item}
 use Rattle.scan_core.specs.Runs.{digits_of}
@@ -24,7 +24,8 @@ use Rattle.pg_interval_2.proofs.UnitsApart.{contains_named, all_fresh}
 use Rattle.pg_interval_2.proofs.ItemsRead.{StandsNamed, StandsClock, Stands, item_stands}
 use Rattle.pg_interval_2.specs.Postgres.{IsFreshName}
 use Rattle.pg_interval_2.specs.inside.UnitPlaces.{place_of, counts_unit, has_distinct_units}
-use Rattle.pg_interval_2.specs.Turned.{turned_count, turned_sign}
+use Rattle.pg_interval_2.specs.Turned.{turned_sign}
+use Rattle.pg_interval_2.specs.inside.TurnedCount.{turned_count}
 use Rattle.pg_interval_2.specs.inside.NamedUnits.{unit_named}
 use Rattle.pg_interval_2.proofs.Turning.{turned_fields}
 use Rattle.pg_interval_2.specs.inside.Tallies.{Tallies}

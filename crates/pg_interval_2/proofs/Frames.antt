@@ -5,7 +5,8 @@ use Rattle.std.specs.List.{list_all}
 use Rattle.std.proofs.lemmas.Bool.{and_parts}
 use Rattle.scan_core.specs.Blanks.{is_blank, words}
 use Rattle.scan_core.proofs.WordFacts.{ink, ink-append, same_place, words-behind}
-use Rattle.pg_interval_2.specs.Verbose.{ago_or_none, IsFramed, EndsInAgo}
+use Rattle.pg_interval_2.specs.Verbose.{IsFramed, EndsInAgo}
+use Rattle.pg_interval_2.specs.inside.VerboseParts.{ago_or_none}
 use Rattle.pg_interval_2.proofs.BadNames.{ink_blanks}
 use Rattle.pg_interval_2.proofs.ItemFacts.{AreBlanks}
 use Rattle.pg_interval_2.proofs.ItemWords.{words-blanks}

@@ -8,7 +8,8 @@ use Rattle.pg_interval_2.specs.declared.order.Order.{Order}
 use Rattle.pg_interval_2.specs.declared.tally.Tally.{Tally}
 use Rattle.pg_interval_2.specs.Iso.{IsPair, unit_in}
 use Rattle.pg_interval_2.specs.inside.IsoShapes.{ArePairs, IsDateAlone, IsDateAndTime}
-use Rattle.pg_interval_2.specs.IsoStrict.{AreInOrder, units_in_order}
+use Rattle.pg_interval_2.specs.IsoStrict.{AreInOrder}
+use Rattle.pg_interval_2.specs.inside.UnitsInOrder.{units_in_order}
 use Rattle.pg_interval_2.specs.inside.IsoShapes.{IsStrictEither}
 use Rattle.pg_interval_2.specs.inside.IsoTally.{IsSpelled, TakesPairs}
 use Rattle.pg_interval_2.specs.inside.Orders.{Orders, is_kept}

@@ -11,11 +11,12 @@ use Rattle.scan_core.specs.declared.share.Unit.TheVariants.{Year, Month, Week, D
 use Rattle.scan_core.proofs.DigitFacts.{digits_decimal}
 use Rattle.pg_interval_2.specs.Iso.{IsPair}
 use Rattle.pg_interval_2.specs.inside.IsoShapes.{ArePairs, date_unit, time_unit}
-use Rattle.pg_interval_2.specs.IsoStrict.{AreInOrder, units_in_order}
+use Rattle.pg_interval_2.specs.IsoStrict.{AreInOrder}
+use Rattle.pg_interval_2.specs.inside.UnitsInOrder.{units_in_order}
 use Rattle.pg_interval_2.specs.inside.IsoShapes.{IsStrictEither}
 use Rattle.pg_interval_2.specs.IsoText.{iso_part}
 use Rattle.pg_interval_2.specs.inside.IsoSteps.{nonzero_digits, iso_decimal, iso_seconds, iso_date, iso_time, iso_steps}
-use Rattle.pg_interval_2.specs.Parts.{minus}
+use Rattle.scan_core.specs.Number.{minus}
 use Rattle.pg_interval_2.specs.inside.PartSteps.{years_of, months_of, hours_of, minutes_of, seconds_of, subsecond_of}
 use Rattle.scan_core.proofs.Joins.{IsJoin-append, IsJoin-one}
 use Rattle.scan_core.proofs.PaddedFacts.{digits-padded, length-padded}

@@ -11,7 +11,7 @@ use Rattle.scan_core.specs.Number.{IsFraction, IsNumber, IsSign}
 use Rattle.scan_core.proofs.DigitFacts.{all_from_digits}
 use Rattle.scan_core.specs.declared.share.Unit.{Unit as TimeUnit}
 use Rattle.pg_interval_2.specs.Denotes.{HasNoShape}
-use Rattle.pg_interval_2.specs.Iso.{IsPair, IsIsoBy, IsIso, unit_in}
+use Rattle.pg_interval_2.specs.Iso.{IsPair, IsIso, unit_in}
 use Rattle.pg_interval_2.specs.inside.IsoShapes.{ArePairs}
 use Rattle.pg_interval_2.specs.IsoWithoutWeeks.{IsIsoWithoutWeeks, has_week, unit_without_weeks}
 
@@ -59,8 +59,8 @@ time_without date time rest (inl none) h = ap has_week none.1
 time_without date time rest (inr behind) h = (apart rest (codes "T") time h behind).1
 
 shape_over : (from to : Bool → ℕ → Option TimeUnit) → ((in_time : Bool) → GoesOver (from in_time) (to in_time))
-    → (text : List ℕ) (counts : List Count) → has_week text ≡ false → IsIsoBy from text counts
-    → IsIsoBy to text counts
+    → (text : List ℕ) (counts : List Count) → has_week text ≡ false → IsIso from text counts
+    → IsIso to text counts
 shape_over from to over text counts none iso =
     let behind = (apart text (codes "P") (iso.date ++ iso.rest) none iso.joined).1 in
     let parts = apart _ iso.date iso.rest behind refl in
@@ -78,7 +78,7 @@ shape_over from to over text counts none iso =
       counted = iso.counted;
     }
 
-pub old_texts : (text : List ℕ) (counts : List Count) → has_week text ≡ false → (IsIso text counts ↔ IsIsoWithoutWeeks text counts)
+pub old_texts : (text : List ℕ) (counts : List Count) → has_week text ≡ false → (IsIso unit_in text counts ↔ IsIsoWithoutWeeks text counts)
 old_texts text counts none = (shape_over unit_in unit_without_weeks forth text counts none, shape_over unit_without_weeks unit_in back text counts none)
 
 -- ---- the old shape has no such letter

@@ -2,12 +2,13 @@
 use Rattle.std.proofs.Common.{◌≡◌, ◌≢◌, ◌⊎◌, ℕ, Bool, true, false, List, [], ◌∷◌, ◌++◌, length, codes, Option, refl, sym, ◌∙◌, ap, subst, append-nil, length-append, arith, inl, inr, ⊎_elim}
 use Rattle.scan_core.specs.Count.{Count}
 use Rattle.scan_core.specs.declared.share.Unit.{Unit as TimeUnit}
-use Rattle.pg_interval_2.specs.Iso.{IsIsoBy, IsIso, unit_in}
-use Rattle.pg_interval_2.specs.IsoStrict.{AreInOrder, units_in_order, IsIsoStrict}
+use Rattle.pg_interval_2.specs.Iso.{IsIso, unit_in}
+use Rattle.pg_interval_2.specs.IsoStrict.{AreInOrder, IsIsoStrict}
+use Rattle.pg_interval_2.specs.inside.UnitsInOrder.{units_in_order}
 use Rattle.pg_interval_2.specs.inside.IsoShapes.{ArePairs, IsDateAlone, IsDateAndTime, IsIsoEither, IsStrictEither}
 
 pub whole : (units : Bool → ℕ → Option TimeUnit) (text : List ℕ) (counts : List Count)
-    → IsDateAlone units text counts ⊎ IsDateAndTime units text counts → IsIsoBy units text counts
+    → IsDateAlone units text counts ⊎ IsDateAndTime units text counts → IsIso units text counts
 whole units text counts (inl (date, pairs, some, spelled)) = record {
   date = date;
   time = [];
@@ -43,7 +44,7 @@ no_pairs unit_of bytes (c ∷ cs) (piece, rest, pair, more, split) none =
     absurd (omega (arith, whole_length, piece_length, length-append piece rest, length-append number (pair.letter ∷ [])))
 
 -- without a `T`
-alone : (units : Bool → ℕ → Option TimeUnit) (text : List ℕ) (counts : List Count) (iso : IsIsoBy units text counts)
+alone : (units : Bool → ℕ → Option TimeUnit) (text : List ℕ) (counts : List Count) (iso : IsIso units text counts)
     → iso.rest ≡ [] → iso.time ≡ [] → iso.date ≢ []
     → (counts ≡ iso.date_counts) × IsDateAlone units text counts
 alone units text counts iso none empty some =
@@ -53,7 +54,7 @@ alone units text counts iso none empty some =
     (same, (iso.date, subst (λ (cs : List Count). ArePairs (units false) iso.date cs) (sym same) iso.dates, some, spelled))
 
 -- with a `T`
-timed : (units : Bool → ℕ → Option TimeUnit) (text : List ℕ) (counts : List Count) (iso : IsIsoBy units text counts)
+timed : (units : Bool → ℕ → Option TimeUnit) (text : List ℕ) (counts : List Count) (iso : IsIso units text counts)
     → iso.rest ≡ codes "T" ++ iso.time
     → IsDateAndTime units text counts
 timed units text counts iso behind = record {
@@ -67,7 +68,7 @@ timed units text counts iso behind = record {
   counted = iso.counted;
 }
 
-pub either : (text : List ℕ) (counts : List Count) → IsIso text counts → IsIsoEither text counts
+pub either : (text : List ℕ) (counts : List Count) → IsIso unit_in text counts → IsIsoEither text counts
 either text counts iso = ⊎_elim (λ none. inl (alone unit_in text counts iso none.0 none.1 none.2).1) (λ behind. inr (timed unit_in text counts iso behind)) iso.timed
 
 pub whole_strict : (text : List ℕ) (counts : List Count) → IsStrictEither text counts → IsIsoStrict text counts

@@ -3,7 +3,8 @@ use Rattle.std.proofs.Common.{◌≡◌, ℕ, ◌+◌, ◌<◌, Bool, true, List
 use Rattle.scan_core.specs.Blanks.{is_blank, EndsWord}
 use Rattle.scan_core.specs.Count.{Count}
 use Rattle.scan_core.specs.Number.{IsFraction, IsNumber}
-use Rattle.pg_interval_2.specs.Clock.{IsField, IsClock}
+use Rattle.pg_interval_2.specs.Clock.{IsClock}
+use Rattle.scan_core.specs.Digits.{AreSomeDigits}
 use Rattle.pg_interval_2.specs.inside.Reading.{read_sign}
 use Rattle.scan_core.specs.Fronts.{NoDigitFirst}
 use Rattle.scan_core.proofs.FrontFacts.{behind_skips, front_of, after_of}
@@ -76,11 +77,11 @@ named_read negative whole fraction number blanks letters rest h blank some l end
 
 -- ---- a clock
 
-pub field_no_sign : (field rest : List ℕ) → IsField field → NoSignFirst (field ++ rest)
+pub field_no_sign : (field rest : List ℕ) → AreSomeDigits field → NoSignFirst (field ++ rest)
 field_no_sign field rest h = digits_no_sign field [] [] rest h.1 (inl (refl, refl)) (let some = h.0 in omega arith)
 
 -- the seconds behind the second colon
-seconds_read : (negative : Bool) (hours minutes seconds fraction tail rest : List ℕ) → IsField hours → IsField minutes → IsField seconds
+seconds_read : (negative : Bool) (hours minutes seconds fraction tail rest : List ℕ) → AreSomeDigits hours → AreSomeDigits minutes → AreSomeDigits seconds
     → IsFraction fraction tail → EndsWord rest
     → read_seconds negative hours minutes (Some (seconds ++ (tail ++ rest)))
     ≡ ClockItem (record { negative = negative; hours = hours; minutes = minutes; seconds = seconds; fraction = fraction }) rest

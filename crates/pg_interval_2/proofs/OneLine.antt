@@ -15,11 +15,11 @@ use Rattle.pg_interval_2.specs.Alphabet.{is_no_feed}
 use Rattle.pg_interval_2.specs.inside.ClockSteps.{hours_text, field_text, fraction_text, clock_steps}
 use Rattle.pg_interval_2.specs.IsoText.{iso_part}
 use Rattle.pg_interval_2.specs.inside.IsoSteps.{nonzero_digits, iso_decimal, iso_seconds, iso_date, iso_time, iso_steps}
-use Rattle.pg_interval_2.specs.Parts.{minus}
+use Rattle.scan_core.specs.Number.{minus}
 use Rattle.pg_interval_2.specs.inside.PartSteps.{years_of, months_of, hours_of, minutes_of, seconds_of, subsecond_of}
 use Rattle.pg_interval_2.specs.inside.PostgresSteps.{counted_name, number_words, named_words, clock_words, postgres_words, postgres_steps}
 use Rattle.pg_interval_2.specs.Ranges.{IsInRange}
-use Rattle.pg_interval_2.specs.SqlText.{minus_or_plus}
+use Rattle.scan_core.specs.Number.{sign_text}
 use Rattle.pg_interval_2.specs.inside.SqlSteps.{has_all_signs, year_month_text, signed_text, months_text, days_text, time_text, plain_text, sql_steps}
 use Rattle.pg_interval_2.specs.Styles.{style_text}
 use Rattle.pg_interval_2.specs.Turned.{turned_sign}
@@ -289,7 +289,7 @@ verbose_line months days micros m d u =
 
 -- ---- the SQL style
 
-plus_line : (negative : Bool) → OneLine (minus_or_plus negative)
+plus_line : (negative : Bool) → OneLine (sign_text negative)
 plus_line true = lit (codes "-") refl
 plus_line false = lit (codes "+") refl
 
@@ -302,12 +302,12 @@ year_month_line months m =
 signed_text_line : (months days micros : ℤ) → IsSmall months → IsSmall days → IsSmall micros → OneLine (signed_text months days micros)
 unfolding signed_text
 signed_text_line months days micros m d u =
-    let date : List ℕ = minus_or_plus (is_negative months) ++ year_month_text months in
-    let day : List ℕ = minus_or_plus (is_negative days) ++ decimal (unsigned_abs days) in
-    let time : List ℕ = minus_or_plus (is_negative micros) ++ clock_steps 1 micros in
-    let dates = append (minus_or_plus (is_negative months)) (year_month_text months) (plus_line (is_negative months)) (year_month_line months m) in
-    let days_in = append (minus_or_plus (is_negative days)) (decimal (unsigned_abs days)) (plus_line (is_negative days)) (decimal_line (unsigned_abs days) (abs_small days d)) in
-    let times = append (minus_or_plus (is_negative micros)) (clock_steps 1 micros) (plus_line (is_negative micros)) (clock_line 1 micros u) in
+    let date : List ℕ = sign_text (is_negative months) ++ year_month_text months in
+    let day : List ℕ = sign_text (is_negative days) ++ decimal (unsigned_abs days) in
+    let time : List ℕ = sign_text (is_negative micros) ++ clock_steps 1 micros in
+    let dates = append (sign_text (is_negative months)) (year_month_text months) (plus_line (is_negative months)) (year_month_line months m) in
+    let days_in = append (sign_text (is_negative days)) (decimal (unsigned_abs days)) (plus_line (is_negative days)) (decimal_line (unsigned_abs days) (abs_small days d)) in
+    let times = append (sign_text (is_negative micros)) (clock_steps 1 micros) (plus_line (is_negative micros)) (clock_line 1 micros u) in
     let behind_days = append (codes " ") time (lit (codes " ") refl) times in
     let behind_date = append (codes " ") (day ++ (codes " " ++ time)) (lit (codes " ") refl) (append day (codes " " ++ time) days_in behind_days) in
     append date (codes " " ++ (day ++ (codes " " ++ time))) dates behind_date

@@ -4,7 +4,8 @@ use Rattle.std.proofs.lemmas.Bool.{cases_lt}
 use Rattle.std.proofs.lemmas.Bool.Decides.{nat_tests}
 use Rattle.scan_core.specs.Count.{Count}
 use Rattle.scan_core.specs.declared.share.Unit.{Unit as TimeUnit}
-use Rattle.pg_interval_2.specs.IsoStrict.{AreInOrder, units_in_order}
+use Rattle.pg_interval_2.specs.IsoStrict.{AreInOrder}
+use Rattle.pg_interval_2.specs.inside.UnitsInOrder.{units_in_order}
 use Rattle.pg_interval_2.specs.inside.UnitPlaces.{place_of}
 use Rattle.pg_interval_2.specs.declared.order.Order.{Order}
 use Rattle.pg_interval_2.specs.inside.Orders.{Orders, behind_last, end_place, first_place, is_kept, place_behind}

@@ -10,9 +10,11 @@ use Rattle.scan_core.specs.Padded.{padded_digits}
 use Rattle.scan_core.specs.declared.share.Unit.{Unit as TimeUnit}
 use Rattle.scan_core.specs.declared.share.Unit.TheVariants.{Year, Month, Day}
 use Rattle.scan_core.proofs.DigitFacts.{digits_decimal}
-use Rattle.pg_interval_2.specs.Clock.{IsClock, IsField, is_nonzero}
+use Rattle.pg_interval_2.specs.Clock.{IsClock}
+use Rattle.pg_interval_2.specs.inside.Reading.{is_nonzero}
+use Rattle.scan_core.specs.Digits.{AreSomeDigits}
 use Rattle.pg_interval_2.specs.inside.ClockSteps.{hours_text, field_text, fraction_text, clock_steps}
-use Rattle.pg_interval_2.specs.Parts.{minus}
+use Rattle.scan_core.specs.Number.{minus}
 use Rattle.pg_interval_2.specs.inside.PartSteps.{years_of, months_of, hours_of, minutes_of, seconds_of, subsecond_of}
 use Rattle.pg_interval_2.specs.Postgres.{IsNamed, IsItem, AreItems, IsPostgres, all_counts}
 use Rattle.pg_interval_2.specs.inside.UnitPlaces.{has_distinct_units}
@@ -90,7 +92,7 @@ day_names = (refl, refl)
 
 -- ---- a clock
 
-pub padded_field : (width n : ℕ) → n < 2 ^ 64 → IsField (padded_digits width n)
+pub padded_field : (width n : ℕ) → n < 2 ^ 64 → AreSomeDigits (padded_digits width n)
 padded_field width n small = (omega (arith, length-padded width n, decimal_nonempty n small), digits-padded width n small)
 
 pub fraction_is : (micros : ℕ) → micros < 2 ^ 64 → IsFraction (micros_digits micros) (fraction_text micros)

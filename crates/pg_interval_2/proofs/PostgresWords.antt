@@ -7,7 +7,7 @@ use Rattle.scan_core.specs.Padded.{padded_digits}
 use Rattle.scan_core.proofs.DigitFacts.{digits_decimal}
 use Rattle.scan_core.proofs.WordFacts.{NoBlanks}
 use Rattle.scan_core.proofs.PaddedFacts.{digits-padded, length-padded}
-use Rattle.pg_interval_2.specs.Parts.{minus}
+use Rattle.scan_core.specs.Number.{minus}
 use Rattle.pg_interval_2.specs.inside.PartSteps.{years_of, months_of, hours_of, minutes_of, seconds_of, subsecond_of}
 use Rattle.pg_interval_2.specs.inside.PostgresSteps.{counted_name, number_words, named_words, clock_words, postgres_words}
 use Rattle.pg_interval_2.specs.inside.ClockSteps.{hours_text, field_text, fraction_text, clock_steps}

@@ -18,14 +18,14 @@ use Rattle.pg_interval_2.proofs.SqlReadBack.{sql_denotes, sql_alone}
 use Rattle.pg_interval_2.proofs.VerboseReadBack.{verbose_denotes, verbose_alone}
 
 steps_denote : (style : Style) (t : Interval) → IsInRange t → Denotes (Shape style) (steps_of style t) t
-steps_denote Iso t range = denotes_onto IsIsoEither IsIso (whole unit_in) (steps_of Iso t) t (iso_denotes t range)
+steps_denote Iso t range = denotes_onto IsIsoEither (IsIso unit_in) (whole unit_in) (steps_of Iso t) t (iso_denotes t range)
 steps_denote Postgres t range = postgres_denotes t range
 steps_denote Verbose t range = verbose_denotes t range
 steps_denote Sql t range = sql_denotes t range
 steps_denote IsoStrict t range = denotes_onto IsStrictEither IsIsoStrict whole_strict (steps_of IsoStrict t) t (strict_denotes t range)
 
 steps_alone : (style : Style) (t u : Interval) → IsInRange t → Denotes (Shape style) (steps_of style t) u → u ≡ t
-steps_alone Iso t u range h = iso_alone t u range (denotes_onto IsIso IsIsoEither either (steps_of Iso t) u h)
+steps_alone Iso t u range h = iso_alone t u range (denotes_onto (IsIso unit_in) IsIsoEither either (steps_of Iso t) u h)
 steps_alone Postgres t u range h = postgres_alone t u range h
 steps_alone Verbose t u range h = verbose_alone t u range h
 steps_alone Sql t u range h = sql_alone t u range h

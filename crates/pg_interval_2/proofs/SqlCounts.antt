@@ -3,7 +3,7 @@ use Rattle.std.proofs.Common.{◌≡◌, ◌⊎◌, ℕ, cond, Bool, true, false
 use Rattle.scan_core.specs.Blanks.{is_blank, words, EndsWord}
 use Rattle.scan_core.specs.Count.{Count}
 use Rattle.pg_interval_2.specs.inside.ItemReading.{after_blanks}
-use Rattle.pg_interval_2.specs.Sql.{IsYearMonth, IsTime, AreDaysAndTime, AreAllThree, AreSqlWords, IsSql}
+use Rattle.pg_interval_2.specs.Sql.{IsYearMonth, IsTime, AreSqlWords, IsSql}
 use Rattle.pg_interval_2.specs.inside.SqlReading.{YearMonth, Days, word_counts, read_field, read_word, last_time, behind_date, behind_days, read_sql}
 use Rattle.pg_interval_2.proofs.Answering.{HasOneList}
 use Rattle.pg_interval_2.proofs.ItemWords.{first_word, words-after_blanks, words_in_front}
@@ -91,30 +91,30 @@ ends_in_time default bytes word before counts h time =
     let end = no_words found.rest found.behind in
     rw (read, end) (ap (λ (l : List Count). Some (before ++ l)) (sym reads.counted))
 
-two_words : (text first second : List ℕ) (counts : List Count) → words text ≡ first ∷ second ∷ [] → AreDaysAndTime first second counts
+two_words : (text first second : List ℕ) (counts : List Count) → words text ≡ first ∷ second ∷ [] → AreSqlWords (first ∷ second ∷ []) counts
     → read_sql text ≡ Some counts
 unfolding read_sql behind_days
 two_words text first second counts h are =
     let found = begins_with text first (second ∷ []) h in
-    let read = ap (read_word false) found.split ∙ days_read are.negative first found.rest are.day_counts are.days found.ends in
+    let read = ap (read_word false) found.split ∙ days_read are.0 first found.rest are.1 are.3 found.ends in
     let next = (begins_with found.rest second [] found.behind).bytes_are in
-    let last = ends_in_time are.negative found.rest second (word_counts (Days are.negative are.days.days)) are.time_counts found.behind are.time in
-    let counted = are.counted ∙ ap (λ (l : List Count). l ++ are.time_counts) are.days.counted in
+    let last = ends_in_time are.0 found.rest second (word_counts (Days are.0 are.3.days)) are.2 found.behind are.4 in
+    let counted = are.5 ∙ ap (λ (l : List Count). l ++ are.2) are.3.counted in
     rw (read, next) (rw next at last ∙ ap (λ (l : List Count). Some l) (sym counted))
 
 three_words : (text first second third : List ℕ) (counts : List Count) → words text ≡ first ∷ second ∷ third ∷ []
-    → AreAllThree first second third counts
+    → AreSqlWords (first ∷ second ∷ third ∷ []) counts
     → read_sql text ≡ Some counts
 unfolding read_sql behind_date
 three_words text first second third counts h are =
     let found = begins_with text first (second ∷ third ∷ []) h in
-    let read = ap (read_word false) found.split ∙ year_month_read first found.rest are.date_counts are.date found.ends in
+    let read = ap (read_word false) found.split ∙ year_month_read first found.rest are.1 are.4 found.ends in
     let next = begins_with found.rest second (third ∷ []) found.behind in
     let here = next.bytes_are in
-    let then = ap (read_word false) (sym next.bytes_are ∙ next.split) ∙ days_read are.negative second next.rest are.day_counts are.days next.ends in
-    let before = word_counts (YearMonth are.date.negative are.date.years are.date.months) ++ word_counts (Days are.negative are.days.days) in
-    let last = ends_in_time false next.rest third before are.time_counts next.behind are.time in
-    let counted = are.counted ∙ ap₂ (λ (x y : List Count). x ++ (y ++ are.time_counts)) are.date.counted are.days.counted in
+    let then = ap (read_word false) (sym next.bytes_are ∙ next.split) ∙ days_read are.0 second next.rest are.2 are.5 next.ends in
+    let before = word_counts (YearMonth are.4.negative are.4.years are.4.months) ++ word_counts (Days are.0 are.5.days) in
+    let last = ends_in_time false next.rest third before are.3 next.behind are.6 in
+    let counted = are.7 ∙ ap₂ (λ (x y : List Count). x ++ (y ++ are.3)) are.4.counted are.5.counted in
     rw (read, here, then) (last ∙ ap (λ (l : List Count). Some l) (sym counted))
 
 zero_read : read_sql (codes "0") ≡ Some []

@@ -3,10 +3,11 @@ use Rattle.std.proofs.Common.{◌≡◌, ℕ, ◌==◌, cond, Bool, true, false,
 use Rattle.std.proofs.lemmas.Bool.{ltb-true, leb-true}
 use Rattle.std.proofs.lemmas.Option.{same_Some, cond_some, option_and_then_some}
 use Rattle.scan_core.specs.Blanks.{EndsWord}
-use Rattle.pg_interval_2.specs.Clock.{IsField}
+use Rattle.scan_core.specs.Digits.{AreSomeDigits}
 use Rattle.pg_interval_2.specs.inside.ItemReading.{after_blanks}
 use Rattle.pg_interval_2.specs.inside.Reading.{read_fraction}
-use Rattle.pg_interval_2.specs.Sql.{IsSignOr, HasSeconds}
+use Rattle.pg_interval_2.specs.Sql.{IsSignOr}
+use Rattle.pg_interval_2.specs.inside.SqlParts.{HasSeconds}
 use Rattle.pg_interval_2.specs.inside.SqlReading.{SqlWord, YearMonth, Days, Time, seconds_counts, read_sign_or, read_field, short_seconds, read_seconds, read_perhaps_seconds, read_time, read_months, read_behind, closed_word, read_word}
 use Rattle.pg_interval_2.proofs.ItemFacts.{ends_from}
 use Rattle.scan_core.proofs.FrontFacts.{front_are_digits, front_and_after}
@@ -20,11 +21,11 @@ sign_stands : (default : Bool) (bytes : List ℕ)
 sign_stands default [] = ([], governed default, refl)
 sign_stands default (b ∷ bs) = sign_if (IsSignOr default) (b == 45) (b == 43) default b bs (inl refl) (λ h. inl refl) (governed default) (eqb-true b 45) (eqb-true b 43)
 
-field_stands : (bytes : List ℕ) (r : List ℕ × List ℕ) → read_field bytes ≡ Some r → IsField r.0 × (bytes ≡ r.0 ++ r.1)
+field_stands : (bytes : List ℕ) (r : List ℕ × List ℕ) → read_field bytes ≡ Some r → AreSomeDigits r.0 × (bytes ≡ r.0 ++ r.1)
 unfolding read_field
 field_stands bytes r h =
     let found = cond_some _ _ _ h in
-    subst (λ (p : List ℕ × List ℕ). IsField p.0 × (bytes ≡ p.0 ++ p.1)) found.1 ((ltb-true 0 _ found.0, front_are_digits bytes), sym (front_and_after bytes))
+    subst (λ (p : List ℕ × List ℕ). AreSomeDigits p.0 × (bytes ≡ p.0 ++ p.1)) found.1 ((ltb-true 0 _ found.0, front_are_digits bytes), sym (front_and_after bytes))
 
 -- ---- seconds
 
@@ -36,7 +37,7 @@ mapped_some f (Some x) y h k = k x refl (same_Some _ _ h)
 abbrev SecondsStand : Bool → List ℕ → Option (List ℕ × List ℕ) × List ℕ → Type 0
 SecondsStand negative bytes r = (piece : List ℕ) × HasSeconds negative piece (seconds_counts negative r.0) × (bytes ≡ piece ++ r.1)
 
-short_stand : (negative : Bool) (bs : List ℕ) (field : List ℕ × List ℕ) (r : (List ℕ × List ℕ) × List ℕ) → IsField field.0
+short_stand : (negative : Bool) (bs : List ℕ) (field : List ℕ × List ℕ) (r : (List ℕ × List ℕ) × List ℕ) → AreSomeDigits field.0
     → bs ≡ field.0 ++ field.1 → short_seconds field.0 (read_fraction field.1) ≡ Some r
     → SecondsStand negative (58 ∷ bs) (Some r.0, r.1)
 short_stand negative bs field r digits split h =
@@ -85,16 +86,16 @@ negative_of (Time negative hours minutes seconds) = negative
 
 -- what stands behind a word's sign
 abbrev pub IsBody : SqlWord → List ℕ → Type 0
-IsBody (YearMonth negative years months) body = IsField years × IsField months × (body ≡ years ++ (codes "-" ++ months))
-IsBody (Days negative days) body = IsField days × (body ≡ days ++ [])
+IsBody (YearMonth negative years months) body = AreSomeDigits years × AreSomeDigits months × (body ≡ years ++ (codes "-" ++ months))
+IsBody (Days negative days) body = AreSomeDigits days × (body ≡ days ++ [])
 IsBody (Time negative hours minutes seconds) body =
-    IsField hours × IsField minutes × ((piece : List ℕ) × HasSeconds negative piece (seconds_counts negative seconds) × (body ≡ hours ++ (codes ":" ++ (minutes ++ piece))))
+    AreSomeDigits hours × AreSomeDigits minutes × ((piece : List ℕ) × HasSeconds negative piece (seconds_counts negative seconds) × (body ≡ hours ++ (codes ":" ++ (minutes ++ piece))))
 
 -- first digits and what follows them are the body of a word and what follows it
 abbrev BodyStands : Bool → List ℕ → SqlWord × List ℕ → Type 0
 BodyStands negative bytes r = (body : List ℕ) × IsBody r.0 body × (negative_of r.0 ≡ negative) × (bytes ≡ body ++ r.1)
 
-months_stand : (negative : Bool) (digits bs : List ℕ) (r : SqlWord × List ℕ) → IsField digits → read_months negative digits bs ≡ Some r
+months_stand : (negative : Bool) (digits bs : List ℕ) (r : SqlWord × List ℕ) → AreSomeDigits digits → read_months negative digits bs ≡ Some r
     → BodyStands negative (digits ++ (codes "-" ++ bs)) r
 unfolding read_months
 months_stand negative digits bs r field h =
@@ -107,7 +108,7 @@ months_stand negative digits bs r field h =
       ap (λ (l : List ℕ). digits ++ (codes "-" ++ l)) stands.1 ∙ sym (append_assoc digits (codes "-" ++ months.0) months.1),
     ))
 
-time_stands : (negative : Bool) (digits bs : List ℕ) (r : SqlWord × List ℕ) → IsField digits → read_time negative digits bs ≡ Some r
+time_stands : (negative : Bool) (digits bs : List ℕ) (r : SqlWord × List ℕ) → AreSomeDigits digits → read_time negative digits bs ≡ Some r
     → BodyStands negative (digits ++ (codes ":" ++ bs)) r
 unfolding read_time
 time_stands negative digits bs r field h =
@@ -122,12 +123,12 @@ time_stands negative digits bs r field h =
       ap (λ (l : List ℕ). digits ++ (codes ":" ++ l)) (stands.1 ∙ ap (λ (l : List ℕ). minutes.0 ++ l) behind.2 ∙ sym (append_assoc minutes.0 behind.0 seconds.1)) ∙ sym (append_assoc digits (codes ":" ++ (minutes.0 ++ behind.0)) seconds.1),
     )))
 
-days_stand : (negative : Bool) (digits bytes : List ℕ) (r : SqlWord × List ℕ) → IsField digits → Some (Days negative digits, bytes) ≡ Some r
+days_stand : (negative : Bool) (digits bytes : List ℕ) (r : SqlWord × List ℕ) → AreSomeDigits digits → Some (Days negative digits, bytes) ≡ Some r
     → BodyStands negative (digits ++ bytes) r
 days_stand negative digits bytes r field h =
     subst (BodyStands negative (digits ++ bytes)) (same_Some _ _ h) (digits ++ [], (field, refl), refl, ap (λ (l : List ℕ). l ++ bytes) (sym (append-nil digits)))
 
-behind_if : (t u negative : Bool) (digits : List ℕ) (b : ℕ) (bs : List ℕ) (r : SqlWord × List ℕ) → IsField digits → (t ≡ true → b ≡ 45)
+behind_if : (t u negative : Bool) (digits : List ℕ) (b : ℕ) (bs : List ℕ) (r : SqlWord × List ℕ) → AreSomeDigits digits → (t ≡ true → b ≡ 45)
     → (u ≡ true → b ≡ 58)
     → cond t (read_months negative digits bs) (cond u (read_time negative digits bs) (Some (Days negative digits, b ∷ bs))) ≡ Some r
     → BodyStands negative (digits ++ (b ∷ bs)) r
@@ -135,7 +136,7 @@ behind_if true u negative digits b bs r field minus colon h = subst (λ (c : ℕ
 behind_if false true negative digits b bs r field minus colon h = subst (λ (c : ℕ). BodyStands negative (digits ++ (c ∷ bs)) r) (sym (colon refl)) (time_stands negative digits bs r field h)
 behind_if false false negative digits b bs r field minus colon h = days_stand negative digits (b ∷ bs) r field h
 
-behind_stands : (negative : Bool) (digits bytes : List ℕ) (r : SqlWord × List ℕ) → IsField digits
+behind_stands : (negative : Bool) (digits bytes : List ℕ) (r : SqlWord × List ℕ) → AreSomeDigits digits
     → read_behind negative digits bytes ≡ Some r
     → BodyStands negative (digits ++ bytes) r
 behind_stands negative digits [] r field h = days_stand negative digits [] r field h

@@ -129,16 +129,7 @@ date_and_days text b rest negative years months counts h (Days n days, last) the
     let second = words_are false (b ∷ rest) (Days n days, last) then ∙ ap (λ (ws : List (List ℕ)). (then.sign ++ then.body) ∷ ws) third in
     by_words text ((h.sign ++ h.body) ∷ (then.sign ++ then.body) ∷ ends.word ∷ []) counts
     (words_are false (after_blanks text) (YearMonth negative years months, b ∷ rest) h ∙ ap (λ (ws : List (List ℕ)). (h.sign ++ h.body) ∷ ws) second)
-    (record {
-      negative = n;
-      date_counts = word_counts (YearMonth negative years months);
-      day_counts = word_counts (Days n days);
-      time_counts = ends.time_counts;
-      date = is_year_month (after_blanks text) (b ∷ rest) negative years months h;
-      days = are_days (b ∷ rest) last n days then;
-      time = ends.time;
-      counted = ends.counted;
-    })
+    (n, word_counts (YearMonth negative years months), word_counts (Days n days), ends.time_counts, is_year_month (after_blanks text) (b ∷ rest) negative years months h, are_days (b ∷ rest) last n days then, ends.time, ends.counted)
 
 -- ---- zero
 
@@ -194,14 +185,7 @@ days_found text counts negative days (b ∷ rest) h e =
     let ends = time_ends negative (b ∷ rest) (word_counts (Days negative days)) counts e in
     by_words text ((h.sign ++ h.body) ∷ ends.word ∷ []) counts
     (words_are false (after_blanks text) (Days negative days, b ∷ rest) h ∙ ap (λ (ws : List (List ℕ)). (h.sign ++ h.body) ∷ ws) ends.words_are)
-    (record {
-      negative = negative;
-      day_counts = word_counts (Days negative days);
-      time_counts = ends.time_counts;
-      days = are_days (after_blanks text) (b ∷ rest) negative days h;
-      time = ends.time;
-      counted = ends.counted;
-    })
+    (negative, word_counts (Days negative days), ends.time_counts, are_days (after_blanks text) (b ∷ rest) negative days h, ends.time, ends.counted)
 
 words_found : (text : List ℕ) (counts : List Count) (r : SqlWord × List ℕ) → StandsWord false (after_blanks text) r
     → read_words text r ≡ Some counts

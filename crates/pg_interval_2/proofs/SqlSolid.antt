@@ -2,8 +2,9 @@
 use Rattle.std.proofs.Common.{ℕ, ◌<◌, Bool, true, false, List, [], ◌++◌, length, length-append, append-nil, refl, sym, arith, inl, inr, codes, subst}
 use Rattle.scan_core.specs.Count.{Count}
 use Rattle.scan_core.proofs.WordFacts.{NoBlanks}
-use Rattle.pg_interval_2.specs.Clock.{IsField}
-use Rattle.pg_interval_2.specs.Sql.{IsSignOr, IsYearMonth, IsDays, HasSeconds, IsTime}
+use Rattle.scan_core.specs.Digits.{AreSomeDigits}
+use Rattle.pg_interval_2.specs.Sql.{IsSignOr, IsYearMonth, IsDays, IsTime}
+use Rattle.pg_interval_2.specs.inside.SqlParts.{HasSeconds}
 use Rattle.pg_interval_2.proofs.ItemWords.{no_blanks-append, digits_no_blanks, point_no_blanks}
 
 -- at least one byte, and no blank
@@ -17,7 +18,7 @@ sign_clear default false sign (inl plus) = rw plus (refl, tt)
 sign_clear default false sign (inr none) = rw none.0 tt
 
 -- a sign, digits and what follows them
-pub solid : (default negative : Bool) (sign field tail : List ℕ) → IsSignOr default negative sign → IsField field → NoBlanks tail
+pub solid : (default negative : Bool) (sign field tail : List ℕ) → IsSignOr default negative sign → AreSomeDigits field → NoBlanks tail
     → IsSolid (sign ++ (field ++ tail))
 solid default negative sign field tail signed digits clear =
     let some = digits.0 in

@@ -9,12 +9,12 @@ use Rattle.scan_core.specs.Padded.{padded_digits}
 use Rattle.scan_core.specs.declared.share.Unit.TheVariants.{Year, Month, Day, Hour, Minute, Second}
 use Rattle.scan_core.proofs.DigitFacts.{digits_decimal}
 use Rattle.scan_core.proofs.PaddedFacts.{length-padded}
-use Rattle.pg_interval_2.specs.Clock.{IsField}
+use Rattle.scan_core.specs.Digits.{AreSomeDigits}
 use Rattle.pg_interval_2.specs.inside.ClockSteps.{hours_text, field_text, fraction_text, clock_steps}
-use Rattle.pg_interval_2.specs.Parts.{minus}
+use Rattle.scan_core.specs.Number.{minus}
 use Rattle.pg_interval_2.specs.inside.PartSteps.{years_of, months_of, hours_of, minutes_of, seconds_of, subsecond_of}
 use Rattle.pg_interval_2.specs.Sql.{IsSignOr, IsYearMonth, IsDays, IsTime, AreSqlWords, IsSql}
-use Rattle.pg_interval_2.specs.SqlText.{minus_or_plus}
+use Rattle.scan_core.specs.Number.{sign_text}
 use Rattle.pg_interval_2.specs.inside.SqlSteps.{has_all_signs, year_month_text, signed_text, months_text, days_text, time_text, plain_text, sql_steps}
 use Rattle.pg_interval_2.proofs.ClockCounts.{micros_digits, uncut_micros, three_counts}
 use Rattle.pg_interval_2.proofs.PostgresSpelled.{padded_field, fraction_is}
@@ -25,7 +25,7 @@ use Rattle.pg_interval_2.proofs.WrittenNumbers.{cond_two}
 
 -- ---- signs
 
-any_sign : (negative : Bool) → IsSignOr false negative (minus_or_plus negative)
+any_sign : (negative : Bool) → IsSignOr false negative (sign_text negative)
 any_sign true = inl refl
 any_sign false = inl refl
 
@@ -39,7 +39,7 @@ governed false = inr (refl, refl)
 
 -- ---- words
 
-decimal_field : (n : ℕ) → n < 2 ^ 64 → IsField (decimal n)
+decimal_field : (n : ℕ) → n < 2 ^ 64 → AreSomeDigits (decimal n)
 decimal_field n small = (decimal_nonempty n small, digits_decimal n small)
 
 abbrev pub year_month_counts : Bool → ℤ → List Count
@@ -116,24 +116,15 @@ signed_spelled : (months days micros : ℤ) → unsigned_abs months ≤ 2 ^ 63 �
     (year_month_counts (is_negative months) months ++ (day_counts (is_negative days) days ++ three_counts (is_negative micros) 1 micros))
 unfolding signed_text
 signed_spelled months days micros small_months small_days small_micros =
-    let date = year_month_is (is_negative months) (minus_or_plus (is_negative months)) months (any_sign (is_negative months)) small_months in
-    let day = days_are (is_negative days) (minus_or_plus (is_negative days)) days (any_sign (is_negative days)) small_days in
-    let time = time_is false (is_negative micros) (minus_or_plus (is_negative micros)) micros (any_sign (is_negative micros)) small_micros in
+    let date = year_month_is (is_negative months) (sign_text (is_negative months)) months (any_sign (is_negative months)) small_months in
+    let day = days_are (is_negative days) (sign_text (is_negative days)) days (any_sign (is_negative days)) small_days in
+    let time = time_is false (is_negative micros) (sign_text (is_negative micros)) micros (any_sign (is_negative micros)) small_micros in
     let solid_date = year_month_solid _ _ date in
     let solid_day = days_solid _ _ _ day in
     let solid_time = time_solid _ _ _ time in
-    spelled_by ((minus_or_plus (is_negative months) ++ year_month_text months) ∷ (minus_or_plus (is_negative days) ++ decimal (unsigned_abs days)) ∷ (minus_or_plus (is_negative micros) ++ clock_steps 1 micros) ∷ []) _
+    spelled_by ((sign_text (is_negative months) ++ year_month_text months) ∷ (sign_text (is_negative days) ++ decimal (unsigned_abs days)) ∷ (sign_text (is_negative micros) ++ clock_steps 1 micros) ∷ []) _
     (solid_date.0, solid_date.1, (solid_day.0, solid_day.1, (solid_time.0, solid_time.1, tt)))
-    (record {
-      negative = is_negative days;
-      date_counts = year_month_counts (is_negative months) months;
-      day_counts = day_counts (is_negative days) days;
-      time_counts = three_counts (is_negative micros) 1 micros;
-      date = date;
-      days = day;
-      time = time;
-      counted = refl;
-    })
+    (is_negative days, year_month_counts (is_negative months) months, day_counts (is_negative days) days, three_counts (is_negative micros) 1 micros, date, day, time, refl)
 
 months_spelled : (months : ℤ) → unsigned_abs months ≤ 2 ^ 63 → IsSql (months_text months) (year_month_counts (is_negative months) months)
 unfolding months_text
@@ -151,14 +142,7 @@ days_spelled days micros small_days small_micros =
     let solid_day = days_solid _ _ _ day in
     let solid_time = time_solid _ _ _ time in
     spelled_by ((minus (is_negative days) ++ decimal (unsigned_abs days)) ∷ clock_steps 1 micros ∷ []) _ (solid_day.0, solid_day.1, (solid_time.0, solid_time.1, tt))
-    (record {
-      negative = is_negative days;
-      day_counts = day_counts (is_negative days) days;
-      time_counts = three_counts (is_negative days) 1 micros;
-      days = day;
-      time = time;
-      counted = refl;
-    })
+    (is_negative days, day_counts (is_negative days) days, three_counts (is_negative days) 1 micros, day, time, refl)
 
 time_spelled : (micros : ℤ) → unsigned_abs micros ≤ 2 ^ 63 → IsSql (time_text micros) (three_counts (is_negative micros) 1 micros)
 unfolding time_text

@@ -5,9 +5,10 @@ use Rattle.scan_core.specs.Blanks.{is_blank, EndsWord}
 use Rattle.scan_core.specs.Count.{Count, count_of}
 use Rattle.scan_core.specs.declared.share.Unit.TheVariants.{Hour, Minute}
 use Rattle.scan_core.specs.Number.{IsFraction}
-use Rattle.pg_interval_2.specs.Clock.{IsField}
+use Rattle.scan_core.specs.Digits.{AreSomeDigits}
 use Rattle.pg_interval_2.specs.inside.ItemReading.{after_blanks}
-use Rattle.pg_interval_2.specs.Sql.{IsSignOr, IsYearMonth, IsDays, HasSeconds, IsTime}
+use Rattle.pg_interval_2.specs.Sql.{IsSignOr, IsYearMonth, IsDays, IsTime}
+use Rattle.pg_interval_2.specs.inside.SqlParts.{HasSeconds}
 use Rattle.pg_interval_2.specs.inside.SqlReading.{SqlWord, YearMonth, Days, Time, seconds_counts, word_counts, read_sign_or, read_field, read_seconds, read_perhaps_seconds, read_time, read_months, read_behind, closed_word, read_word}
 use Rattle.scan_core.specs.Fronts.{NoDigitFirst}
 use Rattle.scan_core.proofs.FrontFacts.{front_of, after_of}
@@ -28,7 +29,7 @@ sign_read default true sign rest (inr none) n = rw (none.0, none.1) (no_sign_or 
 sign_read default false sign rest (inl plus) n = rw plus refl
 sign_read default false sign rest (inr none) n = rw (none.0, none.1) (no_sign_or false rest n)
 
-pub field_read : (field rest : List ℕ) → IsField field → NoDigitFirst rest → read_field (field ++ rest) ≡ Some (field, rest)
+pub field_read : (field rest : List ℕ) → AreSomeDigits field → NoDigitFirst rest → read_field (field ++ rest) ≡ Some (field, rest)
 unfolding read_field
 field_read field rest h n =
     let front = front_of field rest h.1 n in
@@ -37,7 +38,7 @@ field_read field rest h n =
     rw (front, after, some) refl
 
 -- the first digits of a word are read, and what they are is told by what follows them
-word_read : (default negative : Bool) (sign digits tail : List ℕ) → IsSignOr default negative sign → IsField digits → NoDigitFirst tail
+word_read : (default negative : Bool) (sign digits tail : List ℕ) → IsSignOr default negative sign → AreSomeDigits digits → NoDigitFirst tail
     → read_word default (sign ++ (digits ++ tail)) ≡ option_and_then closed_word (read_behind negative digits tail)
 unfolding read_word
 word_read default negative sign digits tail signed field n =
@@ -50,7 +51,7 @@ word_ends rest word ends = let ended = ends_test rest ends in rw ended refl
 
 -- ---- a year-month
 
-months_read : (negative : Bool) (years months rest : List ℕ) → IsField months → EndsWord rest
+months_read : (negative : Bool) (years months rest : List ℕ) → AreSomeDigits months → EndsWord rest
     → read_months negative years (months ++ rest) ≡ Some (YearMonth negative years months, rest)
 unfolding read_months
 months_read negative years months rest field ends = let found = field_read months rest field (end_closes rest ends).digit in rw found refl
@@ -94,7 +95,7 @@ no_seconds : (rest : List ℕ) → EndsWord rest → read_perhaps_seconds rest �
 no_seconds [] ends = refl
 no_seconds (b ∷ bs) ends = let other = (blank_is_no b ends).2 in rw other refl
 
-seconds_behind : (seconds fraction tail rest : List ℕ) → IsField seconds → IsFraction fraction tail → length fraction ≤ 6 → EndsWord rest
+seconds_behind : (seconds fraction tail rest : List ℕ) → AreSomeDigits seconds → IsFraction fraction tail → length fraction ≤ 6 → EndsWord rest
     → read_seconds (seconds ++ (tail ++ rest)) ≡ Some ((seconds, fraction), rest)
 unfolding read_seconds
 seconds_behind seconds fraction tail rest digits point few ends =
@@ -129,7 +130,7 @@ pub record ReadsTime (default : Bool) (word rest : List ℕ) (counts : List Coun
   pub read : read_word default (word ++ rest) ≡ Some (Time negative hours minutes seconds, after_blanks rest)
   pub counted : counts ≡ word_counts (Time negative hours minutes seconds)
 
-minutes_read : (negative : Bool) (hours minutes piece rest : List ℕ) (seconds : Option (List ℕ × List ℕ)) → IsField minutes
+minutes_read : (negative : Bool) (hours minutes piece rest : List ℕ) (seconds : Option (List ℕ × List ℕ)) → AreSomeDigits minutes
     → NoDigitFirst (piece ++ rest) → read_perhaps_seconds (piece ++ rest) ≡ Some (seconds, rest)
     → read_time negative hours (minutes ++ (piece ++ rest)) ≡ Some (Time negative hours minutes seconds, rest)
 unfolding read_time

@@ -1,20 +1,21 @@
 -- The written texts as the public definitions say them are those that the writers push step by step.
-use Rattle.std.proofs.Common.{◌≡◌, ℕ, pos, unsigned_abs, Bool, true, false, List, [], ◌∷◌, ◌++◌, codes, if◌then◌else◌, refl, sym, ◌∙◌, ap, append_assoc, append-nil, int_eq}
+use Rattle.std.proofs.Common.{◌≡◌, ℕ, pos, unsigned_abs, Bool, true, false, List, [], ◌∷◌, ◌++◌, codes, decimal, ◌==◌, if◌then◌else◌, refl, sym, ◌∙◌, ap, append_assoc, append-nil, int_eq}
 use Rattle.std.specs.List.{join_with_byte}
 use Rattle.std.specs.Int.{is_negative}
+use Rattle.scan_core.specs.Number.{minus}
+use Rattle.scan_core.specs.Padded.{padded_digits}
 use Rattle.pg_interval_2.specs.declared.interval.Interval.{Interval}
 use Rattle.pg_interval_2.specs.declared.style.Style.{Style}
 use Rattle.pg_interval_2.specs.declared.style.Style.TheVariants.{Iso, Postgres, Verbose, Sql, IsoStrict}
 use Rattle.pg_interval_2.specs.Parts.{parts_of, is_zero, clock_text}
-use Rattle.pg_interval_2.specs.IsoText.{iso_part, iso_text, iso_seconds}
+use Rattle.pg_interval_2.specs.IsoText.{iso_part, iso_text}
 use Rattle.pg_interval_2.specs.PostgresText.{part_words, postgres_text}
 use Rattle.pg_interval_2.specs.SqlText.{sql_text}
 use Rattle.pg_interval_2.specs.Styles.{style_text}
 use Rattle.pg_interval_2.specs.Turned.{turned_sign}
 use Rattle.pg_interval_2.specs.VerboseText.{second_words, has_ago, verbose_text}
 use Rattle.pg_interval_2.specs.inside.ClockSteps.{hours_text, field_text, fraction_text, clock_steps}
-use Rattle.pg_interval_2.specs.inside.IsoSteps.{nonzero_digits, iso_decimal, iso_date, iso_time, iso_steps}
-use Rattle.pg_interval_2.specs.inside.IsoSteps as steps
+use Rattle.pg_interval_2.specs.inside.IsoSteps.{nonzero_digits, iso_decimal, iso_seconds, iso_date, iso_time, iso_steps}
 use Rattle.pg_interval_2.specs.inside.PartSteps.{years_of, months_of, hours_of, minutes_of, seconds_of, subsecond_of}
 use Rattle.pg_interval_2.specs.inside.PostgresSteps.{counted_name, number_words, clock_words, postgres_steps}
 use Rattle.pg_interval_2.specs.inside.SqlSteps.{year_month_text, signed_text, months_text, days_text, time_text, plain_text, sql_steps}
@@ -28,15 +29,15 @@ use Rattle.pg_interval_2.proofs.SpacedWords.{behind_spaces-append}
 iso_brackets : (a b c d : List ℕ) → a ++ (b ++ (c ++ d)) ≡ (a ++ (b ++ c)) ++ d
 iso_brackets a b c d = rw (append_assoc, append_assoc) refl
 
-iso_seconds_same : (t : Interval) → iso_seconds (parts_of t) ≡ steps.iso_seconds (is_negative t.microseconds) (seconds_of t.microseconds) (subsecond_of t.microseconds)
-unfolding iso_seconds steps.iso_seconds iso_decimal nonzero_digits
-iso_seconds_same t = refl
-
 iso_time_same : (t : Interval) → (if int_eq t.microseconds (pos 0) then [] else (codes "T"
     ++ (iso_part (parts_of t).time_negative (parts_of t).hours (codes "H")
-    ++ (iso_part (parts_of t).time_negative (parts_of t).minutes (codes "M") ++ iso_seconds (parts_of t))))) ≡ iso_time t.microseconds
-unfolding iso_time
-iso_time_same t = rw (iso_seconds_same t) refl
+    ++ (iso_part (parts_of t).time_negative (parts_of t).minutes (codes "M")
+    ++ (if (parts_of t).micros == 0 then iso_part (parts_of t).time_negative (parts_of t).seconds (codes "S")
+    else (minus (parts_of t).time_negative
+    ++ ((if (parts_of t).seconds == 0 then [] else decimal (parts_of t).seconds)
+    ++ (codes "." ++ (padded_digits 6 (parts_of t).micros ++ codes "S"))))))))) ≡ iso_time t.microseconds
+unfolding iso_time iso_seconds iso_decimal nonzero_digits
+iso_time_same t = refl
 
 pub iso_in_steps : (t : Interval) → iso_text t ≡ iso_steps t.months t.days t.microseconds
 unfolding iso_text iso_steps iso_date

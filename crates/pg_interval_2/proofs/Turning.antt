@@ -4,10 +4,11 @@ use Rattle.std.specs.Prelude.{filter}
 use Rattle.scan_core.specs.Count.{Count, count_of}
 use Rattle.scan_core.specs.declared.share.Unit.{Unit as TimeUnit}
 use Rattle.scan_core.specs.declared.share.Unit.TheVariants.{Hour, Minute, Second}
-use Rattle.pg_interval_2.specs.Clock.{is_nonzero}
+use Rattle.pg_interval_2.specs.inside.Reading.{is_nonzero}
 use Rattle.pg_interval_2.specs.inside.ItemReading.{ClockFields, clock_of}
 use Rattle.pg_interval_2.specs.inside.UnitPlaces.{counts_unit, has_distinct_units, place_of}
-use Rattle.pg_interval_2.specs.Turned.{turned_count, turned_counts, turned_sign}
+use Rattle.pg_interval_2.specs.Turned.{turned_counts, turned_sign}
+use Rattle.pg_interval_2.specs.inside.TurnedCount.{turned_count}
 
 pub turned-append : (turned : Bool) (xs ys : List Count)
     → turned_counts turned (xs ++ ys) ≡ turned_counts turned xs ++ turned_counts turned ys

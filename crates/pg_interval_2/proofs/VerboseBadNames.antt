@@ -5,7 +5,8 @@ use Rattle.scan_core.specs.Count.{Count}
 use Rattle.scan_core.proofs.WordFacts.{total_length}
 use Rattle.pg_interval_2.specs.Postgres.{AreItems, IsBadName}
 use Rattle.pg_interval_2.specs.UnitNames.{verbose_names}
-use Rattle.pg_interval_2.specs.Verbose.{IsBody, IsVerbose, IsVerboseBadName}
+use Rattle.pg_interval_2.specs.Verbose.{IsVerbose, IsVerboseBadName}
+use Rattle.pg_interval_2.specs.inside.VerboseParts.{IsBody}
 use Rattle.pg_interval_2.specs.inside.ItemReading.{BadLetters, Unspelled, verdict}
 use Rattle.pg_interval_2.proofs.BadNames.{bad_verdict, no_shape_at_bad_name, one_bad_name}
 use Rattle.pg_interval_2.proofs.Frames.{whole_body, one_frame, whole_words}

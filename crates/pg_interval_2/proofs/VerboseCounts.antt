@@ -8,7 +8,8 @@ use Rattle.pg_interval_2.specs.inside.ItemReading.{Spelled, Unspelled, verdict}
 use Rattle.pg_interval_2.specs.Postgres.{AreItems}
 use Rattle.pg_interval_2.specs.Turned.{turned_counts}
 use Rattle.pg_interval_2.specs.UnitNames.{verbose_names}
-use Rattle.pg_interval_2.specs.Verbose.{IsFramed, IsBody, IsVerbose, EndsInAgo}
+use Rattle.pg_interval_2.specs.Verbose.{IsFramed, IsVerbose, EndsInAgo}
+use Rattle.pg_interval_2.specs.inside.VerboseParts.{IsBody}
 use Rattle.pg_interval_2.proofs.AgoEnds.{no_ago}
 use Rattle.pg_interval_2.proofs.Answering.{HasOneList}
 use Rattle.pg_interval_2.proofs.BadNames.{items_verdict, one_counts}

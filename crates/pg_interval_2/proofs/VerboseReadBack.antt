@@ -4,7 +4,8 @@ use Rattle.std.proofs.lemmas.Bool.{cond_both, and_parts}
 use Rattle.std.specs.Int.{is_negative}
 use Rattle.scan_core.specs.Count.{Count, count_of}
 use Rattle.scan_core.specs.Padded.{padded_digits}
-use Rattle.scan_core.specs.Shares.{signed, magnitude, fits_type}
+use Rattle.scan_core.specs.Shares.{signed, fits_type}
+use Rattle.scan_core.specs.ShareSteps.{magnitude}
 use Rattle.scan_core.specs.declared.share.Part.{Part}
 use Rattle.scan_core.specs.declared.share.Part.TheVariants.{Months, Days, Micros}
 use Rattle.scan_core.specs.declared.share.Unit.{Unit as TimeUnit}
@@ -15,7 +16,8 @@ use Rattle.pg_interval_2.specs.declared.interval.Interval.{Interval}
 use Rattle.pg_interval_2.specs.Denotes.{Denotes}
 use Rattle.pg_interval_2.specs.inside.PartSteps.{years_of, months_of, hours_of, minutes_of, seconds_of, subsecond_of}
 use Rattle.pg_interval_2.specs.Ranges.{IsInRange}
-use Rattle.pg_interval_2.specs.Turned.{turned_sign, turned_count, turned_counts}
+use Rattle.pg_interval_2.specs.Turned.{turned_sign, turned_counts}
+use Rattle.pg_interval_2.specs.inside.TurnedCount.{turned_count}
 use Rattle.pg_interval_2.specs.Verbose.{IsVerbose}
 use Rattle.pg_interval_2.specs.inside.VerboseSteps.{has_ago, verbose_steps}
 use Rattle.pg_interval_2.proofs.AddsUp.{AddsUp, AddsUp-one}

@@ -16,7 +16,8 @@ use Rattle.pg_interval_2.specs.Denotes.{HasNoShape}
 use Rattle.pg_interval_2.specs.Postgres.{AreItems}
 use Rattle.pg_interval_2.specs.Turned.{turned_counts}
 use Rattle.pg_interval_2.specs.UnitNames.{verbose_names}
-use Rattle.pg_interval_2.specs.Verbose.{ago_or_none, IsFramed, IsBody, IsVerbose, IsVerboseBadName, EndsInAgo}
+use Rattle.pg_interval_2.specs.Verbose.{IsFramed, IsVerbose, IsVerboseBadName, EndsInAgo}
+use Rattle.pg_interval_2.specs.inside.VerboseParts.{ago_or_none, IsBody}
 use Rattle.pg_interval_2.specs.inside.ItemReading.{after_blanks, verdict, Spelled, BadLetters, Unspelled}
 use Rattle.pg_interval_2.specs.inside.ItemsTally.{IsItemsTally, IsMisread}
 use Rattle.pg_interval_2.specs.inside.Tallies.{Tallies}

@@ -14,7 +14,7 @@ use Rattle.scan_core.proofs.Joins.{IsJoin-append, IsJoin-one}
 use Rattle.scan_core.proofs.PaddedFacts.{digits-padded}
 use Rattle.scan_core.proofs.TrimmedFacts.{digits-trimmed, trimmed_some}
 use Rattle.scan_core.proofs.WordFacts.{NoBlanks}
-use Rattle.pg_interval_2.specs.Parts.{minus}
+use Rattle.scan_core.specs.Number.{minus}
 use Rattle.pg_interval_2.specs.inside.PartSteps.{years_of, months_of, hours_of, minutes_of, seconds_of, subsecond_of}
 use Rattle.pg_interval_2.specs.Postgres.{IsNamed, IsItem, all_counts}
 use Rattle.pg_interval_2.specs.inside.UnitPlaces.{has_distinct_units}

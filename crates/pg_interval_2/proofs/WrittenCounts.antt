@@ -6,7 +6,8 @@ use Rattle.std.specs.Int.{is_negative}
 use Rattle.scan_core.specs.Count.{Count}
 use Rattle.scan_core.specs.Digits.{number_of}
 use Rattle.scan_core.specs.Padded.{padded_digits}
-use Rattle.scan_core.specs.Shares.{signed, magnitude, fits_type}
+use Rattle.scan_core.specs.Shares.{signed, fits_type}
+use Rattle.scan_core.specs.ShareSteps.{magnitude}
 use Rattle.scan_core.specs.declared.share.Unit.{Unit as TimeUnit}
 use Rattle.scan_core.specs.declared.share.Unit.TheVariants.{Year, Month, Week, Day, Hour, Minute, Second}
 use Rattle.scan_core.specs.declared.share.Part.{Part}

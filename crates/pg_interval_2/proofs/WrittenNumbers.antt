@@ -2,7 +2,7 @@
 use Rattle.std.proofs.Common.{◌≡◌, ℕ, ◌<◌, Bool, true, false, cond, List, [], ◌++◌, length, codes, refl, arith, inl, inr}
 use Rattle.scan_core.specs.Digits.{AreDigits}
 use Rattle.scan_core.specs.Number.{IsSign, IsNumber}
-use Rattle.pg_interval_2.specs.Parts.{minus}
+use Rattle.scan_core.specs.Number.{minus}
 
 -- where one test chooses two values, each choice has what both values have together
 pub cond_two : {A B : Type 0} (b : Bool) (P : A → B → Type 0) (x y : A) (u v : B) → (b ≡ true → P x u) → (b ≡ false → P y v)

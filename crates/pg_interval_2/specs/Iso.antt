@@ -28,7 +28,7 @@ pub record IsPair (unit_of : ℕ → Option TimeUnit) (piece : List ℕ) (c : Co
 
 -- The text is `P`, pairs, and then perhaps `T` and pairs, and spells their counts, in order, by what letters mean before the `T`
 -- and behind it.
-pub record IsIsoBy (units : Bool → ℕ → Option TimeUnit) (text : List ℕ) (counts : List Count)
+pub record IsIso (units : Bool → ℕ → Option TimeUnit) (text : List ℕ) (counts : List Count)
     : Type 0 where
   pub date : List ℕ
   pub time : List ℕ
@@ -40,7 +40,3 @@ pub record IsIsoBy (units : Bool → ℕ → Option TimeUnit) (text : List ℕ) 
   pub timed : ((rest ≡ []) × (time ≡ []) × (date ≢ [])) ⊎ (rest ≡ codes "T" ++ time)
   pub joined : text ≡ codes "P" ++ (date ++ rest)
   pub counted : counts ≡ date_counts ++ time_counts
-
--- the text is in ISO style and spells these counts
-abbrev pub IsIso : List ℕ → List Count → Type 0
-IsIso = IsIsoBy unit_in

@@ -3,20 +3,14 @@ use Rattle.std.specs.Prelude.{ℕ, pos, Bool, List, [], ◌++◌, codes, decimal
 use Rattle.std.specs.Ordering.{int_eq}
 use Rattle.scan_core.specs.Padded.{padded_digits}
 use Rattle.pg_interval_2.specs.declared.interval.Interval.{Interval}
-use Rattle.pg_interval_2.specs.Parts.{Parts, parts_of, is_zero, minus}
+use Rattle.pg_interval_2.specs.Parts.{parts_of, is_zero}
+use Rattle.scan_core.specs.Number.{minus}
 
 -- a number with its minus and its letter, or nothing where it is 0
 unfoldable pub iso_part : Bool → ℕ → List ℕ → List ℕ
 iso_part negative n letter = if n == 0 then [] else (minus negative ++ (decimal n ++ letter))
 
--- the seconds, with their microseconds where these aren't 0: `6S`, `6.500000S`, `.500000S`
-unfoldable pub iso_seconds : Parts → List ℕ
-iso_seconds p =
-    if p.micros == 0 then iso_part p.time_negative p.seconds (codes "S")
-    else (minus p.time_negative
-    ++ ((if p.seconds == 0 then [] else decimal p.seconds)
-    ++ (codes "." ++ (padded_digits 6 p.micros ++ codes "S"))))
-
+-- the parts that aren't 0, and the seconds with their microseconds where these aren't 0: `6S`, `6.500000S`, `.500000S`
 unfoldable pub iso_text : Interval → List ℕ
 iso_text t =
     let p = parts_of t in
@@ -28,4 +22,8 @@ iso_text t =
     ++ (if int_eq t.microseconds (pos 0) then []
     else (codes "T"
     ++ (iso_part p.time_negative p.hours (codes "H")
-    ++ (iso_part p.time_negative p.minutes (codes "M") ++ iso_seconds p))))))))
+    ++ (iso_part p.time_negative p.minutes (codes "M")
+    ++ (if p.micros == 0 then iso_part p.time_negative p.seconds (codes "S")
+    else (minus p.time_negative
+    ++ ((if p.seconds == 0 then [] else decimal p.seconds)
+    ++ (codes "." ++ (padded_digits 6 p.micros ++ codes "S")))))))))))))

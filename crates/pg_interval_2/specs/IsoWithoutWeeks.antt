@@ -4,7 +4,7 @@ use Rattle.std.specs.List.{list_any}
 use Rattle.scan_core.specs.Count.{Count}
 use Rattle.scan_core.specs.declared.share.Unit.{Unit as TimeUnit}
 use Rattle.scan_core.specs.declared.share.Unit.TheVariants.{Year, Month, Day, Hour, Minute, Second}
-use Rattle.pg_interval_2.specs.Iso.{IsIsoBy}
+use Rattle.pg_interval_2.specs.Iso.{IsIso}
 
 -- the unit that a letter meant: 89 is `Y`, 77 `M`, 68 `D`, 72 `H` and 83 `S`, before the `T` and behind it
 abbrev pub unit_without_weeks : Bool → ℕ → Option TimeUnit
@@ -24,7 +24,7 @@ unit_without_weeks true letter =
 
 -- the text was in ISO style and spelled these counts, in order
 abbrev pub IsIsoWithoutWeeks : List ℕ → List Count → Type 0
-IsIsoWithoutWeeks = IsIsoBy unit_without_weeks
+IsIsoWithoutWeeks = IsIso unit_without_weeks
 
 -- a byte of the text is `W`
 abbrev pub has_week : List ℕ → Bool

@@ -36,10 +36,6 @@ parts_of t = record {
 abbrev pub is_zero : Interval → Bool
 is_zero t = int_eq t.months (pos 0) && (int_eq t.days (pos 0) && int_eq t.microseconds (pos 0))
 
--- the minus of a negative number
-abbrev pub minus : Bool → List ℕ
-minus negative = if negative then codes "-" else []
-
 -- the time without its sign, the hours with at least this many digits: `04:05:06`, `04:05:06.500000`
 abbrev pub clock_text : ℕ → Parts → List ℕ
 clock_text width p =

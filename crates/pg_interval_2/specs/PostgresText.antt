@@ -4,7 +4,8 @@ use Rattle.std.specs.Prelude.{ℕ, pos, Bool, not, List, [], ◌∷◌, ◌++◌
 use Rattle.std.specs.List.{join_with_byte}
 use Rattle.std.specs.Ordering.{int_eq}
 use Rattle.pg_interval_2.specs.declared.interval.Interval.{Interval}
-use Rattle.pg_interval_2.specs.Parts.{parts_of, is_zero, minus, clock_text}
+use Rattle.pg_interval_2.specs.Parts.{parts_of, is_zero, clock_text}
+use Rattle.scan_core.specs.Number.{minus}
 
 -- a number with its minus, and its name, or no words where it is 0: the name is singular at 1, but where `plural`
 unfoldable pub part_words : Bool → Bool → ℕ → List ℕ → List (List ℕ)

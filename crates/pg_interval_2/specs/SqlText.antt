@@ -4,7 +4,8 @@ use Rattle.std.specs.Prelude.{ℕ, pos, int_lt, Bool, not, List, [], ◌∷◌, 
 use Rattle.std.specs.List.{join_with_byte}
 use Rattle.std.specs.Ordering.{int_eq}
 use Rattle.pg_interval_2.specs.declared.interval.Interval.{Interval}
-use Rattle.pg_interval_2.specs.Parts.{parts_of, is_zero, minus, clock_text}
+use Rattle.pg_interval_2.specs.Parts.{parts_of, is_zero, clock_text}
+use Rattle.scan_core.specs.Number.{minus, sign_text}
 
 -- each number has a sign of its own: two of them have opposite signs, or months stand beside days or time
 abbrev pub needs_signs : Interval → Bool
@@ -15,10 +16,6 @@ needs_signs t =
     || (not (int_eq t.months (pos 0))
     && not (int_eq t.days (pos 0) && int_eq t.microseconds (pos 0)))
 
--- a sign, a plus also of 0
-abbrev pub minus_or_plus : Bool → List ℕ
-minus_or_plus negative = if negative then codes "-" else codes "+"
-
 unfoldable pub sql_text : Interval → List ℕ
 sql_text t =
     let p = parts_of t in
@@ -26,9 +23,9 @@ sql_text t =
     let time = clock_text 1 p in
     if is_zero t then codes "0"
     else if needs_signs t then join_with_byte 32
-    ((minus_or_plus p.months_negative ++ year_month)
-    ∷ (minus_or_plus p.days_negative ++ decimal p.days)
-    ∷ (minus_or_plus p.time_negative ++ time)
+    ((sign_text p.months_negative ++ year_month)
+    ∷ (sign_text p.days_negative ++ decimal p.days)
+    ∷ (sign_text p.time_negative ++ time)
     ∷ [])
     else if not (int_eq t.months (pos 0)) then (minus p.months_negative ++ year_month)
     else if not (int_eq t.days (pos 0)) then join_with_byte 32

@@ -6,10 +6,7 @@ use Rattle.scan_core.specs.Count.{Count, count_of}
 abbrev pub turned_sign : Bool → Bool → Bool
 turned_sign turned negative = if turned then not negative else negative
 
--- a count, turned or not
-abbrev pub turned_count : Bool → Count → Count
-turned_count turned c = count_of (turned_sign turned c.negative) c.whole c.fraction c.unit
-
--- all counts, turned or not
+-- the counts, each with its sign turned or not
 abbrev pub turned_counts : Bool → List Count → List Count
-turned_counts turned counts = map (turned_count turned) counts
+turned_counts turned counts =
+    map (λ c. count_of (turned_sign turned c.negative) c.whole c.fraction c.unit) counts

@@ -8,30 +8,23 @@ use Rattle.pg_interval_2.specs.Postgres.{AreItems, IsBadName}
 use Rattle.pg_interval_2.specs.Turned.{turned_counts}
 use Rattle.pg_interval_2.specs.UnitNames.{verbose_names}
 
--- `ago`, or nothing
-abbrev pub ago_or_none : Bool → List ℕ
-ago_or_none ago = if ago then codes "ago" else []
-
 -- the text is blanks, `@`, a body, `ago` or nothing, and blanks; each run of blanks may be empty
 pub record IsFramed (text before body : List ℕ) (ago : Bool) : Type 0 where
   pub after : List ℕ
   pub blank_before : IsTrue (list_all is_blank before)
   pub blank_after : IsTrue (list_all is_blank after)
-  pub joined : text ≡ before ++ (codes "@" ++ (body ++ (ago_or_none ago ++ after)))
+  pub joined : text ≡ before ++ (codes "@" ++ (body ++ ((if ago then codes "ago" else []) ++ after)))
 
--- the body is `0`, which spells no counts, or items; blanks stand around its words or not
-abbrev pub IsBody : List ℕ → List Count → Type 0
-IsBody body counts =
-    ((words body ≡ codes "0" ∷ []) × (counts ≡ [])) ⊎ AreItems verbose_names (words body) counts
-
--- the text is in `postgres_verbose` style and spells these counts
+-- The text is in `postgres_verbose` style and spells these counts: its body is `0`, which spells none, or items, whose counts `ago`
+-- turns. Blanks stand around the body's words or not.
 pub record IsVerbose (text : List ℕ) (counts : List Count) : Type 0 where
   pub before : List ℕ
   pub body : List ℕ
   pub ago : Bool
   pub body_counts : List Count
   pub framed : IsFramed text before body ago
-  pub spelled : IsBody body body_counts
+  pub spelled : ((words body ≡ codes "0" ∷ []) × (body_counts ≡ []))
+      ⊎ AreItems verbose_names (words body) body_counts
   pub counted : counts ≡ turned_counts ago body_counts
 
 -- the text ends in `ago`, with blanks behind it or none

@@ -4,7 +4,8 @@ use Rattle.std.specs.Prelude.{ℕ, pos, int_lt, Bool, not, false, List, [], ◌�
 use Rattle.std.specs.List.{join_with_byte}
 use Rattle.scan_core.specs.Padded.{padded_digits, trimmed_digits}
 use Rattle.pg_interval_2.specs.declared.interval.Interval.{Interval}
-use Rattle.pg_interval_2.specs.Parts.{Parts, parts_of, is_zero, minus}
+use Rattle.pg_interval_2.specs.Parts.{Parts, parts_of, is_zero}
+use Rattle.scan_core.specs.Number.{minus}
 use Rattle.pg_interval_2.specs.PostgresText.{part_words}
 use Rattle.pg_interval_2.specs.Turned.{turned_sign}
 

@@ -13,6 +13,10 @@ pub mod Orders
 pub mod PartSteps
 pub mod PostgresSteps
 pub mod Reading
+pub mod SqlParts
+pub mod VerboseParts
+pub mod TurnedCount
+pub mod UnitsInOrder
 pub mod SqlReading
 pub mod SqlSteps
 pub mod SqlViews

@@ -7,6 +7,8 @@ ghost use Rattle.pg_interval_2.specs.inside.IsoShapes.{IsIsoEither};
 ghost use Rattle.pg_interval_2.specs.inside.IsoTally.{IsSpelled, StopsBehindPairs, TakesPairs, ends_pairs};
 ghost use Rattle.pg_interval_2.specs.Messages.{not_iso};
 ghost use Rattle.pg_interval_2.specs.inside.Reading.{IsDecimal, count_with, numeral_in, read_pair};
+ghost use Rattle.pg_interval_2.specs.declared.style.Style.TheVariants.{Iso};
+ghost use Rattle.pg_interval_2.specs.Styles.{Answers};
 
 use crate::error::ParseError;
 use crate::interval::Interval;
@@ -178,9 +180,7 @@ impl Interval {
     /// `InvalidInterval` exactly where the text isn't in the style, and else `InvalidYearMonth`, `InvalidDay` or
     /// `InvalidTime` exactly where that part of a count, or of the sum of all counts, is the first that leaves its type.
     pub fn from_iso(text: &str) -> Result<Interval, ParseError>
-        ensures ok { IfOk result (λ t. Denotes IsIso text.now t) }
-        ensures all { (t : Interval) → Denotes IsIso text.now t → result ≡ Ok t }
-        ensures err { IfErr result (λ e. Refuses IsIso NoPlace not_iso text.now e) }
+        ensures { Answers Iso text.now result }
     {
         read_alone::<Brand>(Style::Iso, &Looked::new(text), Blank::new(1))
     }

@@ -5,6 +5,8 @@ ghost use Rattle.pg_interval_2.specs.IsoStrict.{IsIsoStrict};
 ghost use Rattle.pg_interval_2.specs.inside.IsoShapes.{IsStrictEither};
 ghost use Rattle.pg_interval_2.specs.Messages.{not_iso_strict};
 ghost use Rattle.pg_interval_2.specs.inside.Tallies.{IsTallyOf};
+ghost use Rattle.pg_interval_2.specs.declared.style.Style.TheVariants.{IsoStrict};
+ghost use Rattle.pg_interval_2.specs.Styles.{Answers};
 
 use crate::error::ParseError;
 use crate::interval::Interval;
@@ -60,9 +62,7 @@ impl Interval {
     /// `InvalidInterval` exactly where the text isn't in the style, and else `InvalidYearMonth`, `InvalidDay` or
     /// `InvalidTime` exactly where that part of a count, or of the sum of all counts, is the first that leaves its type.
     pub fn from_iso_strict(text: &str) -> Result<Interval, ParseError>
-        ensures ok { IfOk result (λ t. Denotes IsIsoStrict text.now t) }
-        ensures all { (t : Interval) → Denotes IsIsoStrict text.now t → result ≡ Ok t }
-        ensures err { IfErr result (λ e. Refuses IsIsoStrict NoPlace not_iso_strict text.now e) }
+        ensures { Answers IsoStrict text.now result }
     {
         read_alone::<Brand>(Style::IsoStrict, &Looked::new(text), Blank::new(1))
     }

@@ -4,12 +4,10 @@ ghost use Rattle.std.specs.List.{list_all};
 ghost use Rattle.scan_core.specs.Count.{Count};
 ghost use Rattle.pg_interval_2.specs.declared.interval.Interval.{Interval};
 ghost use Rattle.pg_interval_2.specs.declared.style.Style.{Style};
-ghost use Rattle.pg_interval_2.specs.declared.style.Style.TheVariants.{Iso};
+ghost use Rattle.pg_interval_2.specs.declared.style.Style.TheVariants.{Iso, IsoStrict};
 ghost use Rattle.pg_interval_2.specs.Alphabet.{is_in_alphabet, is_no_feed};
 ghost use Rattle.pg_interval_2.specs.Cell.{cell};
 ghost use Rattle.pg_interval_2.specs.Denotes.{Denotes, HasNoShape};
-ghost use Rattle.pg_interval_2.specs.Iso.{IsIso};
-ghost use Rattle.pg_interval_2.specs.IsoStrict.{IsIsoStrict};
 ghost use Rattle.pg_interval_2.specs.IsoWithoutWeeks.{IsIsoWithoutWeeks, has_week};
 ghost use Rattle.pg_interval_2.specs.Ranges.{IsInRange};
 ghost use Rattle.pg_interval_2.specs.Styles.{Shape, style_text};
@@ -33,21 +31,21 @@ pub fn written_text_is_read_back()
 /// text with one spelled none. So every older text has its value, and the new texts are those with a `W`.
 pub fn only_texts_with_weeks_are_new()
     ensures old { (text : List ℕ) (counts : List Count) → has_week text ≡ false
-        → (IsIso text counts ↔ IsIsoWithoutWeeks text counts) }
+        → (Shape Iso text counts ↔ IsIsoWithoutWeeks text counts) }
     ensures new { (text : List ℕ) → has_week text ≡ true → HasNoShape IsIsoWithoutWeeks text }
 {}
 
 /// A text in strict ISO style is in ISO style with the same counts, so it denotes the same interval.
 pub fn strict_texts_are_iso_texts()
-    ensures counts { (text : List ℕ) (counts : List Count) → IsIsoStrict text counts
-        → IsIso text counts }
-    ensures denotes { (text : List ℕ) (t : Interval) → Denotes IsIsoStrict text t
-        → Denotes IsIso text t }
+    ensures counts { (text : List ℕ) (counts : List Count) → Shape IsoStrict text counts
+        → Shape Iso text counts }
+    ensures denotes { (text : List ℕ) (t : Interval) → Denotes (Shape IsoStrict) text t
+        → Denotes (Shape Iso) text t }
 {}
 
 /// What is written in ISO style is in the strict style too, and denotes the interval by it.
 pub fn written_iso_texts_are_strict()
-    ensures { (t : Interval) → IsInRange t → Denotes IsIsoStrict (style_text Iso t) t }
+    ensures { (t : Interval) → IsInRange t → Denotes (Shape IsoStrict) (style_text Iso t) t }
 {}
 
 /// What a text denotes is within the types of the parts, in every style.

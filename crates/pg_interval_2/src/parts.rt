@@ -3,7 +3,7 @@ ghost use Rattle.std.specs.Prelude.{◌≡◌, ◌+◌, ◌≤◌, ◌<◌, ◌+
 ghost use Rattle.arrayvec.specs.ArrayString.{array_string_len};
 ghost use Rattle.scan_core.specs.Padded.{padded_digits};
 ghost use Rattle.pg_interval_2.specs.Turned.{turned_sign};
-ghost use Rattle.pg_interval_2.specs.Parts.{minus};
+ghost use Rattle.scan_core.specs.Number.{minus};
 ghost use Rattle.pg_interval_2.specs.inside.PartSteps.{has_negative, years_of, months_of, hours_of, minutes_of, seconds_of, subsecond_of};
 
 use arrayvec::ArrayString;

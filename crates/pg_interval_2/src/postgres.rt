@@ -3,6 +3,8 @@ ghost use Rattle.std.specs.Prelude.{◌≡◌, ◌+◌, ◌*◌, ◌<◌, ◌≤
 ghost use Rattle.pg_interval_2.specs.Denotes.{Denotes, Refuses};
 ghost use Rattle.pg_interval_2.specs.Messages.{not_postgres};
 ghost use Rattle.pg_interval_2.specs.Postgres.{IsPostgres, IsPostgresBadName};
+ghost use Rattle.pg_interval_2.specs.declared.style.Style.TheVariants.{Postgres};
+ghost use Rattle.pg_interval_2.specs.Styles.{Answers};
 
 use crate::body::{Misread, tally_items};
 use crate::error::ParseError;
@@ -41,12 +43,7 @@ impl Interval {
     /// `InvalidInterval` exactly where the text isn't in the style for another reason; else `InvalidYearMonth`, `InvalidDay` or
     /// `InvalidTime` exactly where that part of a count, or of the sum of all counts, is the first that leaves its type.
     pub fn from_postgres(text: &str) -> Result<Interval, ParseError>
-        ensures ok { IfOk result (λ t. Denotes IsPostgres text.now t) }
-        ensures all { (t : Interval) → Denotes IsPostgres text.now t → result ≡ Ok t }
-        ensures err { IfErr result
-            (λ e. Refuses IsPostgres IsPostgresBadName not_postgres text.now e) }
-        ensures bad { (start end : ℕ) → IsPostgresBadName text.now start end
-            → result ≡ Err (ParseError.BadUnit start end) }
+        ensures { Answers Postgres text.now result }
     {
         read_alone::<Brand>(Style::Postgres, &Looked::new(text), Blank::new(1))
     }

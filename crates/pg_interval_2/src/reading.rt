@@ -1,8 +1,7 @@
 //! The readers of all styles over counted texts.
-ghost use Rattle.std.specs.Prelude.{◌≡◌, ◌+◌, ◌*◌, ◌<◌, ◌≤◌, ℕ, IfOk, IfErr, IsErrAnd, length};
-ghost use Rattle.scan_core.specs.declared.share.Part.{Part};
-ghost use Rattle.pg_interval_2.specs.Denotes.{Denotes, HasNoShape, IsRange, IsRangeOf, Misfits, Refuses};
-ghost use Rattle.pg_interval_2.specs.Styles.{IsBadPlace, Shape, not_in};
+ghost use Rattle.std.specs.Prelude.{◌≡◌, ◌+◌, ◌*◌, ◌<◌, ◌≤◌, IfOk, IfErr, length};
+ghost use Rattle.pg_interval_2.specs.Denotes.{Denotes, Refuses};
+ghost use Rattle.pg_interval_2.specs.Styles.{Answers, IsBadPlace, Shape, not_in};
 
 use crate::error::ParseError;
 use crate::interval::Interval;
@@ -25,15 +24,7 @@ pub fn read_counted<L: Ledger>(
     text: &Looked<'_>,
     steps: &mut Steps<L>,
 ) -> Result<Interval, ParseError>
-    ensures ok { IfOk result (λ t. Denotes (Shape style) text.now t) }
-    ensures all { (t : Interval) → Denotes (Shape style) text.now t → result ≡ Ok t }
-    ensures err { IfErr result
-        (λ e. Refuses (Shape style) (IsBadPlace style) (not_in style) text.now e) }
-    ensures bad { (start end : ℕ) → IsBadPlace style text.now start end
-        → result ≡ Err (ParseError.BadUnit start end) }
-    ensures range { (part : Part) → Misfits (Shape style) text.now part
-        → IsErrAnd result (IsRangeOf part) }
-    ensures none { HasNoShape (Shape style) text.now → IsErrAnd result (λ e. ¬ (IsRange e)) }
+    ensures answers { Answers style text.now result }
     ensures most { steps.new ≤ steps.old + (2 * length text.now + 4) }
     ensures least { IfOk result (λ _. steps.old + length text.now ≤ steps.new) }
 {
@@ -71,12 +62,7 @@ pub(crate) fn read_alone<L: Ledger>(
     requires name { blank.name ≡ L.name }
     requires parts { blank.parts ≡ L.parts }
     requires some { 0 < L.parts }
-    ensures ok { IfOk result (λ t. Denotes (Shape style) text.now t) }
-    ensures all { (t : Interval) → Denotes (Shape style) text.now t → result ≡ Ok t }
-    ensures err { IfErr result
-        (λ e. Refuses (Shape style) (IsBadPlace style) (not_in style) text.now e) }
-    ensures bad { (start end : ℕ) → IsBadPlace style text.now start end
-        → result ≡ Err (ParseError.BadUnit start end) }
+    ensures { Answers style text.now result }
 {
     read_counted(style, text, &mut Steps::<L>::new(blank))
 }

@@ -9,6 +9,8 @@ ghost use Rattle.pg_interval_2.specs.inside.Tallies.{IsTallyOf, Tallies};
 ghost use Rattle.pg_interval_2.specs.inside.SqlReading.{seconds_counts};
 ghost use Rattle.pg_interval_2.specs.inside.SqlViews.{AreDateRuns, AreSecondRuns, AreTimeRuns, Perhaps, perhaps_counts, seen_days, seen_seconds, seen_time, seen_year_month};
 ghost use Rattle.pg_interval_2.specs.declared.sql_word.Days.{Days as DayRuns};
+ghost use Rattle.pg_interval_2.specs.declared.style.Style.TheVariants.{Sql};
+ghost use Rattle.pg_interval_2.specs.Styles.{Answers};
 
 use crate::error::ParseError;
 use crate::interval::Interval;
@@ -168,9 +170,7 @@ impl Interval {
     /// `InvalidInterval` exactly where the text isn't in the style, and else `InvalidYearMonth`, `InvalidDay` or
     /// `InvalidTime` exactly where that part of a count, or of the sum of all counts, is the first that leaves its type.
     pub fn from_sql(text: &str) -> Result<Interval, ParseError>
-        ensures ok { IfOk result (λ t. Denotes IsSql text.now t) }
-        ensures all { (t : Interval) → Denotes IsSql text.now t → result ≡ Ok t }
-        ensures err { IfErr result (λ e. Refuses IsSql NoPlace not_sql text.now e) }
+        ensures { Answers Sql text.now result }
     {
         read_alone::<Brand>(Style::Sql, &Looked::new(text), Blank::new(1))
     }

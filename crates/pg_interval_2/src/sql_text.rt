@@ -2,7 +2,7 @@
 ghost use Rattle.std.specs.Prelude.{◌≡◌, ◌+◌, ◌≤◌, ◌++◌, codes, unsigned_abs};
 ghost use Rattle.std.specs.Int.{is_negative};
 ghost use Rattle.arrayvec.specs.ArrayString.{array_string_len};
-ghost use Rattle.pg_interval_2.specs.SqlText.{minus_or_plus};
+ghost use Rattle.scan_core.specs.Number.{sign_text};
 ghost use Rattle.pg_interval_2.specs.inside.SqlSteps.{has_positive, has_all_signs, year_month_text, signed_text, months_text, days_text, time_text, plain_text, sql_steps};
 
 use crate::clock_text::push_clock;
@@ -13,7 +13,7 @@ use scan_core::push_text;
 /// Appends the sign of a number, a plus also of 0.
 fn push_sign<const CAP: usize>(out: &mut ArrayString<CAP>, negative: bool)
     requires { array_string_len out.old + 1 ≤ CAP }
-    ensures bytes { out.new.bytes ≡ out.old.bytes ++ minus_or_plus negative }
+    ensures bytes { out.new.bytes ≡ out.old.bytes ++ sign_text negative }
     ensures len { array_string_len out.new ≤ array_string_len out.old + 1 }
 {
     if negative {

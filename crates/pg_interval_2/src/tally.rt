@@ -4,7 +4,7 @@ ghost use Rattle.scan_core.specs.Count.{Count, count_of};
 ghost use Rattle.scan_core.specs.Runs.{IsRun, digits_of};
 ghost use Rattle.scan_core.specs.Shares.{main_part};
 ghost use Rattle.pg_interval_2.specs.inside.Reading.{IsDecimal, count_with, numeral_in};
-ghost use Rattle.pg_interval_2.specs.inside.Tallies.{Tallies, Answers, marked};
+ghost use Rattle.pg_interval_2.specs.inside.Tallies.{Tallies, AnswersCounts, marked};
 
 use crate::error::ParseError;
 use crate::interval::Interval;
@@ -114,7 +114,7 @@ impl Tally {
 
     /// The interval of all counts, or the refusal of the first part that doesn't fit.
     pub(crate) fn answer(&self) -> Result<Interval, ParseError>
-        ensures { (counts : List Count) → Tallies self.now counts → Answers counts result }
+        ensures { (counts : List Count) → Tallies self.now counts → AnswersCounts counts result }
     {
         // nearly all texts fit: theirs are the only tests that they pay for
         if self.months_fit && self.days_fit && self.micros_fit {

@@ -5,6 +5,8 @@ ghost use Rattle.pg_interval_2.specs.Denotes.{Denotes, Refuses};
 ghost use Rattle.pg_interval_2.specs.Messages.{not_verbose};
 ghost use Rattle.pg_interval_2.specs.Verbose.{IsVerbose, IsVerboseBadName};
 ghost use Rattle.pg_interval_2.specs.inside.VerboseReading.{IsFrontMisread, IsFrontTally, ends_solid};
+ghost use Rattle.pg_interval_2.specs.declared.style.Style.TheVariants.{Verbose};
+ghost use Rattle.pg_interval_2.specs.Styles.{Answers};
 
 use crate::ago::body_end;
 use crate::body::{Misread, tally_items};
@@ -81,12 +83,7 @@ impl Interval {
     /// `InvalidYearMonth`, `InvalidDay` or `InvalidTime` exactly where that part of a count, turned or not, or of the sum of all
     /// counts, is the first that leaves its type.
     pub fn from_postgres_verbose(text: &str) -> Result<Interval, ParseError>
-        ensures ok { IfOk result (λ t. Denotes IsVerbose text.now t) }
-        ensures all { (t : Interval) → Denotes IsVerbose text.now t → result ≡ Ok t }
-        ensures err { IfErr result
-            (λ e. Refuses IsVerbose IsVerboseBadName not_verbose text.now e) }
-        ensures bad { (start end : ℕ) → IsVerboseBadName text.now start end
-            → result ≡ Err (ParseError.BadUnit start end) }
+        ensures { Answers Verbose text.now result }
     {
         read_alone::<Brand>(Style::Verbose, &Looked::new(text), Blank::new(1))
     }

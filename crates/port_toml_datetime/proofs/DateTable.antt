@@ -1,8 +1,9 @@
 -- The checks of a date hold exactly for dates.
-use Rattle.std.proofs.Common.{◌≡◌, ℕ, ◌≤◌, List, ◌∷◌, ◌++◌, None, codes, refl, ◌∙◌, ap, arith}
+use Rattle.std.proofs.Common.{◌≡◌, ℕ, ◌≤◌, pos, List, ◌∷◌, ◌++◌, None, codes, refl, ◌∙◌, ap, arith}
 use Rattle.scan_core.specs.Digits.{AreDigits, number_of}
 use Rattle.port_toml_datetime.specs.declared.date.Date.{Date}
-use Rattle.port_toml_datetime.specs.Dates.{IsDate, days_in_month}
+use Rattle.port_toml_datetime.specs.Dates.{IsDate}
+use Rattle.scan_core.specs.Calendar.{days_in_month}
 use Rattle.port_toml_datetime.specs.Tokens.{token, after, after_token}
 use Rattle.port_toml_datetime.specs.Checks.{first_failing, date_rows, after_date}
 use Rattle.port_toml_datetime.specs.inside.Values.{date_of}
@@ -44,7 +45,7 @@ pub record DateRead (year text : List ℕ) (date : Date) (rest : List ℕ) : Typ
   pub value : date_of year text ≡ date
   pub follows : after_date text ≡ rest
 
-same_bound : (y m d a b c : ℕ) → y ≡ a → m ≡ b → d ≡ c → d ≤ days_in_month y m → c ≤ days_in_month a b
+same_bound : (y m d a b c : ℕ) → y ≡ a → m ≡ b → d ≡ c → d ≤ days_in_month (pos y) m → c ≤ days_in_month (pos a) b
 same_bound y m d a b c e f g h = rw (← e, ← f, ← g) h
 
 same_date : (y m d : ℕ) (date : Date) → date.year ≡ y → date.month ≡ m → date.day ≡ d → ◌≡◌ {A = Date} (record { year = y; month = m; day = d }) date

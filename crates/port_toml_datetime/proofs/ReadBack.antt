@@ -11,7 +11,8 @@ use Rattle.port_toml_datetime.specs.declared.offset.Offset.{Offset}
 use Rattle.port_toml_datetime.specs.declared.offset.Offset.TheVariants.{Z, Custom}
 use Rattle.port_toml_datetime.specs.declared.datetime.Datetime.{Datetime}
 use Rattle.scan_core.specs.Fields.{IsField}
-use Rattle.port_toml_datetime.specs.Dates.{IsDate, is_leap_year, days_in_month}
+use Rattle.port_toml_datetime.specs.Dates.{IsDate}
+use Rattle.scan_core.specs.Calendar.{is_leap_year, days_in_month}
 use Rattle.port_toml_datetime.specs.Times.{nanoseconds, IsSecondFraction, IsPerhapsSeconds, IsTime}
 use Rattle.port_toml_datetime.specs.Offsets.{IsOffset}
 use Rattle.port_toml_datetime.specs.Datetimes.{IsDatetime, datetime_of}
@@ -67,9 +68,8 @@ month_if true false short = omega arith
 month_if false leap true = omega arith
 month_if false leap false = omega arith
 
-days_short : (year month : ℕ) → days_in_month year month < 100
-unfolding days_in_month
-days_short year month = month_if (month == 2) (is_leap_year year) (((month == 4 || month == 6) || month == 9) || month == 11)
+days_short : (year month : ℕ) → days_in_month (pos year) month < 100
+days_short year month = month_if (month == 2) (is_leap_year (pos year)) (((month == 4 || month == 6) || month == 9) || month == 11)
 
 date_back : (d : Date) → IsRealDay d → IsDate (date_text d) d
 unfolding date_text

@@ -2,9 +2,9 @@
 -- what was expected. They stand in the order in which they are made, and the first that fails
 -- decides. TOML has no such table: order and words are those of the Rust crate. A check is total in
 -- the text. Behind one that fails, later checks may mean nothing; nobody looks at them.
-use Rattle.std.specs.Prelude.{ℕ, Bool, true, ◌||◌, ◌&&◌, ◌==◌, nat_le, List, [], ◌∷◌, ◌++◌, length, codes, Option, Some, None, option_map, is_some, if◌then◌else◌}
+use Rattle.std.specs.Prelude.{ℕ, Bool, true, ◌||◌, ◌&&◌, ◌==◌, nat_le, List, [], ◌∷◌, ◌++◌, length, codes, Option, Some, None, option_map, is_some, pos, if◌then◌else◌}
 use Rattle.scan_core.specs.Digits.{number_of}
-use Rattle.port_toml_datetime.specs.Dates.{days_in_month}
+use Rattle.scan_core.specs.Calendar.{days_in_month}
 use Rattle.port_toml_datetime.specs.Faults.{Fault, fault, bare_fault}
 use Rattle.port_toml_datetime.specs.Tokens.{after, token, is_end, is_digits, is_of}
 
@@ -51,7 +51,7 @@ unfoldable pub date_rows : List ℕ → List ℕ → List Row
 date_rows year text =
     let month = token 0 text in
     let day = token 2 text in
-    let days = days_in_month (number_of year) (number_of month) in
+    let days = days_in_month (pos (number_of year)) (number_of month) in
     row (is_digits month) (codes "date") (codes "month")
     ∷ row (is_of (codes "-") (token 1 text)) (codes "date") (codes "`-` (MM-DD)")
     ∷ row (is_digits day) (codes "date") (codes "day")

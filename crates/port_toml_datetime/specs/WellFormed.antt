@@ -1,6 +1,6 @@
 -- Values that a date-time of TOML has: one of the four kinds, each part in its range.
 use Rattle.std.specs.Prelude.{ℕ, ◌<◌, ◌≤◌, ◌^◌, ⊤, pos, negsuc, Option, Some, None}
-use Rattle.port_toml_datetime.specs.Dates.{days_in_month}
+use Rattle.scan_core.specs.Calendar.{days_in_month}
 use Rattle.port_toml_datetime.specs.declared.date.Date.{Date}
 use Rattle.port_toml_datetime.specs.declared.time.Time.{Time}
 use Rattle.port_toml_datetime.specs.declared.offset.Offset.{Offset}
@@ -13,7 +13,7 @@ pub record IsRealDay (d : Date) : Type 0 where
   pub month : 1 ≤ d.month
   pub months : d.month ≤ 12
   pub day : 1 ≤ d.day
-  pub days : d.day ≤ days_in_month d.year d.month
+  pub days : d.day ≤ days_in_month (pos d.year) d.month
 
 -- a second wherever there are nanoseconds
 abbrev pub AreRealSeconds : Option ℕ → Option ℕ → Type 0

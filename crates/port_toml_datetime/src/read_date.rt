@@ -1,7 +1,7 @@
 //! Dates, from behind the `-` that follows the year. The checks stand in the order of the table.
-ghost use Rattle.std.specs.Prelude.{◌≡◌, Some, None, codes, IfOk, IfErr};
+ghost use Rattle.std.specs.Prelude.{◌≡◌, pos, Some, None, codes, IfOk, IfErr};
 ghost use Rattle.scan_core.specs.Digits.{AreDigits};
-ghost use Rattle.port_toml_datetime.specs.Dates.{days_in_month, is_leap_year};
+ghost use Rattle.scan_core.specs.Calendar.{days_in_month, is_leap_year};
 ghost use Rattle.port_toml_datetime.specs.Faults.{fault, fault_of, words_of};
 ghost use Rattle.port_toml_datetime.specs.Checks.{after_date, date_rows, day_words, first_failing};
 ghost use Rattle.port_toml_datetime.specs.inside.Values.{date_of};
@@ -13,15 +13,14 @@ use crate::scan::{check, mark, read_field};
 
 /// Whether the year has a 29 February.
 fn is_leap_year(year: u16) -> bool
-    ensures { result ≡ is_leap_year year }
+    ensures { result ≡ is_leap_year (pos year) }
 {
     year % 4 == 0 && (year % 100 != 0 || year % 400 == 0)
 }
 
 /// How many days the month has.
-#[tactic(auto, unfolding(crate::specs::Dates::days_in_month))]
 fn days_in_month(year: u16, month: u8) -> u8
-    ensures { result ≡ days_in_month year month }
+    ensures { result ≡ days_in_month (pos year) month }
 {
     match month {
         2 if is_leap_year(year) => 29,

@@ -1,14 +1,43 @@
 -- Which parts of a share fit their types: the parts beside a unit's main one always do.
-use Rattle.std.proofs.Common.{◌≡◌, ◌≢◌, ℕ, zero, suc, ◌*◌, ◌^◌, ◌<◌, ◌≤◌, ◌⊎◌, Bool, true, false, arith, inl, inr, refl, subst, sym}
+use Rattle.std.proofs.Common.{◌≡◌, ◌≢◌, ℕ, zero, suc, ◌*◌, ◌^◌, ◌<◌, ◌≤◌, ◌⊎◌, Bool, true, false, List, ap, arith, inl, inr, refl, subst, sym}
 use Rattle.std.proofs.lemmas.Bool.Decides.{nat_tests}
 use Rattle.scan_core.specs.Count.{Count}
 use Rattle.scan_core.specs.Digits.{AreDigits, number_of}
-use Rattle.scan_core.specs.Shares.{fits_type, is_within, magnitude, main_part, rounded, scale_of, share, signed}
+use Rattle.scan_core.specs.Shares.{amount, fits_type, is_within, main_part, rounded, share, signed}
+use Rattle.scan_core.specs.ShareSteps.{magnitude, scale_of}
 use Rattle.scan_core.specs.declared.share.Part.{Part}
 use Rattle.scan_core.specs.declared.share.Part.TheVariants.{Days, Micros, Months}
 use Rattle.scan_core.specs.declared.share.Unit.{Unit as TimeUnit}
 use Rattle.scan_core.specs.declared.share.Unit.TheVariants.{Day, Hour, Minute, Month, Second, Week, Year}
 use Rattle.scan_core.proofs.RoundingFacts.{rounded-le}
+
+-- ---- a share in two steps
+
+pub amount-steps : (part : Part) (unit : TimeUnit) (w : ℕ) (f : List ℕ) → amount part unit w f ≡ magnitude part unit w (rounded (scale_of unit) f)
+amount-steps Months Year w f = refl
+amount-steps Months Month w f = refl
+amount-steps Months Week w f = refl
+amount-steps Months Day w f = refl
+amount-steps Months Hour w f = refl
+amount-steps Months Minute w f = refl
+amount-steps Months Second w f = refl
+amount-steps Days Year w f = refl
+amount-steps Days Month w f = refl
+amount-steps Days Week w f = refl
+amount-steps Days Day w f = refl
+amount-steps Days Hour w f = refl
+amount-steps Days Minute w f = refl
+amount-steps Days Second w f = refl
+amount-steps Micros Year w f = refl
+amount-steps Micros Month w f = refl
+amount-steps Micros Week w f = refl
+amount-steps Micros Day w f = refl
+amount-steps Micros Hour w f = refl
+amount-steps Micros Minute w f = refl
+amount-steps Micros Second w f = refl
+
+pub share-steps : (part : Part) (c : Count) → share part c ≡ signed c.negative (magnitude part c.unit (number_of c.whole) (rounded (scale_of c.unit) c.fraction))
+share-steps part c = ap (signed c.negative) (amount-steps part c.unit (number_of c.whole) c.fraction)
 
 -- ---- a magnitude below half of the type's range fits with either sign
 
@@ -50,7 +79,8 @@ main_or_fits Micros Second negative w r h = inl refl
 
 main_or_part_fits : (part : Part) (c : Count) → AreDigits c.fraction → (part ≡ main_part c.unit) ⊎ (fits_type part (share part c) ≡ true)
 main_or_part_fits part c digits =
-    main_or_fits part c.unit c.negative (number_of c.whole) (rounded (scale_of c.unit) c.fraction) (rounded-le (scale_of c.unit) c.fraction digits)
+    rw (share-steps part c)
+    (main_or_fits part c.unit c.negative (number_of c.whole) (rounded (scale_of c.unit) c.fraction) (rounded-le (scale_of c.unit) c.fraction digits))
 
 -- a part beside the main one fits
 pub other_part_fits : (part : Part) (c : Count) → AreDigits c.fraction → part ≢ main_part c.unit → fits_type part (share part c) ≡ true

@@ -2,7 +2,7 @@
 use Rattle.std.proofs.Common.{◌≡◌, ℕ, ◌+◌, Bool, true, false, cond, List, [], ◌∷◌, ◌++◌, length, refl, sym, ◌∙◌, ap, append_assoc, append-nil, arith, inl, inr}
 use Rattle.std.specs.Prelude.{if◌then◌else◌}
 use Rattle.scan_core.specs.Blanks.{is_blank, words, EndsWord, EndsInBlank}
-use Rattle.scan_core.specs.Join.{onto_first}
+use Rattle.std.specs.List.{onto_first}
 
 -- no byte is a blank
 abbrev pub NoBlanks : List ℕ → Type 0

@@ -1,6 +1,6 @@
 -- Blanks, which are the six white-space bytes of the C locale's `isspace`, and the words between them.
 use Rattle.std.specs.Prelude.{◌≡◌, ◌⊎◌, ℕ, Bool, ◌||◌, ◌&&◌, ◌==◌, nat_le, IsTrue, List, [], ◌∷◌, ◌++◌, if◌then◌else◌}
-use Rattle.scan_core.specs.Join.{onto_first}
+use Rattle.std.specs.List.{onto_first}
 
 -- a tab, a line feed, a vertical tab, a form feed, a carriage return or a space
 abbrev pub is_blank : ℕ → Bool

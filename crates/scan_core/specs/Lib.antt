@@ -7,6 +7,8 @@ pub mod Join
 pub mod Count
 pub mod Number
 pub mod Shares
+pub mod ShareSteps
+pub mod Calendar
 pub mod Sums
 pub mod Padded
 pub mod Scanning

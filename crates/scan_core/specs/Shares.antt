@@ -9,36 +9,26 @@ use Rattle.scan_core.specs.declared.share.Unit.TheVariants.{Year, Month, Week, D
 use Rattle.scan_core.specs.declared.share.Part.{Part}
 use Rattle.scan_core.specs.declared.share.Part.TheVariants.{Months, Days, Micros}
 
--- how many of the next smaller unit make one: months, days, days, hours, minutes, seconds, microseconds
-abbrev pub scale_of : TimeUnit → ℕ
-scale_of Year = 12
-scale_of Month = 30
-scale_of Week = 7
-scale_of Day = 24
-scale_of Hour = 60
-scale_of Minute = 60
-scale_of Second = 1_000_000
-
--- The fraction 0.F of a unit in the next smaller one, rounded half away from zero:
+-- The fraction 0.F of a unit in the next smaller one, of which so many make one, rounded half away from zero:
 -- the floor of F * scale / 10^n + 1/2, where n is the number of F's digits.
 unfoldable pub rounded : ℕ → List ℕ → ℕ
 rounded scale fraction =
     (2 * number_of fraction * scale + 10 ^ length fraction) / (2 * 10 ^ length fraction)
 
--- one part of w units and r of the next smaller one, before the sign
-abbrev pub magnitude : Part → TimeUnit → ℕ → ℕ → ℕ
-magnitude Months Year w r = 12 * w + r
-magnitude Months Month w r = w
-magnitude Months _ w r = 0
-magnitude Days Month w r = r
-magnitude Days Week w r = 7 * w + r
-magnitude Days Day w r = w
-magnitude Days _ w r = 0
-magnitude Micros Day w r = r * 3_600_000_000
-magnitude Micros Hour w r = w * 3_600_000_000 + r * 60_000_000
-magnitude Micros Minute w r = w * 60_000_000 + r * 1_000_000
-magnitude Micros Second w r = w * 1_000_000 + r
-magnitude Micros _ w r = 0
+-- one part of w whole units and the fraction 0.F of one, before the sign
+abbrev pub amount : Part → TimeUnit → ℕ → List ℕ → ℕ
+amount Months Year w f = 12 * w + rounded 12 f
+amount Months Month w f = w
+amount Months _ w f = 0
+amount Days Month w f = rounded 30 f
+amount Days Week w f = 7 * w + rounded 7 f
+amount Days Day w f = w
+amount Days _ w f = 0
+amount Micros Day w f = rounded 24 f * 3_600_000_000
+amount Micros Hour w f = w * 3_600_000_000 + rounded 60 f * 60_000_000
+amount Micros Minute w f = w * 60_000_000 + rounded 60 f * 1_000_000
+amount Micros Second w f = w * 1_000_000 + rounded 1_000_000 f
+amount Micros _ w f = 0
 
 -- a magnitude with its sign
 abbrev pub signed : Bool → ℕ → ℤ
@@ -46,9 +36,7 @@ signed negative n = if negative then neg_ℤ (pos n) else pos n
 
 -- one part of a count's share
 abbrev pub share : Part → Count → ℤ
-share part c =
-    signed c.negative
-    (magnitude part c.unit (number_of c.whole) (rounded (scale_of c.unit) c.fraction))
+share part c = signed c.negative (amount part c.unit (number_of c.whole) c.fraction)
 
 -- the part in which a unit's whole digits are counted, and the only one that can leave its type
 abbrev pub main_part : TimeUnit → Part

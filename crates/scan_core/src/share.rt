@@ -2,7 +2,8 @@
 ghost use Rattle.std.specs.Prelude.{◌≡◌, ◌+◌, ◌*◌, ◌<◌, ◌≤◌, ◌^◌, ◌↔◌, IsTrue, IsSome, IfSome};
 ghost use Rattle.scan_core.specs.Digits.{AreDigits};
 ghost use Rattle.scan_core.specs.Count.{count_of};
-ghost use Rattle.scan_core.specs.Shares.{has_share, share, fits_type, main_part, magnitude, scale_of, signed, is_within};
+ghost use Rattle.scan_core.specs.Shares.{has_share, share, fits_type, main_part, signed, is_within};
+ghost use Rattle.scan_core.specs.ShareSteps.{magnitude, scale_of};
 ghost use Rattle.scan_core.specs.declared.share.Part.TheVariants.{Months, Days, Micros};
 
 use crate::digits::digits_u64;

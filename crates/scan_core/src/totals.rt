@@ -1,7 +1,8 @@
 //! Sums of shares, which are judged at the end.
 ghost use Rattle.std.specs.Prelude.{◌≡◌, ◌+◌, ◌+ℤ◌, ◌<◌, ◌≤◌, ◌^◌, ◌↔◌, pos, false, IsTrue, IsSome, IfSome, IfNone, IsNone};
 ghost use Rattle.scan_core.specs.inside.Bounds.{IsBounded};
-ghost use Rattle.scan_core.specs.Shares.{fits_type, magnitude, main_part, scale_of, signed};
+ghost use Rattle.scan_core.specs.Shares.{fits_type, main_part, signed};
+ghost use Rattle.scan_core.specs.ShareSteps.{magnitude, scale_of};
 ghost use Rattle.scan_core.specs.Sums.{Added, first_sum_out};
 ghost use Rattle.scan_core.specs.declared.share.Part.TheVariants.{Months, Days, Micros};
 

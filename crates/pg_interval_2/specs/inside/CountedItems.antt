@@ -6,7 +6,7 @@ use Rattle.pg_interval_2.specs.declared.counted.Counted.{Counted}
 use Rattle.pg_interval_2.specs.declared.counted.Step.{Step}
 use Rattle.pg_interval_2.specs.declared.counted.Step.TheVariants as step
 use Rattle.scan_core.specs.declared.runs.Word.{Word}
-use Rattle.pg_interval_2.specs.Clock.{is_nonzero}
+use Rattle.pg_interval_2.specs.inside.Reading.{is_nonzero}
 use Rattle.pg_interval_2.specs.inside.ItemReading.{ClockFields, ClockItem, NamedItem, NoItem, clock_of, read_item}
 use Rattle.pg_interval_2.specs.Postgres.{IsFreshName}
 use Rattle.pg_interval_2.specs.inside.UnitPlaces.{counts_unit, has_distinct_units}

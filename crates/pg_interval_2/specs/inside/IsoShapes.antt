@@ -4,7 +4,8 @@ use Rattle.scan_core.specs.Count.{Count}
 use Rattle.scan_core.specs.Join.{IsJoin}
 use Rattle.scan_core.specs.declared.share.Unit.{Unit as TimeUnit}
 use Rattle.pg_interval_2.specs.Iso.{unit_in, IsPair}
-use Rattle.pg_interval_2.specs.IsoStrict.{AreInOrder, units_in_order}
+use Rattle.pg_interval_2.specs.IsoStrict.{AreInOrder}
+use Rattle.pg_interval_2.specs.inside.UnitsInOrder.{units_in_order}
 
 -- the units before the `T`, and behind it
 abbrev pub date_unit : ℕ → Option TimeUnit

@@ -1,10 +1,15 @@
 -- What the small readers answer, as functions on lists: cited by private contracts alone. Each answers a value and what follows it.
-use Rattle.std.specs.Prelude.{ℕ, ◌+◌, Bool, true, false, ◌&&◌, ◌==◌, nat_lt, List, [], ◌∷◌, length, Option, Some, None, if◌then◌else◌, option_and_then}
+use Rattle.std.specs.Prelude.{ℕ, ◌+◌, Bool, true, false, not, ◌&&◌, ◌==◌, nat_lt, List, [], ◌∷◌, length, Option, Some, None, if◌then◌else◌, option_and_then}
 use Rattle.scan_core.specs.Count.{Count}
+use Rattle.scan_core.specs.Digits.{number_of}
 use Rattle.scan_core.specs.Fronts.{front_digits, after_digits}
 use Rattle.scan_core.specs.Runs.{IsRun, digits_of}
 use Rattle.pg_interval_2.specs.declared.number.Decimal.{Decimal}
 use Rattle.scan_core.specs.declared.share.Unit.{Unit as TimeUnit}
+
+-- the count's number isn't 0
+abbrev pub is_nonzero : Count → Bool
+is_nonzero c = not (number_of c.whole == 0 && number_of c.fraction == 0)
 
 -- whether a minus stands in front, and what follows the sign
 abbrev pub read_sign : Bool → List ℕ → Bool × List ℕ

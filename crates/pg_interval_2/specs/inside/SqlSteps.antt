@@ -3,8 +3,8 @@
 use Rattle.std.specs.Prelude.{ℕ, ℤ, pos, unsigned_abs, int_lt, Bool, not, List, ◌++◌, codes, decimal, ◌&&◌, ◌||◌, if◌then◌else◌}
 use Rattle.std.specs.Ordering.{int_eq}
 use Rattle.std.specs.Int.{is_negative}
-use Rattle.pg_interval_2.specs.Parts.{minus}
-use Rattle.pg_interval_2.specs.SqlText.{minus_or_plus}
+use Rattle.scan_core.specs.Number.{minus}
+use Rattle.scan_core.specs.Number.{sign_text}
 use Rattle.pg_interval_2.specs.inside.PartSteps.{has_negative, years_of, months_of}
 use Rattle.pg_interval_2.specs.inside.ClockSteps.{clock_steps}
 
@@ -26,10 +26,10 @@ year_month_text months = decimal (years_of months) ++ (codes "-" ++ decimal (mon
 -- all three numbers, each with its sign
 unfoldable pub signed_text : ℤ → ℤ → ℤ → List ℕ
 signed_text months days micros =
-    (minus_or_plus (is_negative months) ++ year_month_text months)
+    (sign_text (is_negative months) ++ year_month_text months)
     ++ (codes " "
-    ++ ((minus_or_plus (is_negative days) ++ decimal (unsigned_abs days))
-    ++ (codes " " ++ (minus_or_plus (is_negative micros) ++ clock_steps 1 micros))))
+    ++ ((sign_text (is_negative days) ++ decimal (unsigned_abs days))
+    ++ (codes " " ++ (sign_text (is_negative micros) ++ clock_steps 1 micros))))
 
 -- months alone
 unfoldable pub months_text : ℤ → List ℕ

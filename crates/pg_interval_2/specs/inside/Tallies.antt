@@ -36,14 +36,14 @@ marked Days t = record t { days_fit = false }
 marked Micros t = record t { micros_fit = false }
 
 -- the answer to counts: their sum where they fit, else the refusal of the first part that doesn't
-abbrev pub Answers : List Count → Result Interval ParseError → Type 0
-Answers counts (Ok t) = IsTrue (fits counts) × (t ≡ sum_of counts)
-Answers counts (Err (InvalidInterval m)) = ⊥
-Answers counts (Err (BadUnit start end)) = ⊥
-Answers counts (Err (InvalidYearMonth m)) =
+abbrev pub AnswersCounts : List Count → Result Interval ParseError → Type 0
+AnswersCounts counts (Ok t) = IsTrue (fits counts) × (t ≡ sum_of counts)
+AnswersCounts counts (Err (InvalidInterval m)) = ⊥
+AnswersCounts counts (Err (BadUnit start end)) = ⊥
+AnswersCounts counts (Err (InvalidYearMonth m)) =
     (misfit counts ≡ Some Months) × (m.now ≡ year_month_overflow)
-Answers counts (Err (InvalidDay m)) = (misfit counts ≡ Some Days) × (m.now ≡ day_overflow)
-Answers counts (Err (InvalidTime m)) = (misfit counts ≡ Some Micros) × (m.now ≡ time_overflow)
+AnswersCounts counts (Err (InvalidDay m)) = (misfit counts ≡ Some Days) × (m.now ≡ day_overflow)
+AnswersCounts counts (Err (InvalidTime m)) = (misfit counts ≡ Some Micros) × (m.now ≡ time_overflow)
 
 -- the tally is of the counts that the text spells
 abbrev pub IsTallyOf : (List ℕ → List Count → Type 0) → List ℕ → Tally → Type 0

@@ -9,7 +9,8 @@ use Rattle.pg_interval_2.specs.declared.tally.Tally.{Tally}
 use Rattle.pg_interval_2.specs.Postgres.{IsBadName}
 use Rattle.pg_interval_2.specs.Turned.{turned_counts}
 use Rattle.pg_interval_2.specs.UnitNames.{verbose_names}
-use Rattle.pg_interval_2.specs.Verbose.{ago_or_none, EndsInAgo, IsBody}
+use Rattle.pg_interval_2.specs.Verbose.{EndsInAgo}
+use Rattle.pg_interval_2.specs.inside.VerboseParts.{ago_or_none, IsBody}
 use Rattle.pg_interval_2.specs.inside.ItemReading.{verdict, Unspelled}
 use Rattle.pg_interval_2.specs.inside.Tallies.{Tallies}
 

@@ -4,7 +4,7 @@ use Rattle.std.specs.Prelude.{ℕ, ℤ, pos, unsigned_abs, int_lt, Bool, not, fa
 use Rattle.std.specs.Ordering.{int_eq}
 use Rattle.std.specs.Int.{is_negative}
 use Rattle.scan_core.specs.Padded.{padded_digits, trimmed_digits}
-use Rattle.pg_interval_2.specs.Parts.{minus}
+use Rattle.scan_core.specs.Number.{minus}
 use Rattle.pg_interval_2.specs.inside.PartSteps.{has_negative, years_of, months_of, hours_of, minutes_of, seconds_of, subsecond_of}
 use Rattle.pg_interval_2.specs.inside.PostgresSteps.{counted_name, number_words}
 use Rattle.pg_interval_2.specs.Turned.{turned_sign}

@@ -4,22 +4,18 @@ use Rattle.pg_interval_2.proofs.Answering.{all_from, bad_from, none_from, range_
 use Rattle.pg_interval_2.proofs.OneList.{one_list, places}
 use Rattle.pg_interval_2.proofs.reading.read_counted.Goals as goal
 
-pub returns-clause-all : goal.returns-clause-all
-returns-clause-all g c =
-    let style = c.args.style in
-    all_from (Shape style) (IsBadPlace style) (not_in style) (one_list style) c.args.text.now c.read_style.result c.read_style.ensures.ok c.read_style.ensures.err
-
-pub returns-clause-bad : goal.returns-clause-bad
-returns-clause-bad g c =
-    let style = c.args.style in
-    bad_from (Shape style) (IsBadPlace style) (not_in style) (places style) c.args.text.now c.read_style.result c.read_style.ensures.ok c.read_style.ensures.err
-
-pub returns-clause-range : goal.returns-clause-range
-returns-clause-range g c =
-    let style = c.args.style in
-    range_from (Shape style) (IsBadPlace style) (not_in style) (one_list style) c.args.text.now c.read_style.result c.read_style.ensures.ok c.read_style.ensures.err
-
-pub returns-clause-none : goal.returns-clause-none
-returns-clause-none g c =
-    let style = c.args.style in
-    none_from (Shape style) (IsBadPlace style) (not_in style) c.args.text.now c.read_style.result c.read_style.ensures.ok c.read_style.ensures.err
+pub returns-clause-answers : goal.returns-clause-answers
+returns-clause-answers g c =
+    let s = c.args.style in
+    let text = c.args.text.now in
+    let result = c.read_style.result in
+    let ok = c.read_style.ensures.ok in
+    let err = c.read_style.ensures.err in
+    record {
+      ok = ok;
+      all = all_from (Shape s) (IsBadPlace s) (not_in s) (one_list s) text result ok err;
+      err = err;
+      bad = bad_from (Shape s) (IsBadPlace s) (not_in s) (places s) text result ok err;
+      range = range_from (Shape s) (IsBadPlace s) (not_in s) (one_list s) text result ok err;
+      none = none_from (Shape s) (IsBadPlace s) (not_in s) text result ok err;
+    }

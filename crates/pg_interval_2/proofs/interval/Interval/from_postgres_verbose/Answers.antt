@@ -1,15 +1,8 @@
 -- Answers to the goals of `interval::Interval::from_postgres_verbose`.
-use Rattle.std.proofs.Common.{◌≡◌, ℕ, List, Err, Ok, subst}
-use Rattle.pg_interval_2.specs.Denotes.{Denotes}
-use Rattle.pg_interval_2.specs.Verbose.{IsVerbose, IsVerboseBadName}
-use Rattle.pg_interval_2.specs.declared.error.ParseError.TheVariants.{BadUnit}
-use Rattle.pg_interval_2.specs.declared.interval.Interval.{Interval}
+use Rattle.std.proofs.Common.{ℕ, List, subst}
+use Rattle.pg_interval_2.specs.Styles.{Answers}
+use Rattle.pg_interval_2.specs.declared.style.Style.TheVariants.{Verbose}
 use Rattle.pg_interval_2.proofs.interval.Interval.from_postgres_verbose.Goals as goal
 
-pub returns-clause-all : goal.returns-clause-all
-returns-clause-all c =
-    subst (λ (text : List ℕ). (t : Interval) → Denotes IsVerbose text t → c.read_alone.result ≡ Ok t) c.new.ensures c.read_alone.ensures.all
-
-pub returns-clause-bad : goal.returns-clause-bad
-returns-clause-bad c =
-    subst (λ (text : List ℕ). (start end : ℕ) → IsVerboseBadName text start end → c.read_alone.result ≡ Err (BadUnit start end)) c.new.ensures c.read_alone.ensures.bad
+pub returns : goal.returns
+returns c = subst (λ (text : List ℕ). Answers Verbose text c.read_alone.result) c.new.ensures c.read_alone.ensures
