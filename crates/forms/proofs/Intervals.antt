@@ -6,7 +6,7 @@ use Rattle.std.proofs.lemmas.Bool.Decides.{nat_tests}
 use Rattle.std.proofs.lemmas.Int.{ints}
 use Rattle.scan_core.specs.Count.{Count}
 use Rattle.scan_core.specs.Shares.{fits_type}
-use Rattle.scan_core.specs.Sums.{fits, misfit}
+use Rattle.scan_core.specs.Sums.{fits, misfit, total}
 use Rattle.scan_core.specs.declared.share.Part.{Part}
 use Rattle.scan_core.specs.declared.share.Part.TheVariants.{Months, Days, Micros}
 use Rattle.scan_core.proofs.SumFacts.{misfit-none}
@@ -14,7 +14,7 @@ use Rattle.pg_interval_2.specs.declared.error.ParseError.{ParseError}
 use Rattle.pg_interval_2.specs.declared.error.ParseError.TheVariants.{InvalidInterval, BadUnit, InvalidYearMonth, InvalidDay, InvalidTime}
 use Rattle.pg_interval_2.specs.declared.interval.Interval.{Interval}
 use Rattle.pg_interval_2.specs.declared.style.Style.{Style}
-use Rattle.pg_interval_2.specs.Denotes.{sum_of, Denotes, HasNoShape, Misfits, Refuses}
+use Rattle.pg_interval_2.specs.Denotes.{Denotes, HasNoShape, Misfits, Refuses}
 use Rattle.pg_interval_2.specs.Ranges.{IsInRange}
 use Rattle.pg_interval_2.specs.Styles.{Shape, style_text}
 use Rattle.forms.specs.declared.cause.Cause.TheVariants.{Syntax, Range, Kind, Precision}
@@ -29,6 +29,14 @@ use Rattle.forms.specs.inside.Readers.{IsRefusedBy}
 use Rattle.scan_core.proofs.FitFacts.{within_32, within_64, fits_32, fits_64}
 use Rattle.forms.proofs.Fitting.{widen}
 use Rattle.forms.proofs.Lawful.{then_ok, same_ok, one_image, IsHeldBack, HasRows, lawful_by}
+
+-- the sums of the shares of all counts
+abbrev pub sum_of : List Count → Interval
+sum_of counts = record {
+  months = total Months counts;
+  days = total Days counts;
+  microseconds = total Micros counts;
+}
 
 -- the triple of an interval
 abbrev pub triple : Interval → Value

@@ -5,7 +5,7 @@ use Rattle.scan_core.specs.Sums.{fits}
 use Rattle.pg_interval_2.specs.declared.interval.Interval.{Interval}
 use Rattle.pg_interval_2.specs.declared.style.Style.{Style}
 use Rattle.pg_interval_2.specs.declared.style.Style.TheVariants as style
-use Rattle.pg_interval_2.specs.Denotes.{sum_of, Denotes}
+use Rattle.pg_interval_2.specs.Denotes.{Denotes}
 use Rattle.pg_interval_2.specs.Styles.{Shape, style_text}
 use Rattle.forms.specs.declared.cause.Cause.{Cause}
 use Rattle.forms.specs.declared.cause.Cause.TheVariants.{Syntax, Range}
@@ -18,7 +18,7 @@ use Rattle.forms.specs.Names.{style_of}
 use Rattle.forms.specs.ReadBack.{Turns}
 use Rattle.forms.specs.Replies.{IsIntervalAnswer, IsAnswer}
 use Rattle.forms.specs.form.Intervals.{worth, held}
-use Rattle.forms.proofs.Intervals.{triple, worth_fits, IsDenotedInRange, held_parts, worth_misfits, reads_interval, reads_no_shape}
+use Rattle.forms.proofs.Intervals.{sum_of, triple, worth_fits, IsDenotedInRange, held_parts, worth_misfits, reads_interval, reads_no_shape}
 use Rattle.forms.proofs.Lawful.{HasRows}
 
 -- reading in one style and writing in another

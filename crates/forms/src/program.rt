@@ -1,9 +1,10 @@
 //! A run over all lines of a source, and the program.
-ghost use Rattle.std.specs.Prelude.{◌≡◌, ◌≢◌, ◌≤◌, ◌↔◌, ◌⊎◌, ℕ, ◌-◌, ◌/◌, [], ◌<◌, length, IfSome};
+ghost use Rattle.std.specs.Prelude.{◌≡◌, ◌≢◌, ◌≤◌, ◌↔◌, ◌⊎◌, ℕ, List, ◌-◌, ◌/◌, [], ◌<◌, length, IfSome};
 ghost use Rattle.std.specs.Io.KnownBytes.{Appends, IsAtEnd};
 ghost use Rattle.forms.specs.Lines.{lines};
 ghost use Rattle.forms.specs.Outside.{Rose};
-ghost use Rattle.forms.specs.Ends.{GainsReplies, GainsFront, Ended, EndedWith, streams};
+ghost use Rattle.forms.specs.Ends.{GainsFront, Ended, EndedWith, streams};
+ghost use Rattle.forms.specs.Replies.{AreReplies};
 ghost use Rattle.forms.specs.Sample.{AreUnknown, IsSample, SampleEndedWith, told};
 
 use crate::outside::{Sink, Source};

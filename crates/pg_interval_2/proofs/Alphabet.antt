@@ -18,7 +18,8 @@ use Rattle.pg_interval_2.specs.Iso.{unit_in}
 use Rattle.pg_interval_2.proofs.IsoWhole.{either, strict_either}
 use Rattle.pg_interval_2.specs.inside.IsoShapes.{date_unit, time_unit, ArePairs, IsDateAlone, IsDateAndTime, IsIsoEither}
 use Rattle.pg_interval_2.specs.inside.IsoShapes.{IsStrictEither}
-use Rattle.pg_interval_2.specs.Postgres.{IsItem, IsPostgres}
+use Rattle.pg_interval_2.specs.Postgres.{IsItem}
+use Rattle.pg_interval_2.specs.inside.PostgresParts.{IsPostgres}
 use Rattle.pg_interval_2.specs.Sql.{IsSignOr, IsYearMonth, IsDays, IsTime, AreSqlWords, IsSql}
 use Rattle.pg_interval_2.specs.inside.SqlParts.{HasSeconds}
 use Rattle.pg_interval_2.specs.Styles.{Shape}

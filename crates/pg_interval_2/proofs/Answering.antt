@@ -8,7 +8,8 @@ use Rattle.scan_core.proofs.SumFacts.{misfit-none}
 use Rattle.pg_interval_2.specs.declared.interval.Interval.{Interval}
 use Rattle.pg_interval_2.specs.declared.error.ParseError.{ParseError}
 use Rattle.pg_interval_2.specs.declared.error.ParseError.TheVariants.{InvalidInterval, BadUnit, InvalidYearMonth, InvalidDay, InvalidTime}
-use Rattle.pg_interval_2.specs.Denotes.{Denotes, HasNoShape, IsRange, IsRangeOf, Misfits, Refuses, sum_of}
+use Rattle.pg_interval_2.specs.Denotes.{Denotes, HasNoShape, IsRange, IsRangeOf, Misfits, Refuses}
+use Rattle.pg_interval_2.specs.inside.Tallies.{sum_of}
 use Rattle.pg_interval_2.specs.inside.Tallies.{AnswersCounts}
 
 -- a text has one list of counts

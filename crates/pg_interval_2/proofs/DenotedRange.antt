@@ -6,7 +6,8 @@ use Rattle.scan_core.specs.Sums.{fits, part_fits, total}
 use Rattle.scan_core.specs.declared.share.Part.TheVariants.{Months, Days, Micros}
 use Rattle.scan_core.proofs.FitFacts.{within_32, within_64}
 use Rattle.pg_interval_2.specs.declared.interval.Interval.{Interval}
-use Rattle.pg_interval_2.specs.Denotes.{Denotes, sum_of}
+use Rattle.pg_interval_2.specs.Denotes.{Denotes}
+use Rattle.pg_interval_2.specs.inside.Tallies.{sum_of}
 use Rattle.pg_interval_2.specs.Ranges.{IsInRange}
 
 sum_in_range : (counts : List Count) → IsTrue (fits counts) → IsInRange (sum_of counts)

@@ -1,6 +1,6 @@
 -- A text in `postgres` style has one list of counts.
 use Rattle.scan_core.specs.Blanks.{words}
-use Rattle.pg_interval_2.specs.Postgres.{IsPostgres}
+use Rattle.pg_interval_2.specs.inside.PostgresParts.{IsPostgres}
 use Rattle.pg_interval_2.specs.UnitNames.{postgres_names}
 use Rattle.pg_interval_2.specs.declared.unit_names.NameSet.TheVariants.{Postgres}
 use Rattle.pg_interval_2.proofs.Answering.{HasOneList}

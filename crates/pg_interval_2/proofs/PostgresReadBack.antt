@@ -4,7 +4,7 @@ use Rattle.std.proofs.lemmas.Bool.{cond_both}
 use Rattle.scan_core.specs.declared.share.Part.TheVariants.{Months, Days, Micros}
 use Rattle.pg_interval_2.specs.declared.interval.Interval.{Interval}
 use Rattle.pg_interval_2.specs.Denotes.{Denotes}
-use Rattle.pg_interval_2.specs.Postgres.{IsPostgres}
+use Rattle.pg_interval_2.specs.inside.PostgresParts.{IsPostgres}
 use Rattle.pg_interval_2.specs.inside.PostgresSteps.{postgres_steps}
 use Rattle.pg_interval_2.specs.Ranges.{IsInRange}
 use Rattle.scan_core.proofs.Signs.{int_eq-zero, abs_fits}

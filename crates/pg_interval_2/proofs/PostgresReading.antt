@@ -4,7 +4,8 @@ use Rattle.scan_core.specs.Blanks.{words}
 use Rattle.scan_core.specs.Count.{Count}
 use Rattle.pg_interval_2.specs.Denotes.{HasNoShape}
 use Rattle.pg_interval_2.specs.inside.ItemsTally.{HasNoBadName, IsItemsTally, IsMisread}
-use Rattle.pg_interval_2.specs.Postgres.{IsPostgres, IsPostgresBadName}
+use Rattle.pg_interval_2.specs.Postgres.{IsPostgresBadName}
+use Rattle.pg_interval_2.specs.inside.PostgresParts.{IsPostgres}
 use Rattle.pg_interval_2.specs.inside.Tallies.{Tallies}
 use Rattle.pg_interval_2.specs.UnitNames.{postgres_names}
 use Rattle.pg_interval_2.specs.declared.body.Misread.TheVariants.{BadName, NoItems}

@@ -16,7 +16,8 @@ use Rattle.scan_core.specs.Digits.{AreSomeDigits}
 use Rattle.pg_interval_2.specs.inside.ClockSteps.{hours_text, field_text, fraction_text, clock_steps}
 use Rattle.scan_core.specs.Number.{minus}
 use Rattle.pg_interval_2.specs.inside.PartSteps.{years_of, months_of, hours_of, minutes_of, seconds_of, subsecond_of}
-use Rattle.pg_interval_2.specs.Postgres.{IsNamed, IsItem, AreItems, IsPostgres, all_counts}
+use Rattle.pg_interval_2.specs.Postgres.{IsNamed, IsItem, AreItems, all_counts}
+use Rattle.pg_interval_2.specs.inside.PostgresParts.{IsPostgres}
 use Rattle.pg_interval_2.specs.inside.UnitPlaces.{has_distinct_units}
 use Rattle.pg_interval_2.specs.inside.PostgresSteps.{counted_name, number_words, named_words, clock_words, postgres_words, postgres_steps}
 use Rattle.pg_interval_2.specs.UnitNames.{postgres_names}

@@ -6,7 +6,8 @@ use Rattle.scan_core.specs.Count.{Count}
 use Rattle.scan_core.specs.Sums.{fits}
 use Rattle.scan_core.specs.declared.share.Part.TheVariants.{Months, Days, Micros}
 use Rattle.pg_interval_2.specs.declared.interval.Interval.{Interval}
-use Rattle.pg_interval_2.specs.Denotes.{Denotes, sum_of}
+use Rattle.pg_interval_2.specs.Denotes.{Denotes}
+use Rattle.pg_interval_2.specs.inside.Tallies.{sum_of}
 use Rattle.pg_interval_2.specs.Ranges.{IsInRange}
 use Rattle.scan_core.proofs.FitFacts.{fits_32, fits_64}
 use Rattle.pg_interval_2.proofs.AddsUp.{AddsUp, AddsUp-nil, AddsUp-append, AddsUp-same, part_fits-AddsUp}

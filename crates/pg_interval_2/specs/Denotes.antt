@@ -9,18 +9,15 @@ use Rattle.pg_interval_2.specs.declared.error.ParseError.{ParseError}
 use Rattle.pg_interval_2.specs.declared.error.ParseError.TheVariants.{InvalidInterval, BadUnit, InvalidYearMonth, InvalidDay, InvalidTime}
 use Rattle.pg_interval_2.specs.Messages.{year_month_overflow, day_overflow, time_overflow}
 
--- the sums of the shares of all counts
-abbrev pub sum_of : List Count → Interval
-sum_of counts = record {
-  months = total Months counts;
-  days = total Days counts;
-  microseconds = total Micros counts;
-}
-
--- the text spells counts that fit, and the interval is their sum
+-- the text spells counts that fit, and the interval's parts are the sums of their shares
 abbrev pub Denotes : (List ℕ → List Count → Type 0) → List ℕ → Interval → Type 0
 Denotes Shape text t =
-    (counts : List Count) × Shape text counts × IsTrue (fits counts) × (t ≡ sum_of counts)
+    (counts : List Count) × Shape text counts × IsTrue (fits counts)
+    × (t ≡ record {
+      months = total Months counts;
+      days = total Days counts;
+      microseconds = total Micros counts;
+    })
 
 -- the text spells no counts
 abbrev pub HasNoShape : (List ℕ → List Count → Type 0) → List ℕ → Type 0

@@ -37,10 +37,6 @@ AreItems names all counts =
     (items : List (List Count)) × IsJoin (IsItem names) all items × (counts ≡ all_counts items)
     × AllPairs (λ c d. c.unit ≢ d.unit) counts
 
--- the text is in `postgres` style and spells these counts
-abbrev pub IsPostgres : List ℕ → List Count → Type 0
-IsPostgres text counts = AreItems postgres_names (words text) counts
-
 -- the letters are a unit's name that no count before has the unit of
 abbrev pub IsFreshName : (TimeUnit → List (List ℕ)) → List Count → List ℕ → Type 0
 IsFreshName names counts letters =

@@ -1,6 +1,7 @@
 -- The output styles (PostgreSQL's manual, section 8.5.5), and the strict form of the ISO one, this project's own: the shape of what each
 -- reads, its refusals, and the one text that each writes.
 use Rattle.std.specs.Prelude.{◌≡◌, ℕ, List, Result, Ok, Err, IfOk, IfErr, IsErrAnd}
+use Rattle.scan_core.specs.Blanks.{words}
 use Rattle.scan_core.specs.Count.{Count}
 use Rattle.scan_core.specs.declared.share.Part.{Part}
 use Rattle.pg_interval_2.specs.declared.error.ParseError.{ParseError}
@@ -13,17 +14,18 @@ use Rattle.pg_interval_2.specs.Iso.{IsIso, unit_in}
 use Rattle.pg_interval_2.specs.IsoStrict.{IsIsoStrict}
 use Rattle.pg_interval_2.specs.IsoText.{iso_text}
 use Rattle.pg_interval_2.specs.Messages.{not_iso, not_postgres, not_verbose, not_sql, not_iso_strict}
-use Rattle.pg_interval_2.specs.Postgres.{IsPostgres, IsPostgresBadName}
+use Rattle.pg_interval_2.specs.Postgres.{AreItems, IsPostgresBadName}
 use Rattle.pg_interval_2.specs.PostgresText.{postgres_text}
 use Rattle.pg_interval_2.specs.Sql.{IsSql}
 use Rattle.pg_interval_2.specs.SqlText.{sql_text}
 use Rattle.pg_interval_2.specs.Verbose.{IsVerbose, IsVerboseBadName}
+use Rattle.pg_interval_2.specs.UnitNames.{postgres_names}
 use Rattle.pg_interval_2.specs.VerboseText.{verbose_text}
 
 -- the text spells these counts in the style
 abbrev pub Shape : Style → List ℕ → List Count → Type 0
 Shape Iso = IsIso unit_in
-Shape Postgres = IsPostgres
+Shape Postgres = λ text. AreItems postgres_names (words text)
 Shape Verbose = IsVerbose
 Shape Sql = IsSql
 Shape IsoStrict = IsIsoStrict

@@ -13,6 +13,7 @@ pub mod Orders
 pub mod PartSteps
 pub mod PostgresSteps
 pub mod Reading
+pub mod PostgresParts
 pub mod SqlParts
 pub mod VerboseParts
 pub mod TurnedCount

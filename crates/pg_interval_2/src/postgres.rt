@@ -2,7 +2,8 @@
 ghost use Rattle.std.specs.Prelude.{◌≡◌, ◌+◌, ◌*◌, ◌<◌, ◌≤◌, ℕ, IfOk, IfErr, length};
 ghost use Rattle.pg_interval_2.specs.Denotes.{Denotes, Refuses};
 ghost use Rattle.pg_interval_2.specs.Messages.{not_postgres};
-ghost use Rattle.pg_interval_2.specs.Postgres.{IsPostgres, IsPostgresBadName};
+ghost use Rattle.pg_interval_2.specs.Postgres.{IsPostgresBadName};
+ghost use Rattle.pg_interval_2.specs.inside.PostgresParts.{IsPostgres};
 ghost use Rattle.pg_interval_2.specs.declared.style.Style.TheVariants.{Postgres};
 ghost use Rattle.pg_interval_2.specs.Styles.{Answers};
 

@@ -10,8 +10,15 @@ use Rattle.pg_interval_2.specs.declared.interval.Interval.{Interval}
 use Rattle.pg_interval_2.specs.declared.error.ParseError.{ParseError}
 use Rattle.pg_interval_2.specs.declared.error.ParseError.TheVariants.{InvalidInterval, BadUnit, InvalidYearMonth, InvalidDay, InvalidTime}
 use Rattle.pg_interval_2.specs.declared.tally.Tally.{Tally}
-use Rattle.pg_interval_2.specs.Denotes.{sum_of}
 use Rattle.pg_interval_2.specs.Messages.{year_month_overflow, day_overflow, time_overflow}
+
+-- the sums of the shares of all counts
+abbrev pub sum_of : List Count → Interval
+sum_of counts = record {
+  months = total Months counts;
+  days = total Days counts;
+  microseconds = total Micros counts;
+}
 
 -- one part of each share is in the part's type
 abbrev pub each_fits : Part → List Count → Bool

@@ -2,7 +2,8 @@
 use Rattle.std.proofs.Common.{ap, refl}
 use Rattle.scan_core.specs.Scanning.{Place, ahead}
 use Rattle.pg_interval_2.specs.Messages.{not_postgres}
-use Rattle.pg_interval_2.specs.Postgres.{IsPostgres, IsPostgresBadName}
+use Rattle.pg_interval_2.specs.Postgres.{IsPostgresBadName}
+use Rattle.pg_interval_2.specs.inside.PostgresParts.{IsPostgres}
 use Rattle.pg_interval_2.specs.UnitNames.{postgres_names}
 use Rattle.pg_interval_2.proofs.Answering.{answers_err, answers_ok}
 use Rattle.pg_interval_2.proofs.BadNames.{no_shape_at_bad_name}
