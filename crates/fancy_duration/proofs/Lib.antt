@@ -5,6 +5,7 @@ pub mod Units
 pub mod ItemLists
 pub mod Totals
 pub mod Breakdowns
+pub mod WrittenSteps
 pub mod Writers
 pub mod Counts
 pub mod Spaces

@@ -11,7 +11,9 @@ use Rattle.fancy_duration.specs.Parts.{all_parts, weight_of}
 use Rattle.fancy_duration.specs.Times.{nanos_of}
 use Rattle.fancy_duration.specs.Sums.{total}
 use Rattle.fancy_duration.specs.Breakdown.{PartCount, counts_of, breakdown, nanos_in, count_in, count_of}
-use Rattle.fancy_duration.specs.Written.{piece, above_zero, length_text}
+use Rattle.fancy_duration.specs.Written.{length_text}
+use Rattle.fancy_duration.specs.inside.Writing.{piece, above_zero, length_steps}
+use Rattle.fancy_duration.proofs.WrittenSteps.{length_in_steps}
 use Rattle.fancy_duration.specs.inside.Reading.{items_of}
 use Rattle.fancy_duration.specs.Collisions.{MonthsStandAlone, Swaps, Collide}
 use Rattle.fancy_duration.proofs.Breakdowns.{nanos_in-counts_of}
@@ -142,8 +144,8 @@ shared s t hs ht e differ =
 
 -- such lengths have one text
 written_counts : (n : ℕ) → n ≢ 0 → length_text n ≡ join_with_byte 32 (map piece (above_zero (breakdown n)))
-unfolding length_text
-written_counts n h = let e : nat_eq n 0 ≡ false = ne_eqb n 0 h in simp e
+unfolding length_steps
+written_counts n h = let e : nat_eq n 0 ≡ false = ne_eqb n 0 h in rw (length_in_steps n) (simp e)
 
 no_months : count_of Months 0 ≡ 0
 unfolding count_of breakdown

@@ -14,14 +14,15 @@ use Rattle.fancy_duration.specs.Parts.{weight_of, unit_of}
 use Rattle.fancy_duration.specs.Items.{Item, HasItems, begins_by, has_no_item}
 use Rattle.fancy_duration.specs.Sums.{SumsTo, is_long, long_follows, can_be, weight_in, total}
 use Rattle.fancy_duration.specs.Strict.{IsCount, IsStrict}
-use Rattle.fancy_duration.specs.Spelled.{Counted, IsCounted, AreMeant, sum_of, Spells}
+use Rattle.fancy_duration.specs.Spelled.{AreMeant}
+use Rattle.fancy_duration.specs.Spelled.{LengthCount, IsLengthCount, nanos_of_counts, SpellsLength}
 use Rattle.fancy_duration.proofs.Counts.{is_unit-unit_of, begins_letter-blanks, digits_begin}
 use Rattle.fancy_duration.proofs.ItemLists.{add_other}
 use Rattle.fancy_duration.proofs.Totals.{sum_unique}
 
 -- ---- counts are items
 
-abbrev item_of : Counted → Item
+abbrev item_of : LengthCount → Item
 item_of c = record { digits = c.digits; unit = unit_of c.part }
 
 blank_not_digit : (b : ℕ) → is_blank b ≡ true → is_digit b ≡ false
@@ -33,7 +34,7 @@ add_blanks (b ∷ bs) rest items all h =
     let parts = and_parts (is_blank b) (list_all is_blank bs) all in
     add_other b (bs ++ rest) items (blank_not_digit b parts.0) (add_blanks bs rest items parts.1 h)
 
-counted_items : (text : List ℕ) (counts : List Counted) → IsJoin IsCounted text counts
+counted_items : (text : List ℕ) (counts : List LengthCount) → IsJoin IsLengthCount text counts
     → HasItems text (map item_of counts) × (begins_by is_letter text ≡ false)
 counted_items text [] none = (ap has_no_item none, ap (begins_by is_letter) none)
 counted_items text (c ∷ cs) (piece, rest, is, more, split) =
@@ -72,10 +73,10 @@ long_part Milliseconds = refl
 long_part Microseconds = refl
 long_part Nanoseconds = refl
 
-abbrev is_long_behind : List Counted → Bool
+abbrev is_long_behind : List LengthCount → Bool
 is_long_behind later = list_any (λ d. nat_le (weight_of Minutes) (weight_of d.part)) later
 
-long_later : (later : List Counted) → long_follows (map item_of later) ≡ is_long_behind later
+long_later : (later : List LengthCount) → long_follows (map item_of later) ≡ is_long_behind later
 long_later [] = refl
 long_later (c ∷ cs) = rw (long_part c.part, long_later cs) refl
 
@@ -101,7 +102,7 @@ weight_meant Microseconds false h = refl
 weight_meant Nanoseconds true h = refl
 weight_meant Nanoseconds false h = refl
 
-same_sum : (counts : List Counted) → AreMeant counts → total (map item_of counts) ≡ sum_of counts
+same_sum : (counts : List LengthCount) → AreMeant counts → total (map item_of counts) ≡ nanos_of_counts counts
 same_sum [] meant = refl
 same_sum (c ∷ cs) meant =
     let weight : weight_in (unit_of c.part) (long_follows (map item_of cs)) ≡ weight_of c.part =
@@ -110,20 +111,20 @@ same_sum (c ∷ cs) meant =
 
 -- ---- a spelled text is strict, and has this sum
 
-parts_joined : (text : List ℕ) (counts : List Counted) → IsJoin IsCounted text counts → IsJoin IsCount text (map (λ c. c.part) counts)
+parts_joined : (text : List ℕ) (counts : List LengthCount) → IsJoin IsLengthCount text counts → IsJoin IsCount text (map (λ c. c.part) counts)
 parts_joined text [] none = none
 parts_joined text (c ∷ cs) (piece, rest, is, more, split) =
     (piece, rest, record { digits = c.digits; blanks = is.blanks; some_digits = is.some_digits; are_digits = is.are_digits; are_blanks = is.are_blanks; joined = is.joined }, parts_joined rest cs more, split)
 
-some_parts : (counts : List Counted) → 0 < length counts → 0 < length (map (λ c. c.part) counts)
+some_parts : (counts : List LengthCount) → 0 < length counts → 0 < length (map (λ c. c.part) counts)
 some_parts [] some = some
 some_parts (c ∷ cs) some = omega arith
 
-pub spelled_strict : (text : List ℕ) (nanos : ℕ) → Spells text nanos → IsStrict text
+pub spelled_strict : (text : List ℕ) (nanos : ℕ) → SpellsLength text nanos → IsStrict text
 spelled_strict text nanos (inl zero) = inl zero.0
 spelled_strict text nanos (inr (counts, some, join, meant, sum)) = inr (map (λ c. c.part) counts, some_parts counts some, parts_joined text counts join)
 
-pub spelled_sum : (text : List ℕ) (nanos : ℕ) → Spells text nanos → SumsTo text nanos
+pub spelled_sum : (text : List ℕ) (nanos : ℕ) → SpellsLength text nanos → SumsTo text nanos
 spelled_sum text nanos (inl zero) = record { items = []; all = ap has_no_item zero.0; sum = zero.1 }
 spelled_sum text nanos (inr (counts, some, join, meant, sum)) =
     record { items = map item_of counts; all = (counted_items text counts join).0; sum = sum ∙ sym (same_sum counts meant) }
@@ -168,8 +169,8 @@ right_meant Nanoseconds long = refl
 
 -- counts of the same pieces, each with the part that its unit means
 pub record HasCounts (text : List ℕ) (parts : List DurationPart) : Type 0 where
-  pub counts : List Counted
-  pub join : IsJoin IsCounted text counts
+  pub counts : List LengthCount
+  pub join : IsJoin IsLengthCount text counts
   pub meant : AreMeant counts
   pub same : length counts ≡ length parts
 
@@ -178,8 +179,8 @@ counts_meant text [] none = record { counts = []; join = none; meant = tt; same 
 counts_meant text (part ∷ parts) (piece, rest, is, more, split) =
     let below = counts_meant rest parts more in
     let long : Bool = is_long_behind below.counts in
-    let c : Counted = record { digits = is.digits; part = right_part part long } in
-    let first : IsCounted piece c = record {
+    let c : LengthCount = record { digits = is.digits; part = right_part part long } in
+    let first : IsLengthCount piece c = record {
       blanks = is.blanks;
       some_digits = is.some_digits;
       are_digits = is.are_digits;
@@ -188,14 +189,14 @@ counts_meant text (part ∷ parts) (piece, rest, is, more, split) =
     } in
     record { counts = c ∷ below.counts; join = (piece, rest, first, below.join, split); meant = (right_meant part long, below.meant); same = ap suc below.same }
 
-spelled_some : (text : List ℕ) → IsStrict text → (nanos : ℕ) × Spells text nanos
+spelled_some : (text : List ℕ) → IsStrict text → (nanos : ℕ) × SpellsLength text nanos
 spelled_some text (inl zero) = (0, inl (zero, refl))
 spelled_some text (inr (parts, some, join)) =
     let has = counts_meant text parts join in
-    (sum_of has.counts, inr (has.counts, subst (λ (n : ℕ). 0 < n) (sym has.same) some, has.join, has.meant, refl))
+    (nanos_of_counts has.counts, inr (has.counts, subst (λ (n : ℕ). 0 < n) (sym has.same) some, has.join, has.meant, refl))
 
-pub strict_spelled : (text : List ℕ) (nanos : ℕ) → IsStrict text → SumsTo text nanos → Spells text nanos
+pub strict_spelled : (text : List ℕ) (nanos : ℕ) → IsStrict text → SumsTo text nanos → SpellsLength text nanos
 strict_spelled text nanos strict sums =
     let spelled = spelled_some text strict in
     let same : spelled.0 ≡ nanos = sum_unique text spelled.0 (spelled_sum text spelled.0 spelled.1) ∙ sym (sum_unique text nanos sums) in
-    subst (λ (n : ℕ). Spells text n) same spelled.1
+    subst (λ (n : ℕ). SpellsLength text n) same spelled.1

@@ -7,7 +7,9 @@ use Rattle.std.proofs.lemmas.Fmt.{decimal_is_IsNumeral}
 use Rattle.scan_core.specs.Join.{IsJoin}
 use Rattle.fancy_duration.specs.Parts.{unit_of}
 use Rattle.fancy_duration.specs.Breakdown.{PartCount, breakdown, nanos_in}
-use Rattle.fancy_duration.specs.Written.{piece, above_zero, length_text}
+use Rattle.fancy_duration.specs.Written.{length_text}
+use Rattle.fancy_duration.specs.inside.Writing.{piece, above_zero, length_steps}
+use Rattle.fancy_duration.proofs.WrittenSteps.{length_in_steps}
 use Rattle.fancy_duration.specs.Strict.{IsCount, IsStrict}
 use Rattle.fancy_duration.specs.inside.Writing.{counts_fit}
 use Rattle.fancy_duration.proofs.Texts.{above_fits}
@@ -53,10 +55,10 @@ some_parts : (counts : List PartCount) → (counts ≡ [] → ⊥) → 0 < lengt
 some_parts [] some = absurd (some refl)
 some_parts (c ∷ counts) some = omega arith
 
-pub written_strict : (nanos : ℕ) → nanos < 2 ^ 64 * 1_000_000_000 → IsStrict (length_text nanos)
-unfolding length_text
-written_strict nanos small =
-    elim (nat_eq nanos 0) as (λ t. nat_eq nanos 0 ≡ t → IsStrict (length_text nanos)) [
+steps_strict : (nanos : ℕ) → nanos < 2 ^ 64 * 1_000_000_000 → IsStrict (length_steps nanos)
+unfolding length_steps
+steps_strict nanos small =
+    elim (nat_eq nanos 0) as (λ t. nat_eq nanos 0 ≡ t → IsStrict (length_steps nanos)) [
       | true ↦ λ e. simp e (inl refl)
       | false ↦ λ e. simp e (inr (
         map (λ c. c.part) counts,
@@ -67,3 +69,6 @@ written_strict nanos small =
   where
     counts : List PartCount
     counts = above_zero (breakdown nanos)
+
+pub written_strict : (nanos : ℕ) → nanos < 2 ^ 64 * 1_000_000_000 → IsStrict (length_text nanos)
+written_strict nanos small = rw (length_in_steps nanos) (steps_strict nanos small)

@@ -8,7 +8,9 @@ use Rattle.fancy_duration.specs.Parts.{all_parts, unit_of}
 use Rattle.fancy_duration.specs.Items.{Item, HasItems, IsFirstItem, begins_by}
 use Rattle.fancy_duration.specs.Sums.{is_long, long_follows, weight_in, total}
 use Rattle.fancy_duration.specs.Breakdown.{PartCount, counts_of, breakdown}
-use Rattle.fancy_duration.specs.Written.{piece, above_zero, length_text}
+use Rattle.fancy_duration.specs.Written.{length_text}
+use Rattle.fancy_duration.specs.inside.Writing.{piece, above_zero, length_steps}
+use Rattle.fancy_duration.proofs.WrittenSteps.{length_in_steps}
 use Rattle.fancy_duration.specs.inside.Writing.{counts_fit}
 use Rattle.fancy_duration.proofs.ItemLists.{add_other}
 use Rattle.fancy_duration.proofs.Counts.{is_unit-unit_of}
@@ -53,14 +55,18 @@ above_fits (c ∷ counts) fits =
     ] refl
 
 -- the items of the text are the counts above 0
-pub written_items : (nanos : ℕ) → counts_fit (breakdown nanos) ≡ true
-    → HasItems (length_text nanos) (map item_of (above_zero (breakdown nanos)))
-unfolding length_text breakdown
-written_items nanos fits =
-    elim (nat_eq nanos 0) as (λ t. nat_eq nanos 0 ≡ t → HasItems (length_text nanos) (map item_of (above_zero (breakdown nanos)))) [
+steps_items : (nanos : ℕ) → counts_fit (breakdown nanos) ≡ true
+    → HasItems (length_steps nanos) (map item_of (above_zero (breakdown nanos)))
+unfolding length_steps breakdown
+steps_items nanos fits =
+    elim (nat_eq nanos 0) as (λ t. nat_eq nanos 0 ≡ t → HasItems (length_steps nanos) (map item_of (above_zero (breakdown nanos)))) [
       | true ↦ λ e. let z : nanos ≡ 0 = eqb-true nanos 0 e in rw z (refl {a = true})
       | false ↦ λ e. simp e (items_joined (above_zero (counts_of all_parts nanos)) (above_fits (counts_of all_parts nanos) fits))
     ] refl
+
+pub written_items : (nanos : ℕ) → counts_fit (breakdown nanos) ≡ true
+    → HasItems (length_text nanos) (map item_of (above_zero (breakdown nanos)))
+written_items nanos fits = rw (length_in_steps nanos) (steps_items nanos fits)
 
 -- the sum goes by the counts, those of 0 too
 abbrev pub items_in : List PartCount → List Item

@@ -8,7 +8,9 @@ use Rattle.fancy_duration.specs.declared.part.DurationPart.{DurationPart}
 use Rattle.fancy_duration.specs.declared.part.DurationPart.TheVariants.{Years, Months, Weeks, Days, Hours, Minutes, Seconds, Milliseconds, Microseconds, Nanoseconds}
 use Rattle.fancy_duration.specs.Parts.{all_parts, weight_of, unit_of}
 use Rattle.fancy_duration.specs.Breakdown.{PartCount, counts_of, breakdown}
-use Rattle.fancy_duration.specs.Written.{piece, above_zero, length_text}
+use Rattle.fancy_duration.specs.Written.{length_text}
+use Rattle.fancy_duration.specs.inside.Writing.{piece, above_zero, length_steps}
+use Rattle.fancy_duration.proofs.WrittenSteps.{length_in_steps}
 use Rattle.fancy_duration.specs.inside.Writing.{spaced, with_count, with_counts, with_parts, counts_fit, HasRoom}
 
 -- one step of the loop
@@ -134,11 +136,11 @@ with_counts_none (c ∷ counts) =
 
 pub with_parts-zero : (out : List ℕ) (nanos : ℕ) → nanos ≡ 0
     → with_parts [] all_parts nanos ++ codes "0" ≡ length_text nanos
-unfolding with_parts with_count length_text breakdown
-with_parts-zero out nanos e = rw e
+unfolding with_parts with_count length_steps breakdown
+with_parts-zero out nanos e = rw (length_in_steps nanos, e)
 
 pub with_parts-written : (nanos : ℕ) → nanos ≢ 0 → with_parts [] all_parts nanos ≡ length_text nanos
-unfolding with_parts length_text breakdown
+unfolding with_parts length_steps breakdown
 with_parts-written nanos h =
     let e : nat_eq nanos 0 ≡ false = ne_eqb nanos 0 h in
-    simp e (with_counts_none (counts_of all_parts nanos))
+    rw (length_in_steps nanos) (simp e (with_counts_none (counts_of all_parts nanos)))

@@ -11,12 +11,12 @@ use Rattle.fancy_duration.specs.Parts.{weight_of, unit_of}
 use Rattle.fancy_duration.specs.Sums.{can_be}
 
 -- digits, and the part that they count
-pub record Counted : Type 0 where
+pub record LengthCount : Type 0 where
   pub digits : List ℕ
   pub part : DurationPart
 
 -- one digit or more, the part's unit and the blanks behind it
-pub record IsCounted (piece : List ℕ) (c : Counted) : Type 0 where
+pub record IsLengthCount (piece : List ℕ) (c : LengthCount) : Type 0 where
   pub blanks : List ℕ
   pub some_digits : 0 < length c.digits
   pub are_digits : AreDigits c.digits
@@ -24,20 +24,20 @@ pub record IsCounted (piece : List ℕ) (c : Counted) : Type 0 where
   pub joined : piece ≡ c.digits ++ (unit_of c.part ++ blanks)
 
 -- a unit `m` is months where a count of minutes or of a longer part follows later, and minutes elsewhere
-abbrev pub AreMeant : List Counted → Type 0
+abbrev pub AreMeant : List LengthCount → Type 0
 AreMeant [] = ⊤
 AreMeant (c ∷ later) =
     IsTrue (can_be c.part (list_any (λ d. nat_le (weight_of Minutes) (weight_of d.part)) later))
     × AreMeant later
 
 -- the nanoseconds of all counts
-abbrev pub sum_of : List Counted → ℕ
-sum_of [] = 0
-sum_of (c ∷ later) = number_of c.digits * weight_of c.part + sum_of later
+abbrev pub nanos_of_counts : List LengthCount → ℕ
+nanos_of_counts [] = 0
+nanos_of_counts (c ∷ later) = number_of c.digits * weight_of c.part + nanos_of_counts later
 
 -- the text is `0`, or counts in a row, and spells this many nanoseconds
-abbrev pub Spells : List ℕ → ℕ → Type 0
-Spells text nanos =
+abbrev pub SpellsLength : List ℕ → ℕ → Type 0
+SpellsLength text nanos =
     ((text ≡ codes "0") × (nanos ≡ 0))
-    ⊎ ((counts : List Counted) × (0 < length counts) × IsJoin IsCounted text counts
-    × AreMeant counts × (nanos ≡ sum_of counts))
+    ⊎ ((counts : List LengthCount) × (0 < length counts) × IsJoin IsLengthCount text counts
+    × AreMeant counts × (nanos ≡ nanos_of_counts counts))

@@ -1,24 +1,22 @@
 -- The written text of a length, as the crate `fancy-duration` prints it.
-use Rattle.std.specs.Prelude.{ℕ, not, ◌==◌, nat_lt, List, ◌++◌, map, filter, codes, decimal, if◌then◌else◌}
+use Rattle.std.specs.Prelude.{ℕ, ◌/◌, ◌%◌, not, ◌==◌, List, [], ◌∷◌, ◌++◌, filter, codes, decimal, if◌then◌else◌}
 use Rattle.std.specs.List.{join_with_byte}
-use Rattle.fancy_duration.specs.Parts.{unit_of}
-use Rattle.fancy_duration.specs.Breakdown.{PartCount, breakdown}
+use Rattle.fancy_duration.specs.Parts.{all_parts, unit_of, weight_of}
+use Rattle.fancy_duration.specs.declared.part.DurationPart.{DurationPart}
 
--- a count and its unit
-abbrev pub piece : PartCount → List ℕ
-piece c = decimal c.count ++ unit_of c.part
+-- the counts of parts in the nanoseconds that are left, each with its unit, or nothing where it is 0: a count is the quotient of what
+-- is left before it
+abbrev pub length_words : List DurationPart → ℕ → List (List ℕ)
+length_words [] left = []
+length_words (part ∷ parts) left =
+    (if left / weight_of part == 0 then []
+    else ((decimal (left / weight_of part) ++ unit_of part) ∷ []))
+    ++ length_words parts (left % weight_of part)
 
--- the counts above 0
-abbrev pub above_zero : List PartCount → List PartCount
-above_zero counts = filter (λ c. nat_lt 0 c.count) counts
-
--- `0` for no length, and else the counts above 0 with their units, from the greatest part on, one
--- space between
+-- `0` for no length, and else its counts from the greatest part on, one space between
 unfoldable pub length_text : ℕ → List ℕ
 length_text nanos =
-    if nanos == 0
-    then codes "0"
-    else join_with_byte 32 (map piece (above_zero (breakdown nanos)))
+    if nanos == 0 then codes "0" else join_with_byte 32 (length_words all_parts nanos)
 
 -- the same without spaces
 abbrev pub compact_text : ℕ → List ℕ

@@ -13,7 +13,7 @@ ghost use Rattle.fancy_duration.specs.Meanings.{Denotes};
 ghost use Rattle.fancy_duration.specs.Breakdown.{kept_length, front_length};
 ghost use Rattle.fancy_duration.specs.Written.{length_text};
 ghost use Rattle.fancy_duration.specs.Strict.{IsStrict};
-ghost use Rattle.fancy_duration.specs.Spelled.{Spells};
+ghost use Rattle.fancy_duration.specs.Spelled.{SpellsLength};
 ghost use Rattle.fancy_duration.specs.Collisions.{MonthsStandAlone, Collide};
 ghost use Rattle.fancy_duration.specs.Durations.{duration_times};
 
@@ -88,5 +88,5 @@ pub fn truncating_twice_is_truncating_once()
 /// What a strict text spells is the sum of its items: of a text of nothing but counts the original's rule, by which all else is
 /// passed over, and this grammar say the same.
 pub fn strict_texts_spell_their_sums()
-    ensures { (text : List ℕ) (nanos : ℕ) → Spells text nanos ↔ IsStrict text × SumsTo text nanos }
+    ensures { (text : List ℕ) (nanos : ℕ) → SpellsLength text nanos ↔ IsStrict text × SumsTo text nanos }
 {}

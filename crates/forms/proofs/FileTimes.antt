@@ -17,7 +17,8 @@ use Rattle.forms.specs.declared.value.Value.{Value}
 use Rattle.forms.specs.declared.value.Value.TheVariants.{Instant}
 use Rattle.forms.specs.Answers.{Is, ReadsBy}
 use Rattle.forms.specs.Values.{IsWithinBounds}
-use Rattle.forms.specs.form.FileTime.{Spells, worth, ticks_after, held}
+use Rattle.forms.specs.form.FileTime.{worth, ticks_after, held}
+use Rattle.nt_time.specs.Text.{IsTextOf}
 use Rattle.forms.specs.inside.Lawful.{Lawful}
 use Rattle.forms.proofs.Fitting.{less, no_more}
 use Rattle.forms.proofs.Lawful.{then_ok, else_ok, same_ok, one_image, IsHeldBack, lawful_by}
@@ -33,11 +34,11 @@ unfolding worth
 worth_beyond ticks h = rw (le-ltb ticks (2 ^ 64) h) refl
 
 pub reads_ticks : (text : List ℕ) (ticks : ℕ) → IsTextOf text ticks → ticks < 2 ^ 64
-    → ReadsBy Spells (Is worth) text (Ok (Instant (unix_nanos ticks)))
+    → ReadsBy IsTextOf (Is worth) text (Ok (Instant (unix_nanos ticks)))
 reads_ticks text ticks spelled fits = inl (ticks, spelled, sym (worth_within ticks fits))
 
 pub reads_beyond : (text : List ℕ) (cause : ParseFileTimeCause) → IsReadFrom text (Err cause) → cause ≡ TooGreat
-    → ReadsBy Spells (Is worth) text (Err Range)
+    → ReadsBy IsTextOf (Is worth) text (Err Range)
 reads_beyond text cause from is = let h = from.overflow.0 (ap Err is) in inl (h.0, h.1, sym (worth_beyond h.0 h.2))
 
 empty_spells : (n : ℕ) → IsTextOf [] n → ⊥
@@ -51,7 +52,7 @@ reads_none text cause from (inr is) n spelled = (from.invalid.0 (ap Err is)).1 n
 
 -- what the reader of file times refuses
 pub reads_syntax : (text : List ℕ) (cause : ParseFileTimeCause) → IsReadFrom text (Err cause)
-    → (cause ≡ Empty) ⊎ (cause ≡ InvalidDigit) → ReadsBy Spells (Is worth) text (Err Syntax)
+    → (cause ≡ Empty) ⊎ (cause ≡ InvalidDigit) → ReadsBy IsTextOf (Is worth) text (Err Syntax)
 reads_syntax text cause from is = inr (reads_none text cause from is, refl)
 
 -- ---- the count at an instant
@@ -115,7 +116,7 @@ beyond nanos Overflow from = let h = from.overflow.0 refl in beyond_last (nanos 
 
 -- ---- the laws
 
-within : (text : List ℕ) (ticks : ℕ) (value : Value) → Spells text ticks → worth ticks ≡ Ok value → IsWithinBounds value
+within : (text : List ℕ) (ticks : ℕ) (value : Value) → IsTextOf text ticks → worth ticks ≡ Ok value → IsWithinBounds value
 unfolding worth
 within text ticks value spelled h =
     let parts = then_ok (nat_lt ticks (2 ^ 64)) (Ok (Instant (unix_nanos ticks))) value Range h in
@@ -135,7 +136,7 @@ ticks_held (pos n) ticks h =
     (ap pos whole, omega arith)
 
 held_back : ((ticks : ℕ) → IsFileTime ticks → IsTextOf (decimal ticks) ticks) → (value : Value) (ticks : ℕ)
-    → IsWithinBounds value → held value ≡ Ok ticks → IsHeldBack Spells (Is worth) (Is held) (decimal ticks) value ticks
+    → IsWithinBounds value → held value ≡ Ok ticks → IsHeldBack IsTextOf (Is worth) (Is held) (decimal ticks) value ticks
 held_back digits (Instant nanos) ticks w h =
     let count = ticks_held (nanos -ℤ unix_nanos 0) ticks h in
     let same : unix_nanos ticks ≡ nanos = let e = count.0 in omega (arith, ints) in
@@ -145,5 +146,5 @@ held_back digits _ ticks w h = absurd (let e : Err Kind ≡ Ok ticks = h in cc)
 pub file_times : ((text : List ℕ) (m n : ℕ) → IsTextOf text m → IsTextOf text n → m ≡ n)
     → ((ticks : ℕ) → IsFileTime ticks → IsTextOf (decimal ticks) ticks) → Lawful FileTime
 file_times one digits =
-    lawful_by FileTime Spells (Is worth) (Is held) decimal (record { reads = λ text a h. h; read = λ text a h. h; writes = λ value a h. h; written = λ value a h. h })
+    lawful_by FileTime IsTextOf (Is worth) (Is held) decimal (record { reads = λ text a h. h; read = λ text a h. h; writes = λ value a h. h; written = λ value a h. h })
     (record { one = one; one_worth = one_image worth; one_held = one_image held; within = λ text ticks value spelled h. within text ticks value spelled (sym h); back = λ value ticks w h. held_back digits value ticks w (sym h) })

@@ -23,12 +23,20 @@ use Rattle.forms.specs.declared.value.Value.{Value}
 use Rattle.forms.specs.declared.value.Value.TheVariants.{Triple, Length}
 use Rattle.forms.specs.Answers.{Is, ReadsBy}
 use Rattle.forms.specs.Values.{IsWithinBounds, Same, IsLength}
-use Rattle.forms.specs.form.Intervals.{worth, interval_of, length_in_days, interval_of_length, held}
+use Rattle.forms.specs.form.Intervals.{worth, interval_of, interval_of_length, held}
 use Rattle.forms.specs.inside.Lawful.{Lawful}
 use Rattle.forms.specs.inside.Readers.{IsRefusedBy}
 use Rattle.scan_core.proofs.FitFacts.{within_32, within_64, fits_32, fits_64}
 use Rattle.forms.proofs.Fitting.{widen}
 use Rattle.forms.proofs.Lawful.{then_ok, same_ok, one_image, IsHeldBack, HasRows, lawful_by}
+
+-- a length in whole days of 86_400 seconds and the microseconds beyond them
+abbrev pub length_in_days : ℕ → Interval
+length_in_days nanos = record {
+  months = pos 0;
+  days = pos (nanos / 86_400_000_000_000);
+  microseconds = pos (nanos % 86_400_000_000_000 / 1000);
+}
 
 -- the sums of the shares of all counts
 abbrev pub sum_of : List Count → Interval

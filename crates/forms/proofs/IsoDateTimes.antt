@@ -30,7 +30,9 @@ use Rattle.forms.specs.declared.value.Value.{Value}
 use Rattle.forms.specs.declared.value.Value.TheVariants.{Instant, Day, Local, Clock, Triple, Length}
 use Rattle.forms.specs.Values.{IsWithinBounds}
 use Rattle.forms.specs.inside.CivilDates.{date_of}
-use Rattle.forms.specs.form.IsoDateTime.{Spells, clock_of, instant_of, IsReal, Worth, IsAt, Holds}
+use Rattle.forms.specs.form.IsoDateTime.{instant_of, IsReal, Worth, IsAt, Holds}
+use Rattle.forms.specs.inside.IsoParts.{clock_of}
+use Rattle.iso8601.specs.DateTimes.{IsDateTime}
 use Rattle.forms.specs.inside.CivilMoments.{utc, in_millis, HoldsCivil}
 use Rattle.forms.specs.inside.Lawful.{Lawful}
 use Rattle.forms.proofs.IsoDates.{AreCalendarDates, date_in_range, is_civil_day, civil_bounds}
@@ -285,11 +287,11 @@ utc_value laws c whole =
     let times : clock_of (utc c).time ≡ time_nanos c.time = clock_same c.time.hour c.time.minute c.time.second (c.time.subsec_nanosecond / 1_000_000) c.time.subsec_nanosecond millis in
     omega (arith, ints)
 
-held_back : AreCalendarDates → ((t : DateTime) → IsDateTimeInRange t → IsDateTime (date_time_text t) t) → (value : Value) (t : DateTime) → IsWithinBounds value → Holds value (Ok t) → IsHeldBack Spells Worth Holds (date_time_text t) value t
+held_back : AreCalendarDates → ((t : DateTime) → IsDateTimeInRange t → IsDateTime (date_time_text t) t) → (value : Value) (t : DateTime) → IsWithinBounds value → Holds value (Ok t) → IsHeldBack IsDateTime Worth Holds (date_time_text t) value t
 held_back laws spelled (Instant nanos) t w (inl (u, part, at, is)) =
     let h = to_civil laws nanos (Ok t) u part at is in
     let found = in_millis_held h.0 t (sym h.2) in
-    let P : DateTime → Type 0 = λ x. IsHeldBack Spells Worth Holds (date_time_text x) (Instant nanos) x in
+    let P : DateTime → Type 0 = λ x. IsHeldBack IsDateTime Worth Holds (date_time_text x) (Instant nanos) x in
     let whole : P (utc h.0) = record {
       meaning = utc h.0;
       back = Instant nanos;
@@ -317,7 +319,7 @@ real_within laws t real day = instant_within (day_of t.date) (offset_of t.time) 
 
 pub iso_date_times : ((text : List ℕ) (a b : DateTime) → IsDateTime text a → IsDateTime text b → a ≡ b) → ((t : DateTime) → IsDateTimeInRange t → IsDateTime (date_time_text t) t) → AreCalendarDates → Lawful IsoDateTime
 iso_date_times one spelled laws =
-    lawful_by IsoDateTime Spells Worth Holds date_time_text (record { reads = λ text a h. h; read = λ text a h. h; writes = λ value a h. h; written = λ value a h. h })
+    lawful_by IsoDateTime IsDateTime Worth Holds date_time_text (record { reads = λ text a h. h; read = λ text a h. h; writes = λ value a h. h; written = λ value a h. h })
     (record {
       one = one;
       one_worth = λ t a b h k. one_judged (IsReal t) (IsCivilDay (day_of t.date)) (Instant (instant_of t)) a b h k;

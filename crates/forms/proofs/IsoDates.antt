@@ -17,7 +17,8 @@ use Rattle.forms.specs.declared.form.Form.TheVariants.{IsoDate}
 use Rattle.forms.specs.declared.value.Value.{Value}
 use Rattle.forms.specs.declared.value.Value.TheVariants.{Day}
 use Rattle.forms.specs.Values.{IsWithinBounds}
-use Rattle.forms.specs.form.IsoDate.{Spells, Worth, Holds}
+use Rattle.forms.specs.form.IsoDate.{Worth, Holds}
+use Rattle.iso8601.specs.Dates.{IsDate}
 use Rattle.forms.specs.inside.CivilDates.{date_of}
 use Rattle.forms.specs.inside.Lawful.{Lawful}
 use Rattle.forms.proofs.Judging.{one_judged, judged_within}
@@ -83,11 +84,11 @@ one_held laws (Day day) a b h k =
     c.is ∙ (ap Ok same ∙ sym d.is)
 one_held laws _ a b h k = h ∙ sym k
 
-held_back : AreCalendarDates → ((date : Date) → IsDateInRange date → IsDate (date_text date) date) → (value : Value) (date : Date) → IsWithinBounds value → Holds value (Ok date) → IsHeldBack Spells Worth Holds (date_text date) value date
+held_back : AreCalendarDates → ((date : Date) → IsDateInRange date → IsDate (date_text date) date) → (value : Value) (date : Date) → IsWithinBounds value → Holds value (Ok date) → IsHeldBack IsDate Worth Holds (date_text date) value date
 held_back laws spelled (Day day) date w h =
     let c = civil_held laws day (Ok date) h in
     let is : date ≡ date_of c.civil = same_ok date (date_of c.civil) c.is in
-    let P : Date → Type 0 = λ d. IsHeldBack Spells Worth Holds (date_text d) (Day day) d in
+    let P : Date → Type 0 = λ d. IsHeldBack IsDate Worth Holds (date_text d) (Day day) d in
     let same : day_of (date_of c.civil) ≡ day = laws.day c.civil ∙ c.same in
     let whole : P (date_of c.civil) = record {
       meaning = date_of c.civil;
@@ -102,7 +103,7 @@ held_back laws spelled _ date w h = absurd (let e : Ok date ≡ Err Kind = h in 
 
 pub iso_dates : ((text : List ℕ) (a b : Date) → IsDate text a → IsDate text b → a ≡ b) → ((date : Date) → IsDateInRange date → IsDate (date_text date) date) → AreCalendarDates → Lawful IsoDate
 iso_dates one spelled laws =
-    lawful_by IsoDate Spells Worth Holds date_text (record { reads = λ text a h. h; read = λ text a h. h; writes = λ value a h. h; written = λ value a h. h })
+    lawful_by IsoDate IsDate Worth Holds date_text (record { reads = λ text a h. h; read = λ text a h. h; writes = λ value a h. h; written = λ value a h. h })
     (record {
       one = one;
       one_worth = λ date a b h k. one_judged (Exists date) (IsCivilDay (day_of date)) (Day (day_of date)) a b h k;

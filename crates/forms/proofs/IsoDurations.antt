@@ -4,18 +4,20 @@ use Rattle.std.specs.Prelude.{pos, negsuc, ◌+ℤ◌, ◌*ℤ◌, nat_lt}
 use Rattle.std.proofs.lemmas.Bool.{and_parts, false_from_ne_true, ltb-true, lt-ltb, le-ltb}
 use Rattle.std.proofs.lemmas.Bool.Decides.{nat_tests}
 use Rattle.std.proofs.lemmas.Int.{ints}
-use Rattle.iso8601.specs.Durations.{IsCount, IsBody, IsDuration}
+use Rattle.iso8601.specs.Durations.{IsCount, IsCounted, IsDated, IsDuration}
 use Rattle.iso8601.specs.Fields.{IsOrZero}
 use Rattle.iso8601.specs.Ranges.{IsDurationInRange}
 use Rattle.iso8601.specs.WrittenDurations.{duration_text}
 use Rattle.iso8601.specs.declared.types.Duration.{Duration}
+use Rattle.iso8601.specs.declared.types.Duration.TheVariants.{YMDHMS, Weeks}
 use Rattle.forms.specs.declared.cause.Cause.TheVariants.{Range, Kind, Precision}
 use Rattle.forms.specs.declared.form.Form.TheVariants.{IsoDuration}
 use Rattle.forms.specs.declared.value.Value.{Value}
 use Rattle.forms.specs.declared.value.Value.TheVariants.{Triple, Length}
 use Rattle.forms.specs.Answers.{Is}
 use Rattle.forms.specs.Values.{IsWithinBounds, Same}
-use Rattle.forms.specs.form.IsoDuration.{Spells, micros_of, triple_of, worth, duration_of, counts_of, held_length, held}
+use Rattle.forms.specs.form.IsoDuration.{triple_of, worth, duration_of, counts_of, held_length, held}
+use Rattle.forms.specs.inside.IsoParts.{micros_of}
 use Rattle.forms.specs.inside.Lawful.{Lawful}
 use Rattle.forms.proofs.Lawful.{then_ok, same_ok, one_image, IsHeldBack, lawful_by}
 
@@ -43,6 +45,11 @@ triple_within months days micros m d value h =
 count_small : (unit text : List ℕ) (n : ℕ) → IsOrZero (IsCount unit) text n → n < 2 ^ 32
 count_small unit text n (inl h) = let zero = h.1 in omega arith
 count_small unit text n (inr h) = h.number.fits
+
+-- what stands behind the `P`
+abbrev pub IsBody : List ℕ → Duration → Type 0
+IsBody body duration =
+    ((week : ℕ) × IsCount (codes "W") body week × (duration ≡ Weeks week)) ⊎ (IsCounted body duration ⊎ IsDated body duration)
 
 body_small : (body : List ℕ) (d : Duration) → IsBody body d → (value : Value) → worth d ≡ Ok value
     → IsWithinBounds value
@@ -149,7 +156,7 @@ abbrev pub AreSpelled : Type 0
 AreSpelled = (d : Duration) → IsDurationInRange d → IsDuration (duration_text d) d
 
 abbrev pub IsBack : Value → Duration → Type 0
-IsBack value d = IsHeldBack Spells (Is worth) (Is held) (duration_text d) value d
+IsBack value d = IsHeldBack IsDuration (Is worth) (Is held) (duration_text d) value d
 
 back_of : AreSpelled → (value : Value) (months days micros : ℕ) (d : Duration) → micros < 2 ^ 63
     → AreHeld months days micros d → Same value (Triple (pos months) (pos days) (pos micros)) → IsBack value d
@@ -211,7 +218,7 @@ held_back spelled _ d w h = absurd (let e : Err Kind ≡ Ok d = h in cc)
 pub iso_durations : ((text : List ℕ) (a b : Duration) → IsDuration text a → IsDuration text b → a ≡ b) → AreSpelled
     → Lawful IsoDuration
 iso_durations one spelled =
-    lawful_by IsoDuration Spells (Is worth) (Is held) duration_text (record { reads = λ text a h. h; read = λ text a h. h; writes = λ value a h. h; written = λ value a h. h })
+    lawful_by IsoDuration IsDuration (Is worth) (Is held) duration_text (record { reads = λ text a h. h; read = λ text a h. h; writes = λ value a h. h; written = λ value a h. h })
     (record {
       one = one;
       one_worth = one_image worth;

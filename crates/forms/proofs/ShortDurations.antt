@@ -1,11 +1,12 @@
 -- Short durations as a form: what a length is worth, which lengths are held, and that they are read back.
-use Rattle.std.proofs.Common.{◌≡◌, ℕ, ◌*◌, ◌^◌, ◌<◌, ◌≤◌, ◌==◌, ◌&&◌, Bool, true, false, List, Result, Ok, Err, refl, sym, ◌∙◌, ap, subst, inl, inr, arith}
-use Rattle.std.specs.Prelude.{ℤ, pos, negsuc, ◌<ℤ◌, nat_lt, IsErrOf, ◌↔◌}
+use Rattle.std.proofs.Common.{◌≡◌, ℕ, ◌*◌, ◌%◌, ◌^◌, ◌<◌, ◌≤◌, ◌==◌, ◌&&◌, Bool, true, false, List, Result, Ok, Err, refl, sym, ◌∙◌, ap, subst, inl, inr, arith}
+use Rattle.std.specs.Prelude.{ℤ, pos, negsuc, ◌<ℤ◌, nat_le, nat_lt, IsErrOf, ◌↔◌}
 use Rattle.std.specs.Ordering.{int_eq}
-use Rattle.std.proofs.lemmas.Bool.{and_parts, false_from_ne_true, ltb-true, lt-ltb, le-ltb}
+use Rattle.std.proofs.lemmas.Bool.{and_from, and_parts, false_from_ne_true, leb-true, le-leb, ltb-true, lt-ltb, le-ltb}
 use Rattle.std.proofs.lemmas.Bool.Decides.{nat_tests}
 use Rattle.std.proofs.lemmas.Int.{ints}
-use Rattle.fancy_duration.specs.Breakdown.{count_of}
+use Rattle.fancy_duration.specs.Breakdown.{breakdown, count_of}
+use Rattle.fancy_duration.specs.Parts.{weight_of}
 use Rattle.fancy_duration.specs.Collisions.{MonthsStandAlone}
 use Rattle.fancy_duration.specs.Meanings.{Denotes, IsTooBig}
 use Rattle.fancy_duration.specs.Strict.{IsStrict}
@@ -14,15 +15,16 @@ use Rattle.fancy_duration.specs.Times.{nanos_of, times_of}
 use Rattle.fancy_duration.specs.Written.{length_text}
 use Rattle.fancy_duration.specs.declared.error.FancyError.{FancyError}
 use Rattle.fancy_duration.specs.declared.error.FancyError.TheVariants.{TooBig, NotHeld}
-use Rattle.fancy_duration.specs.declared.part.DurationPart.TheVariants.{Months, Weeks, Days, Hours, Minutes}
+use Rattle.fancy_duration.specs.declared.part.DurationPart.TheVariants.{Years, Months, Minutes}
 use Rattle.forms.specs.declared.cause.Cause.TheVariants.{Syntax, Range, Kind, Ambiguous}
 use Rattle.forms.specs.declared.form.Form.TheVariants.{Fancy}
 use Rattle.forms.specs.declared.value.Value.{Value}
 use Rattle.forms.specs.declared.value.Value.TheVariants.{Triple, Length}
 use Rattle.forms.specs.Answers.{Is, ReadsBy}
 use Rattle.forms.specs.Values.{IsWithinBounds, Same, nanos_of as triple_nanos}
-use Rattle.fancy_duration.specs.Spelled.{Spells}
-use Rattle.forms.specs.form.Fancy.{worth, has_months_alone, length_of, length_of_triple, held}
+use Rattle.fancy_duration.specs.Spelled.{SpellsLength}
+use Rattle.forms.specs.form.Fancy.{worth, has_months_alone, length_of, held}
+use Rattle.forms.specs.inside.FancyParts.{length_of_triple}
 use Rattle.forms.specs.inside.Lawful.{Lawful}
 use Rattle.forms.proofs.Lawful.{then_ok, else_ok, same_ok, one_image, IsHeldBack, lawful_by}
 
@@ -30,9 +32,9 @@ use Rattle.forms.proofs.Lawful.{then_ok, else_ok, same_ok, one_image, IsHeldBack
 
 -- what the law of the crate below says of strict texts
 abbrev pub AreSums : Type 0
-AreSums = (text : List ℕ) (nanos : ℕ) → Spells text nanos ↔ IsStrict text × SumsTo text nanos
+AreSums = (text : List ℕ) (nanos : ℕ) → SpellsLength text nanos ↔ IsStrict text × SumsTo text nanos
 
-pub reads_none : AreSums → (text : List ℕ) → (IsStrict text → ⊥) → ReadsBy Spells (Is worth) text (Err Syntax)
+pub reads_none : AreSums → (text : List ℕ) → (IsStrict text → ⊥) → ReadsBy SpellsLength (Is worth) text (Err Syntax)
 reads_none sums text none = inr ((λ nanos spelled. none ((sums text nanos).0 spelled).0), refl)
 
 worth_within : (nanos : ℕ) → nanos < 2 ^ 64 * 1_000_000_000 → worth nanos ≡ Ok (Length nanos)
@@ -44,14 +46,14 @@ unfolding worth
 worth_beyond nanos h = rw (le-ltb nanos (2 ^ 64 * 1_000_000_000) h) refl
 
 pub reads_length : AreSums → (text : List ℕ) (times : ℕ × ℕ) → IsStrict text → Denotes text times → (given : ℕ)
-    → given ≡ nanos_of times → ReadsBy Spells (Is worth) text (Ok (Length given))
+    → given ≡ nanos_of times → ReadsBy SpellsLength (Is worth) text (Ok (Length given))
 reads_length sums text times strict h given e =
     let seconds = h.seconds in
     let rest = h.nanoseconds in
     let fits : nanos_of times < 2 ^ 64 * 1_000_000_000 = omega arith in
     inl (nanos_of times, (sums text (nanos_of times)).1 (strict, h.sums), ap (λ (n : ℕ). Ok (Length n)) e ∙ sym (worth_within (nanos_of times) fits))
 
-pub reads_too_big : AreSums → (text : List ℕ) → IsStrict text → IsTooBig text → ReadsBy Spells (Is worth) text (Err Range)
+pub reads_too_big : AreSums → (text : List ℕ) → IsStrict text → IsTooBig text → ReadsBy SpellsLength (Is worth) text (Err Range)
 reads_too_big sums text strict h =
     let beyond = h.beyond in
     let fits : 2 ^ 64 * 1_000_000_000 ≤ h.nanos = omega arith in
@@ -59,27 +61,25 @@ reads_too_big sums text strict h =
 
 -- ---- the length of a value
 
-all_five : (a b c d e : Bool) → (a && (b && (c && (d && e)))) ≡ true
-    → (a ≡ true) × ((b ≡ true) × ((c ≡ true) × ((d ≡ true) × (e ≡ true))))
-all_five a b c d e h =
-    let one = and_parts a (b && (c && (d && e))) h in
-    let two = and_parts b (c && (d && e)) one.1 in
-    let three = and_parts c (d && e) two.1 in
-    let four = and_parts d e three.1 in
-    (one.0, (two.0, (three.0, (four.0, four.1))))
-
-is_zero : (n : ℕ) → (n == 0) ≡ true → n ≡ 0
-is_zero n h = grind (arith, nat_tests)
-
 pub months_alone : (nanos : ℕ) → has_months_alone nanos ≡ true → MonthsStandAlone nanos
-unfolding has_months_alone
+unfolding has_months_alone breakdown count_of
 months_alone nanos h =
-    let parts = all_five (nat_lt 0 (count_of Months nanos)) (count_of Weeks nanos == 0) (count_of Days nanos == 0) (count_of Hours nanos == 0) (count_of Minutes nanos == 0) h in
-    record { months = ltb-true _ _ parts.0; weeks = is_zero _ parts.1.0; days = is_zero _ parts.1.1.0; hours = is_zero _ parts.1.1.1.0; minutes = is_zero _ parts.1.1.1.1 }
+    let parts = and_parts (nat_le (weight_of Months) (nanos % weight_of Years)) (nat_lt (nanos % weight_of Years % weight_of Months) (weight_of Minutes)) h in
+    let some : weight_of Months ≤ nanos % weight_of Years = leb-true _ _ parts.0 in
+    let short : nanos % weight_of Years % weight_of Months < weight_of Minutes = ltb-true _ _ parts.1 in
+    record {
+      months = omega (arith, some);
+      weeks = omega (arith, short);
+      days = omega (arith, short);
+      hours = omega (arith, short);
+      minutes = omega (arith, short);
+    }
 
 pub alone_tested : (nanos : ℕ) → MonthsStandAlone nanos → has_months_alone nanos ≡ true
-unfolding has_months_alone
-alone_tested nanos h = rw (lt-ltb 0 _ h.months, h.weeks, h.days, h.hours, h.minutes) refl
+unfolding has_months_alone breakdown count_of
+alone_tested nanos h =
+    and_from _ _ (le-leb (weight_of Months) (nanos % weight_of Years) (omega (arith, h.months)))
+    (lt-ltb (nanos % weight_of Years % weight_of Months) (weight_of Minutes) (omega (arith, h.weeks, h.days, h.hours, h.minutes)))
 
 pub negative : (z : ℤ) → z <ℤ pos 0 → length_of z ≡ Err Range
 unfolding length_of
@@ -107,7 +107,7 @@ ambiguous nanos fits h = rw (lt-ltb nanos (2 ^ 64 * 1_000_000_000) fits, alone_f
 
 -- ---- the laws
 
-within : (text : List ℕ) (nanos : ℕ) (value : Value) → Spells text nanos → worth nanos ≡ Ok value → IsWithinBounds value
+within : (text : List ℕ) (nanos : ℕ) (value : Value) → SpellsLength text nanos → worth nanos ≡ Ok value → IsWithinBounds value
 unfolding worth
 within text nanos value spelled h =
     let parts = then_ok (nat_lt nanos (2 ^ 64 * 1_000_000_000)) (Ok (Length nanos)) value Range h in
@@ -147,7 +147,7 @@ sums_back back nanos fits clear =
     subst (λ (n : ℕ). SumsTo (length_text n) n) same denoted.sums
 
 held_by : AreSums → AreStrict → AreReadBack → (value : Value) (z : ℤ) (nanos : ℕ) → length_of z ≡ Ok nanos
-    → Same value (Length nanos) → IsHeldBack Spells (Is worth) (Is held) (length_text nanos) value nanos
+    → Same value (Length nanos) → IsHeldBack SpellsLength (Is worth) (Is held) (length_text nanos) value nanos
 held_by sums strict back value z nanos h same =
     let found = length_held z nanos h in
     record {
@@ -164,22 +164,19 @@ is_int a b h = grind (arith, nat_tests)
 
 pub without_months : (months days micros : ℤ) → months ≡ pos 0
     → length_of_triple months days micros ≡ length_of (triple_nanos days micros)
-unfolding length_of_triple
 without_months months days micros none = rw none refl
 
 pub with_months : (months days micros : ℤ) → (months ≡ pos 0 → ⊥) → length_of_triple months days micros ≡ Err Kind
-unfolding length_of_triple
 with_months months days micros some = rw (false_from_ne_true (int_eq months (pos 0)) (λ h. some (is_int months (pos 0) h))) refl
 
 triple_held : (months days micros : ℤ) (nanos : ℕ) → length_of_triple months days micros ≡ Ok nanos
     → (months ≡ pos 0) × (length_of (triple_nanos days micros) ≡ Ok nanos)
-unfolding length_of_triple
 triple_held months days micros nanos h =
     let first = then_ok (int_eq months (pos 0)) (length_of (triple_nanos days micros)) nanos Kind h in
     (is_int months (pos 0) first.0, first.1)
 
 held_back : AreSums → AreStrict → AreReadBack → (value : Value) (nanos : ℕ) → IsWithinBounds value → held value ≡ Ok nanos
-    → IsHeldBack Spells (Is worth) (Is held) (length_text nanos) value nanos
+    → IsHeldBack SpellsLength (Is worth) (Is held) (length_text nanos) value nanos
 held_back sums strict back (Length n) nanos w h =
     let found = length_held (pos n) nanos h in
     let same : n ≡ nanos = let e = found.is in omega (arith, ints) in
@@ -193,7 +190,7 @@ held_back sums strict back _ nanos w h = absurd (let e : Err Kind ≡ Ok nanos =
 pub short_durations : ((text : List ℕ) (a b : ℕ) → SumsTo text a → SumsTo text b → a ≡ b) → AreSums → AreStrict → AreReadBack
     → Lawful Fancy
 short_durations one sums strict back =
-    lawful_by Fancy Spells (Is worth) (Is held) length_text (record { reads = λ text a h. h; read = λ text a h. h; writes = λ value a h. h; written = λ value a h. h })
+    lawful_by Fancy SpellsLength (Is worth) (Is held) length_text (record { reads = λ text a h. h; read = λ text a h. h; writes = λ value a h. h; written = λ value a h. h })
     (record {
       one = λ text a b h k. one text a b ((sums text a).0 h).1 ((sums text b).0 k).1;
       one_worth = one_image worth;
@@ -207,6 +204,6 @@ failed error = Err error
 
 -- what the reader of short durations refuses of a strict text
 pub refused : AreSums → (text : List ℕ) (error : FancyError) → IsStrict text → (IsErrOf (failed error) TooBig → IsTooBig text)
-    → (failed error ≡ Err NotHeld → ⊥) → ReadsBy Spells (Is worth) text (Err Range)
+    → (failed error ≡ Err NotHeld → ⊥) → ReadsBy SpellsLength (Is worth) text (Err Range)
 refused sums text TooBig strict big held = reads_too_big sums text strict (big refl)
 refused sums text NotHeld strict big held = absurd (held refl)

@@ -27,7 +27,9 @@ use Rattle.forms.specs.declared.value.Value.{Value}
 use Rattle.forms.specs.declared.value.Value.TheVariants.{Instant, Day, Local, Clock, Triple, Length}
 use Rattle.forms.specs.Answers.{Is, result_map}
 use Rattle.forms.specs.Values.{IsWithinBounds, IsOfDay, Same}
-use Rattle.forms.specs.form.Toml.{Spells, day_of, clock_of, clock, minutes_of, moment_of, dated_worth, worth_of, worth, fraction_of, time_of, HoldsDay, HoldsDated, Holds}
+use Rattle.forms.specs.form.Toml.{clock, minutes_of, moment_of, dated_worth, worth_of, fraction_of, time_of, HoldsDay, HoldsDated, Holds}
+use Rattle.forms.specs.inside.TomlParts.{day_of, clock_of, worth}
+use Rattle.port_toml_datetime.specs.Datetimes.{IsDatetime}
 use Rattle.forms.specs.inside.Lawful.{Lawful}
 use Rattle.forms.proofs.Lawful.{else_ok, same_ok, map_ok, one_image, IsHeldBack, lawful_by}
 
@@ -227,7 +229,7 @@ real_held day date (inl h) = let same : h.0 ≡ date = sym (same_ok date h.0 h.3
 real_held day date (inr h) = absurd (let e : Ok date ≡ Err Range = h.1 in cc)
 
 abbrev pub IsBack : Value → Datetime → Type 0
-IsBack value d = IsHeldBack Spells (Is worth) Holds (text_of d) value d
+IsBack value d = IsHeldBack IsDatetime (Is worth) Holds (text_of d) value d
 
 abbrev pub AreReadBack : Type 0
 AreReadBack = (value : Datetime) → IsWellFormed value → IsDatetime (text_of value) value
@@ -271,7 +273,7 @@ held_back back _ d w h = absurd (let e : Ok d ≡ Err Kind = h in cc)
 
 pub toml_date_times : SameDays → ((text : List ℕ) (a b : Datetime) → IsDatetime text a → IsDatetime text b → a ≡ b) → ((text : List ℕ) (value : Datetime) → IsDatetime text value → IsWellFormed value) → AreReadBack → Lawful Toml
 toml_date_times days one formed back =
-    lawful_by Toml Spells (Is worth) Holds text_of (record { reads = λ text a h. h; read = λ text a h. h; writes = λ value a h. h; written = λ value a h. h })
+    lawful_by Toml IsDatetime (Is worth) Holds text_of (record { reads = λ text a h. h; read = λ text a h. h; writes = λ value a h. h; written = λ value a h. h })
     (record {
       one = one;
       one_worth = one_image worth;

@@ -1,8 +1,14 @@
 -- The forms, a row each: what reading a text answers, and what writing a value does.
 use Rattle.std.specs.Prelude.{ℕ, List, decimal, Result}
+use Rattle.fancy_duration.specs.Spelled.{SpellsLength}
 use Rattle.fancy_duration.specs.Written.{length_text}
+use Rattle.iso8601.specs.Dates.{IsDate}
+use Rattle.iso8601.specs.DateTimes.{IsDateTime}
+use Rattle.iso8601.specs.Durations.{IsDuration}
 use Rattle.iso8601.specs.Written.{date_text, date_time_text}
 use Rattle.iso8601.specs.WrittenDurations.{duration_text}
+use Rattle.nt_time.specs.Text.{IsTextOf}
+use Rattle.port_toml_datetime.specs.Datetimes.{IsDatetime}
 use Rattle.port_toml_datetime.specs.Texts.{text_of}
 use Rattle.pg_interval_2.specs.Styles.{Shape, style_text}
 use Rattle.pg_interval_2.specs.declared.style.Style.TheVariants as style
@@ -16,18 +22,17 @@ use Rattle.forms.specs.form.IsoDateTime as iso_date_time
 use Rattle.forms.specs.form.IsoDate as iso_date
 use Rattle.forms.specs.form.IsoDuration as iso_duration
 use Rattle.forms.specs.form.Toml as toml
-use Rattle.fancy_duration.specs.Spelled as fancy_text
 use Rattle.forms.specs.form.Fancy as fancy
 use Rattle.forms.specs.form.Intervals as interval
 
 -- what a text stands for in the form: a value, or the cause why it is none
 abbrev pub Reads : Form → List ℕ → Result Value Cause → Type 0
-Reads FileTime = ReadsBy file_time.Spells (Is file_time.worth)
-Reads IsoDateTime = ReadsBy iso_date_time.Spells iso_date_time.Worth
-Reads IsoDate = ReadsBy iso_date.Spells iso_date.Worth
-Reads IsoDuration = ReadsBy iso_duration.Spells (Is iso_duration.worth)
-Reads Toml = ReadsBy toml.Spells (Is toml.worth)
-Reads Fancy = ReadsBy fancy_text.Spells (Is fancy.worth)
+Reads FileTime = ReadsBy IsTextOf (Is file_time.worth)
+Reads IsoDateTime = ReadsBy IsDateTime iso_date_time.Worth
+Reads IsoDate = ReadsBy IsDate iso_date.Worth
+Reads IsoDuration = ReadsBy IsDuration (Is iso_duration.worth)
+Reads Toml = ReadsBy IsDatetime (Is (λ d. toml.worth_of d.date d.time d.offset))
+Reads Fancy = ReadsBy SpellsLength (Is fancy.worth)
 Reads PgIso = ReadsBy (Shape style.Iso) (Is interval.worth)
 Reads Postgres = ReadsBy (Shape style.Postgres) (Is interval.worth)
 Reads PgVerbose = ReadsBy (Shape style.Verbose) (Is interval.worth)

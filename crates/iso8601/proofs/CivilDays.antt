@@ -7,7 +7,8 @@ use Rattle.jiff_core.specs.Date.{epoch_day, ordinal, IsYmd}
 use Rattle.jiff_core.specs.declared.civil.date.Date.{Date as CivilDate}
 use Rattle.jiff_core.proofs.CalendarLemmas.{days_from_civil-day_count, day_count-next_year, days_of_months_more, days_of_months_mono, days_of_months_all}
 use Rattle.jiff_core.proofs.DateLemmas.{civil, epoch_day-ordinal, days_from_civil-min}
-use Rattle.iso8601.specs.Calendar.{days_of_months, days_in_year, new_year, day_of, Exists, IsCivilDay}
+use Rattle.iso8601.specs.Calendar.{days_of_months, new_year, day_of, Exists, IsCivilDay}
+use Rattle.iso8601.specs.Calendar.{days_in_year}
 use Rattle.scan_core.specs.Calendar.{days_in_month}
 use Rattle.iso8601.specs.declared.types.Date.TheVariants.{YMD, Ordinal}
 use Rattle.iso8601.proofs.Years.{new_year-next, new_year-later}

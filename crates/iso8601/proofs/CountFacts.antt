@@ -6,8 +6,10 @@ use Rattle.std.proofs.lemmas.Option.{cond_some, option_and_then_some, some_pair_
 use Rattle.scan_core.specs.Digits.{AreDigits, number_of}
 use Rattle.iso8601.specs.Fields.{IsOrZero}
 use Rattle.iso8601.specs.Prefixes.{Begins}
-use Rattle.iso8601.specs.Times.{IsPoint, IsFraction}
-use Rattle.iso8601.specs.Durations.{IsNumber, IsCount, IsDecimal, IsSeconds, IsClock, IsPerhapsClock}
+use Rattle.iso8601.specs.Times.{IsFraction}
+use Rattle.iso8601.specs.inside.GrammarParts.{IsPoint}
+use Rattle.iso8601.specs.Durations.{IsNumber, IsCount, IsDecimal, IsClock}
+use Rattle.iso8601.specs.inside.GrammarParts.{IsSeconds, IsPerhapsClock}
 use Rattle.iso8601.specs.inside.Reading.{number_in, read_mark}
 use Rattle.scan_core.specs.Fronts.{front_digits, after_digits}
 use Rattle.iso8601.specs.inside.TimeReading.{millis_of, read_both}

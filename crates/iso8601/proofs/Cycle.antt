@@ -4,7 +4,8 @@ use Rattle.std.specs.Prelude.{◌↔◌, neg_ℤ, unsigned_abs, ◌+ℤ◌, ◌-
 use Rattle.std.specs.Int.{int_rem_euclid}
 use Rattle.std.proofs.lemmas.Int.{ints}
 use Rattle.jiff_core.specs.Calendar.{IsBetween}
-use Rattle.iso8601.specs.Calendar.{days_in_year, new_year, week_one, day_of, Exists, IsCivilDay}
+use Rattle.iso8601.specs.Calendar.{new_year, week_one, day_of, Exists, IsCivilDay}
+use Rattle.iso8601.specs.Calendar.{days_in_year}
 use Rattle.scan_core.specs.Calendar.{days_in_month}
 use Rattle.iso8601.specs.inside.Cycles.{IsCycled}
 use Rattle.iso8601.specs.declared.types.Date.TheVariants.{YMD, Week, Ordinal}

@@ -8,7 +8,8 @@ use Rattle.std.specs.Prelude.{option_and_then}
 use Rattle.iso8601.specs.declared.types.Date.{Date}
 use Rattle.iso8601.specs.declared.types.Date.TheVariants.{YMD}
 use Rattle.scan_core.specs.Fields.{IsField}
-use Rattle.iso8601.specs.Dates.{IsMonthDay, IsWeekDay, IsOrdinalDay, IsDayOf}
+use Rattle.iso8601.specs.Dates.{IsMonthDay, IsWeekDay}
+use Rattle.iso8601.specs.inside.GrammarParts.{IsOrdinalDay, IsDayOf}
 use Rattle.iso8601.specs.inside.Reading.{is_field, read_field, read_marked, or_else, read_month_day, read_week_day, read_ordinal_day, read_day}
 use Rattle.iso8601.proofs.Longest.{Sound, Reach, Exact, NoShorter, reach_from_exact, either_sound, either_reach}
 use Rattle.scan_core.specs.Fronts.{NoDigitFirst}

@@ -8,8 +8,9 @@ use Rattle.iso8601.specs.declared.types.Duration.{Duration}
 use Rattle.scan_core.specs.Digits.{AreDigits, number_of}
 use Rattle.scan_core.proofs.DigitFacts.{digits-append, number_of-lt}
 use Rattle.scan_core.specs.Fields.{IsField}
-use Rattle.iso8601.specs.Fields.{IsPerhaps}
-use Rattle.iso8601.specs.Durations.{IsPerhapsClock, IsNumber, IsCounted, IsWeeks, IsDated, IsBody, IsDuration}
+use Rattle.iso8601.specs.inside.GrammarParts.{IsPerhaps}
+use Rattle.iso8601.specs.Durations.{IsNumber, IsCounted, IsDated, IsDuration}
+use Rattle.iso8601.specs.inside.GrammarParts.{IsPerhapsClock, IsWeeks, IsBody}
 use Rattle.iso8601.specs.inside.Reading.{or_else}
 use Rattle.iso8601.specs.inside.TimeReading.{read_both, read_time}
 use Rattle.iso8601.specs.inside.DurationReading.{Peeked, peek, read_count, read_perhaps, read_clock, read_counts, duration_of, read_counted, read_weeks, read_dated, dated_of, read_body, read_duration}

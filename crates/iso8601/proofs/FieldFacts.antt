@@ -11,7 +11,8 @@ use Rattle.scan_core.specs.Fronts.{NoDigitFirst}
 use Rattle.scan_core.specs.Number.{IsSign}
 use Rattle.scan_core.proofs.DigitFacts.{digits_from_all, all_from_digits}
 use Rattle.scan_core.specs.Fields.{IsField}
-use Rattle.iso8601.specs.Fields.{IsPerhaps, IsMarked, IsYear}
+use Rattle.iso8601.specs.Fields.{IsMarked, IsYear}
+use Rattle.iso8601.specs.inside.GrammarParts.{IsPerhaps}
 use Rattle.iso8601.specs.inside.Reading.{is_field, read_field, read_year, read_sign, after_mark, read_marked, read_mark}
 use Rattle.iso8601.proofs.Longest.{Sound, Exact}
 

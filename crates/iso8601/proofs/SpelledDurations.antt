@@ -6,7 +6,8 @@ use Rattle.std.proofs.lemmas.Fmt.{decimal_nonempty}
 use Rattle.scan_core.specs.Padded.{padded_digits}
 use Rattle.scan_core.proofs.DigitFacts.{digits_decimal, number_of-decimal}
 use Rattle.iso8601.specs.Fields.{IsOrZero}
-use Rattle.iso8601.specs.Durations.{IsNumber, IsCount, IsSeconds, IsPerhapsClock, IsCounted, IsDuration}
+use Rattle.iso8601.specs.Durations.{IsNumber, IsCount, IsCounted, IsDuration}
+use Rattle.iso8601.specs.inside.GrammarParts.{IsSeconds, IsPerhapsClock}
 use Rattle.iso8601.specs.Ranges.{IsDurationInRange}
 use Rattle.iso8601.specs.WrittenDurations.{are_zero, count_text, second_text, clock_counts_text, date_counts_text, duration_text}
 use Rattle.iso8601.specs.declared.types.Duration.{Duration}

@@ -9,7 +9,8 @@ use Rattle.scan_core.proofs.DigitFacts.{test_from_digit}
 use Rattle.scan_core.proofs.FrontFacts.{front_of, after_of, front_are_digits, front_and_after}
 use Rattle.iso8601.specs.Fields.{IsOrZero}
 use Rattle.iso8601.specs.Prefixes.{Begins}
-use Rattle.iso8601.specs.Times.{IsPoint, IsLater, IsFraction, IsSignedOffset, IsOffset}
+use Rattle.iso8601.specs.Times.{IsFraction, IsSignedOffset, IsOffset}
+use Rattle.iso8601.specs.inside.GrammarParts.{IsPoint, IsLater}
 use Rattle.iso8601.specs.inside.Reading.{read_field, read_marked}
 use Rattle.scan_core.specs.Fronts.{front_digits, after_digits, NoDigitFirst}
 use Rattle.iso8601.specs.inside.TimeReading.{read_later, millis_of, read_fraction, no_offset, with_minutes, read_signed, read_offset}

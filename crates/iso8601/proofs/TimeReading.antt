@@ -4,7 +4,8 @@ use Rattle.std.proofs.lemmas.Option.{option_and_then_some, some_pair_parts}
 use Rattle.iso8601.specs.declared.types.Time.{Time}
 use Rattle.scan_core.specs.Fields.{IsField}
 use Rattle.iso8601.specs.Fields.{IsOrZero}
-use Rattle.iso8601.specs.Times.{IsLater, IsFraction, IsOffset, IsTime}
+use Rattle.iso8601.specs.Times.{IsFraction, IsOffset, IsTime}
+use Rattle.iso8601.specs.inside.GrammarParts.{IsLater}
 use Rattle.iso8601.specs.inside.TimeReading.{read_later, read_fraction, read_offset, read_both, read_tail, time_of, read_time}
 use Rattle.iso8601.proofs.Longest.{Sound, Reach}
 use Rattle.iso8601.proofs.FieldFacts.{joins, joins_three, field_exact, field_sound, marked_exact, marked_sound}

@@ -5,7 +5,8 @@ use Rattle.std.specs.Prelude.{unsigned_abs, ◌+ℤ◌, ◌-ℤ◌, ◌*ℤ◌, 
 use Rattle.std.specs.Int.{int_div_euclid, int_rem_euclid}
 use Rattle.std.proofs.lemmas.Int.{ints}
 use Rattle.std.proofs.lemmas.Bool.Decides.{nat_tests}
-use Rattle.iso8601.specs.Calendar.{days_in_year, leap_years, new_year, after_monday, week_one}
+use Rattle.iso8601.specs.Calendar.{leap_years, new_year, after_monday, week_one}
+use Rattle.iso8601.specs.Calendar.{days_in_year}
 use Rattle.iso8601.specs.inside.Cycles.{is_multiple}
 use Rattle.scan_core.specs.Calendar.{is_leap_year}
 

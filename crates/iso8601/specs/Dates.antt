@@ -1,7 +1,7 @@
 -- Dates: a year, perhaps a hyphen, and a day of the year by month, by week or by number. No kind goes before another.
-use Rattle.std.specs.Prelude.{◌≡◌, ℕ, ℤ, ◌⊎◌, List, ◌++◌, codes}
+use Rattle.std.specs.Prelude.{◌≡◌, ℕ, ℤ, ◌⊎◌, List, [], ◌++◌, codes}
 use Rattle.scan_core.specs.Fields.{IsField}
-use Rattle.iso8601.specs.Fields.{IsPerhaps, IsMarked, IsYear}
+use Rattle.iso8601.specs.Fields.{IsMarked, IsYear}
 use Rattle.iso8601.specs.declared.types.Date.{Date}
 use Rattle.iso8601.specs.declared.types.Date.TheVariants.{YMD, Week, Ordinal}
 
@@ -27,22 +27,15 @@ pub record IsWeekDay (year : ℤ) (text : List ℕ) (date : Date) : Type 0 where
   pub joined : text ≡ codes "W" ++ (week_text ++ day_text)
   pub value : date ≡ Week year week day
 
--- three digits of a day
-abbrev pub IsOrdinalDay : ℤ → List ℕ → Date → Type 0
-IsOrdinalDay year text date = (day : ℕ) × IsField 3 1 366 text day × (date ≡ Ordinal year day)
-
--- a day of any of the three kinds
-abbrev pub IsDayOf : ℤ → List ℕ → Date → Type 0
-IsDayOf year text date =
-    IsMonthDay year text date ⊎ (IsWeekDay year text date ⊎ IsOrdinalDay year text date)
-
--- the text is a date
+-- the text is a date: its day is by month, by week, or three digits of its number in the year
 pub record IsDate (text : List ℕ) (date : Date) : Type 0 where
   pub year_text : List ℕ
   pub hyphen : List ℕ
   pub day_text : List ℕ
   pub year : ℤ
   pub years : IsYear year_text year
-  pub mark : IsPerhaps (codes "-") hyphen
-  pub days : IsDayOf year day_text date
+  pub mark : (hyphen ≡ []) ⊎ (hyphen ≡ codes "-")
+  pub days : IsMonthDay year day_text date
+      ⊎ (IsWeekDay year day_text date
+      ⊎ ((day : ℕ) × IsField 3 1 366 day_text day × (date ≡ Ordinal year day)))
   pub joined : text ≡ year_text ++ (hyphen ++ day_text)

@@ -29,11 +29,6 @@ pub record IsDecimal (text : List ℕ) (value : ℕ × ℕ) : Type 0 where
   pub millis : IsFraction fraction value.1
   pub joined : text ≡ digits ++ (fraction ++ codes "S")
 
--- seconds and milliseconds
-abbrev pub IsSeconds : List ℕ → ℕ × ℕ → Type 0
-IsSeconds text value =
-    (IsOrZero (IsCount (codes "S")) text value.0 × (value.1 ≡ 0)) ⊎ IsDecimal text value
-
 -- `T`, and perhaps hours, minutes and seconds
 pub record IsClock (text : List ℕ) (value : ℕ × (ℕ × (ℕ × ℕ))) : Type 0 where
   pub hour_text : List ℕ
@@ -41,12 +36,9 @@ pub record IsClock (text : List ℕ) (value : ℕ × (ℕ × (ℕ × ℕ))) : Ty
   pub second_text : List ℕ
   pub hours : IsOrZero (IsCount (codes "H")) hour_text value.0
   pub minutes : IsOrZero (IsCount (codes "M")) minute_text value.1.0
-  pub seconds : IsSeconds second_text value.1.1
+  pub seconds : (IsOrZero (IsCount (codes "S")) second_text value.1.1.0 × (value.1.1.1 ≡ 0))
+      ⊎ IsDecimal second_text value.1.1
   pub joined : text ≡ codes "T" ++ (hour_text ++ (minute_text ++ second_text))
-
--- the same, or nothing, which means zeros
-abbrev pub IsPerhapsClock : List ℕ → ℕ × (ℕ × (ℕ × ℕ)) → Type 0
-IsPerhapsClock text value = ((text ≡ []) × (value ≡ (0, (0, (0, 0))))) ⊎ IsClock text value
 
 -- counts, at least one or the `T`
 pub record IsCounted (text : List ℕ) (duration : Duration) : Type 0 where
@@ -61,14 +53,10 @@ pub record IsCounted (text : List ℕ) (duration : Duration) : Type 0 where
   pub years : IsOrZero (IsCount (codes "Y")) year_text year
   pub months : IsOrZero (IsCount (codes "M")) month_text month
   pub days : IsOrZero (IsCount (codes "D")) day_text day
-  pub clocks : IsPerhapsClock clock_text clock
+  pub clocks : ((clock_text ≡ []) × (clock ≡ (0, (0, (0, 0))))) ⊎ IsClock clock_text clock
   pub some : text ≢ []
   pub joined : text ≡ year_text ++ (month_text ++ (day_text ++ clock_text))
   pub value : duration ≡ YMDHMS year month day clock.0 clock.1.0 clock.1.1.0 clock.1.1.1
-
--- weeks alone
-abbrev pub IsWeeks : List ℕ → Duration → Type 0
-IsWeeks text duration = (week : ℕ) × IsCount (codes "W") text week × (duration ≡ Weeks week)
 
 -- four digits, perhaps a hyphen, two digits of months, perhaps a hyphen, two digits of days, `T` and a time, whose offset is dropped
 pub record IsDated (text : List ℕ) (duration : Duration) : Type 0 where
@@ -87,10 +75,10 @@ pub record IsDated (text : List ℕ) (duration : Duration) : Type 0 where
   pub joined : text ≡ year_text ++ (month_text ++ (day_text ++ (codes "T" ++ time_text)))
   pub value : duration ≡ YMDHMS year month day time.hour time.minute time.second time.millisecond
 
--- what stands behind the `P`: weeks, counts, or a date and a time
-abbrev pub IsBody : List ℕ → Duration → Type 0
-IsBody body duration = IsWeeks body duration ⊎ (IsCounted body duration ⊎ IsDated body duration)
-
--- the text is a duration
+-- the text is a duration: `P`, and weeks alone, counts, or a date and a time
 abbrev pub IsDuration : List ℕ → Duration → Type 0
-IsDuration text duration = (body : List ℕ) × IsBody body duration × (text ≡ codes "P" ++ body)
+IsDuration text duration =
+    (body : List ℕ)
+    × (((week : ℕ) × IsCount (codes "W") body week × (duration ≡ Weeks week))
+    ⊎ (IsCounted body duration ⊎ IsDated body duration))
+    × (text ≡ codes "P" ++ body)

@@ -4,15 +4,11 @@ use Rattle.scan_core.specs.Fields.{IsField}
 use Rattle.scan_core.specs.Number.{IsSign}
 use Rattle.scan_core.specs.Shares.{signed}
 
--- the mark, or nothing
-abbrev pub IsPerhaps : List ℕ → List ℕ → Type 0
-IsPerhaps mark text = (text ≡ []) ⊎ (text ≡ mark)
-
 -- perhaps the mark, and a field
 pub record IsMarked (mark : List ℕ) (count lo hi : ℕ) (text : List ℕ) (value : ℕ) : Type 0 where
   pub front : List ℕ
   pub digits : List ℕ
-  pub perhaps : IsPerhaps mark front
+  pub perhaps : (front ≡ []) ⊎ (front ≡ mark)
   pub field : IsField count lo hi digits value
   pub joined : text ≡ front ++ digits
 

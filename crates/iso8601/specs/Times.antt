@@ -7,19 +7,11 @@ use Rattle.scan_core.specs.Number.{sign_text}
 use Rattle.iso8601.specs.Fields.{IsMarked, IsOrZero}
 use Rattle.iso8601.specs.declared.types.Time.{Time}
 
--- perhaps a colon, and two digits of a number up to hi
-abbrev pub IsLater : ℕ → List ℕ → ℕ → Type 0
-IsLater hi = IsMarked (codes ":") 2 0 hi
-
--- a point or a comma
-abbrev pub IsPoint : List ℕ → Type 0
-IsPoint text = (text ≡ codes ".") ⊎ (text ≡ codes ",")
-
--- a point and digits, of which three count; filled with zeros on the right they are milliseconds
+-- a point or a comma, and digits, of which three count; filled with zeros on the right they are milliseconds
 pub record IsFraction (text : List ℕ) (millis : ℕ) : Type 0 where
   pub point : List ℕ
   pub digits : List ℕ
-  pub mark : IsPoint point
+  pub mark : (point ≡ codes ".") ⊎ (point ≡ codes ",")
   pub all_digits : AreDigits digits
   pub joined : text ≡ point ++ digits
   pub value : millis ≡ number_of (take 3 (digits ++ codes "000"))
@@ -32,7 +24,7 @@ pub record IsSignedOffset (text : List ℕ) (offset : ℤ × ℤ) : Type 0 where
   pub hour : ℕ
   pub minute : ℕ
   pub hours : IsField 2 0 24 hour_text hour
-  pub minutes : IsOrZero (IsLater 59) minute_text minute
+  pub minutes : IsOrZero (IsMarked (codes ":") 2 0 59) minute_text minute
   pub joined : text ≡ sign_text negative ++ (hour_text ++ minute_text)
   pub value : offset ≡ (signed negative hour, signed negative minute)
 
@@ -50,8 +42,8 @@ pub record IsTime (text : List ℕ) (time : Time) : Type 0 where
   pub fraction : List ℕ
   pub offset : List ℕ
   pub hours : IsField 2 0 24 hour_text time.hour
-  pub minutes : IsLater 59 minute_text time.minute
-  pub seconds : IsOrZero (IsLater 60) second_text time.second
+  pub minutes : IsMarked (codes ":") 2 0 59 minute_text time.minute
+  pub seconds : IsOrZero (IsMarked (codes ":") 2 0 60) second_text time.second
   pub fractions : IsOrZero IsFraction fraction time.millisecond
   pub offsets : IsOffset offset (time.tz_offset_hours, time.tz_offset_minutes)
   pub joined : text ≡ hour_text ++ (minute_text ++ (second_text ++ (fraction ++ offset)))

@@ -38,18 +38,14 @@ two_wide z =
     if is_negative z then (codes "-" ++ padded_digits 1 (unsigned_abs z))
     else padded_digits 2 (unsigned_abs z)
 
--- a part of an offset, negated where a minus governs the parts
-abbrev pub governed_part : Bool → ℤ → ℤ
-governed_part governed part = if governed then neg_ℤ part else part
-
 -- The sign is a minus where one of the parts is negative, and under it both parts are written negated:
 -- `+05:30`, `-05:30` of -5 and -30, and `-05:-30` of -5 and 30.
 unfoldable pub offset_text : ℤ → ℤ → List ℕ
 offset_text hours minutes =
     let governed = is_negative hours || is_negative minutes in
     (if governed then codes "-" else codes "+")
-    ++ (two_wide (governed_part governed hours)
-    ++ (codes ":" ++ two_wide (governed_part governed minutes)))
+    ++ (two_wide (if governed then neg_ℤ hours else hours)
+    ++ (codes ":" ++ two_wide (if governed then neg_ℤ minutes else minutes)))
 
 unfoldable pub time_text : Time → List ℕ
 time_text t =

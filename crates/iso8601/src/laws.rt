@@ -2,7 +2,8 @@
 ghost use Rattle.std.specs.Prelude.{◌≡◌, ℕ, List, [], ℤ, pos, neg_ℤ, ◌+ℤ◌, ◌≤ℤ◌, ◌↔◌};
 ghost use Rattle.jiff_core.specs.Date.{epoch_day};
 ghost use Rattle.jiff_core.specs.declared.civil.date.Date.{Date as CivilDate};
-ghost use Rattle.iso8601.specs.Calendar.{IsCivilDay, after_monday, day_of, days_in_year, Exists, new_year, week_one};
+ghost use Rattle.iso8601.specs.Calendar.{IsCivilDay, after_monday, day_of, Exists, new_year, week_one};
+ghost use Rattle.iso8601.specs.Calendar.{days_in_year};
 ghost use Rattle.iso8601.specs.Dates.{IsDate};
 ghost use Rattle.iso8601.specs.DateTimes.{IsDateTime};
 ghost use Rattle.iso8601.specs.Durations.{IsDuration};

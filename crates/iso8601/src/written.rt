@@ -3,7 +3,8 @@ ghost use Rattle.std.specs.Prelude.{◌≡◌, ◌+◌, ◌≤◌, ◌++◌, len
 ghost use Rattle.arrayvec.specs.ArrayString.{array_string_len};
 ghost use Rattle.scan_core.specs.Padded.{padded_digits};
 ghost use Rattle.std.specs.Int.{is_negative};
-ghost use Rattle.iso8601.specs.Written.{clock_text, date_text, date_time_text, governed_part, minus, offset_text, time_text, two_wide, year_text};
+ghost use Rattle.iso8601.specs.Written.{clock_text, date_text, date_time_text, minus, offset_text, time_text, two_wide, year_text};
+ghost use Rattle.iso8601.specs.inside.WrittenParts.{governed_part};
 
 use crate::types::{Date, DateTime, Time};
 use scan_core::{Short, push_num, push_padded, push_text};

@@ -7,7 +7,7 @@ use Rattle.port_toml_datetime.specs.declared.offset.Offset.TheVariants.{Z, Custo
 use Rattle.scan_core.specs.Number.{sign_text}
 use Rattle.scan_core.specs.Shares.{signed}
 use Rattle.port_toml_datetime.specs.Offsets.{IsNumericOffset}
-use Rattle.port_toml_datetime.specs.Datetimes.{IsPerhapsOffset}
+use Rattle.port_toml_datetime.specs.inside.GrammarParts.{IsPerhapsOffset}
 use Rattle.port_toml_datetime.specs.Tokens.{first_token, after_token, token, after, is_of, is_one_of}
 use Rattle.port_toml_datetime.specs.Checks.{Row, first_failing, numeric_offset_rows, offset_rows, end_row}
 use Rattle.port_toml_datetime.specs.inside.Values.{numeric_offset_of, offset_of}

@@ -13,7 +13,8 @@ use Rattle.port_toml_datetime.specs.declared.datetime.Datetime.{Datetime}
 use Rattle.scan_core.specs.Fields.{IsField}
 use Rattle.port_toml_datetime.specs.Dates.{IsDate}
 use Rattle.scan_core.specs.Calendar.{is_leap_year, days_in_month}
-use Rattle.port_toml_datetime.specs.Times.{nanoseconds, IsSecondFraction, IsPerhapsSeconds, IsTime}
+use Rattle.port_toml_datetime.specs.Times.{nanoseconds, IsSecondFraction, IsTime}
+use Rattle.port_toml_datetime.specs.inside.GrammarParts.{IsPerhapsSeconds}
 use Rattle.port_toml_datetime.specs.Offsets.{IsOffset}
 use Rattle.port_toml_datetime.specs.Datetimes.{IsDatetime, datetime_of}
 use Rattle.scan_core.proofs.TrimmedFacts.{Fills, trimmed_fills}

@@ -10,7 +10,8 @@ use Rattle.port_toml_datetime.specs.declared.datetime.Datetime.{Datetime}
 use Rattle.port_toml_datetime.specs.Dates.{IsDate}
 use Rattle.port_toml_datetime.specs.Times.{IsTime}
 use Rattle.scan_core.specs.Number.{sign_text}
-use Rattle.port_toml_datetime.specs.Datetimes.{IsDelimiter, IsPerhapsOffset, IsDateAndTime, IsDatetime, datetime_of}
+use Rattle.port_toml_datetime.specs.Datetimes.{IsDateAndTime, IsDatetime, datetime_of}
+use Rattle.port_toml_datetime.specs.inside.GrammarParts.{IsDelimiter, IsPerhapsOffset}
 use Rattle.port_toml_datetime.specs.Tokens.{first_token, after_token, token, after, is_of, is_one_of}
 use Rattle.port_toml_datetime.specs.Checks.{Row, first_failing, time_rows, after_time, date_rows, after_date, full_time_rows, tail_rows, dated_rows, local_time_rows, end_row, checks}
 use Rattle.port_toml_datetime.specs.inside.Values.{time_of, date_of, offset_of, date_time_of, tail_of, value_of}

@@ -3,7 +3,8 @@ use Rattle.std.proofs.Common.{◌≡◌, ℕ, nat_le, Bool, true, false, cond, L
 use Rattle.std.specs.Prelude.{is_some, option_map}
 use Rattle.scan_core.specs.Digits.{AreDigits, number_of}
 use Rattle.port_toml_datetime.specs.declared.time.Time.{Time}
-use Rattle.port_toml_datetime.specs.Times.{nanoseconds, IsPerhapsSecondFraction, IsPerhapsSeconds, IsTime}
+use Rattle.port_toml_datetime.specs.Times.{nanoseconds, IsTime}
+use Rattle.port_toml_datetime.specs.inside.GrammarParts.{IsPerhapsSecondFraction, IsPerhapsSeconds}
 use Rattle.port_toml_datetime.specs.Tokens.{first_token, after_token, token, after, is_digits, is_of}
 use Rattle.port_toml_datetime.specs.Checks.{first_failing, has_length, where_there, marked, after_marked, fraction, after_fraction, time_rows, after_time}
 use Rattle.port_toml_datetime.specs.inside.Values.{time_of}

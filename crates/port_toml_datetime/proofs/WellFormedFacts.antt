@@ -6,10 +6,12 @@ use Rattle.port_toml_datetime.specs.declared.offset.Offset.{Offset}
 use Rattle.port_toml_datetime.specs.declared.offset.Offset.TheVariants.{Custom}
 use Rattle.port_toml_datetime.specs.declared.datetime.Datetime.{Datetime}
 use Rattle.port_toml_datetime.specs.Dates.{IsDate}
-use Rattle.port_toml_datetime.specs.Times.{IsPerhapsSecondFraction, IsPerhapsSeconds, IsTime}
+use Rattle.port_toml_datetime.specs.Times.{IsTime}
+use Rattle.port_toml_datetime.specs.inside.GrammarParts.{IsPerhapsSecondFraction, IsPerhapsSeconds}
 use Rattle.scan_core.specs.Shares.{signed}
 use Rattle.port_toml_datetime.specs.Offsets.{IsOffset}
-use Rattle.port_toml_datetime.specs.Datetimes.{IsPerhapsOffset, IsDatetime}
+use Rattle.port_toml_datetime.specs.Datetimes.{IsDatetime}
+use Rattle.port_toml_datetime.specs.inside.GrammarParts.{IsPerhapsOffset}
 use Rattle.port_toml_datetime.specs.WellFormed.{IsRealDay, AreRealSeconds, IsRealTime, IsOffsetInRange, AreWellFormed, IsWellFormed}
 use Rattle.port_toml_datetime.proofs.FractionFacts.{nine_short}
 

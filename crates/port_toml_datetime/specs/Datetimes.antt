@@ -10,17 +10,9 @@ use Rattle.port_toml_datetime.specs.declared.time.Time.{Time}
 use Rattle.port_toml_datetime.specs.declared.offset.Offset.{Offset}
 use Rattle.port_toml_datetime.specs.declared.datetime.Datetime.{Datetime}
 
--- `time-delim`, which stands between a date and a time
-abbrev pub IsDelimiter : List ℕ → Type 0
-IsDelimiter text = (text ≡ codes "T") ⊎ ((text ≡ codes "t") ⊎ (text ≡ codes " "))
-
+-- the date-time of the parts that are there
 abbrev pub datetime_of : Option Date → Option Time → Option Offset → Datetime
 datetime_of d t o = record { date = d; time = t; offset = o }
-
--- an offset, or nothing
-abbrev pub IsPerhapsOffset : List ℕ → Option Offset → Type 0
-IsPerhapsOffset text offset =
-    ((text ≡ []) × (offset ≡ None)) ⊎ ((o : Offset) × IsOffset text o × (offset ≡ Some o))
 
 -- an offset date-time or a local date-time: a date, a delimiter and a time, with an offset or
 -- without
@@ -33,20 +25,16 @@ pub record IsDateAndTime (text : List ℕ) (value : Datetime) : Type 0 where
   pub time : Time
   pub offset : Option Offset
   pub dates : IsDate date_text date
-  pub delimits : IsDelimiter delimiter
+  pub delimits : (delimiter ≡ codes "T") ⊎ ((delimiter ≡ codes "t") ⊎ (delimiter ≡ codes " "))
   pub times : IsTime time_text time
-  pub offsets : IsPerhapsOffset offset_text offset
+  pub offsets : ((offset_text ≡ []) × (offset ≡ None))
+      ⊎ ((o : Offset) × IsOffset offset_text o × (offset ≡ Some o))
   pub joined : text ≡ date_text ++ (delimiter ++ (time_text ++ offset_text))
   pub made : value ≡ datetime_of (Some date) (Some time) offset
 
-abbrev pub IsLocalDate : List ℕ → Datetime → Type 0
-IsLocalDate text value =
-    (date : Date) × IsDate text date × (value ≡ datetime_of (Some date) None None)
-
-abbrev pub IsLocalTime : List ℕ → Datetime → Type 0
-IsLocalTime text value =
-    (time : Time) × IsTime text time × (value ≡ datetime_of None (Some time) None)
-
--- the text is a date-time
+-- the text is a date-time, a local date, or a local time
 abbrev pub IsDatetime : List ℕ → Datetime → Type 0
-IsDatetime text value = IsDateAndTime text value ⊎ (IsLocalDate text value ⊎ IsLocalTime text value)
+IsDatetime text value =
+    IsDateAndTime text value
+    ⊎ (((date : Date) × IsDate text date × (value ≡ datetime_of (Some date) None None))
+    ⊎ ((time : Time) × IsTime text time × (value ≡ datetime_of None (Some time) None)))

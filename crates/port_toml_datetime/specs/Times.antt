@@ -19,25 +19,15 @@ pub record IsSecondFraction (text : List ℕ) (nanosecond : Option ℕ) : Type 0
   pub joined : text ≡ codes "." ++ digits
   pub value : nanosecond ≡ Some (nanoseconds digits)
 
--- the same, or nothing
-abbrev pub IsPerhapsSecondFraction : List ℕ → Option ℕ → Type 0
-IsPerhapsSecondFraction text nanosecond =
-    ((text ≡ []) × (nanosecond ≡ None)) ⊎ IsSecondFraction text nanosecond
-
 -- a colon, two digits, and perhaps a fraction
 pub record IsSeconds (text : List ℕ) (second nanosecond : Option ℕ) : Type 0 where
   pub digits : List ℕ
   pub fraction : List ℕ
   pub number : ℕ
   pub field : IsField 2 0 60 digits number
-  pub fractions : IsPerhapsSecondFraction fraction nanosecond
+  pub fractions : ((fraction ≡ []) × (nanosecond ≡ None)) ⊎ IsSecondFraction fraction nanosecond
   pub joined : text ≡ codes ":" ++ (digits ++ fraction)
   pub value : second ≡ Some number
-
--- the same, or nothing
-abbrev pub IsPerhapsSeconds : List ℕ → Option ℕ → Option ℕ → Type 0
-IsPerhapsSeconds text second nanosecond =
-    ((text ≡ []) × (second ≡ None) × (nanosecond ≡ None)) ⊎ IsSeconds text second nanosecond
 
 -- `HH:MM`, and perhaps `:SS`, and perhaps a fraction behind that
 pub record IsTime (text : List ℕ) (time : Time) : Type 0 where
@@ -46,5 +36,6 @@ pub record IsTime (text : List ℕ) (time : Time) : Type 0 where
   pub second_text : List ℕ
   pub hours : IsField 2 0 23 hour_text time.hour
   pub minutes : IsField 2 0 59 minute_text time.minute
-  pub seconds : IsPerhapsSeconds second_text time.second time.nanosecond
+  pub seconds : ((second_text ≡ []) × (time.second ≡ None) × (time.nanosecond ≡ None))
+      ⊎ IsSeconds second_text time.second time.nanosecond
   pub joined : text ≡ hour_text ++ (codes ":" ++ (minute_text ++ second_text))

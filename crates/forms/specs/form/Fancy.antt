@@ -1,8 +1,8 @@
 -- Short durations, as the crate `fancy-duration` has them: what a strict text spells is a length.
-use Rattle.std.specs.Prelude.{ℕ, ◌*◌, ◌^◌, ◌==◌, ◌&&◌, Bool, ℤ, pos, negsuc, Result, Ok, Err, nat_lt, if◌then◌else◌}
+use Rattle.std.specs.Prelude.{ℕ, ◌*◌, ◌%◌, ◌^◌, ◌&&◌, Bool, ℤ, pos, negsuc, Result, Ok, Err, nat_le, nat_lt, if◌then◌else◌}
 use Rattle.std.specs.Ordering.{int_eq}
-use Rattle.fancy_duration.specs.Breakdown.{count_of}
-use Rattle.fancy_duration.specs.declared.part.DurationPart.TheVariants.{Months, Weeks, Days, Hours, Minutes}
+use Rattle.fancy_duration.specs.Parts.{weight_of}
+use Rattle.fancy_duration.specs.declared.part.DurationPart.TheVariants.{Years, Months, Minutes}
 use Rattle.forms.specs.declared.cause.Cause.{Cause}
 use Rattle.forms.specs.declared.cause.Cause.TheVariants.{Range, Kind, Ambiguous}
 use Rattle.forms.specs.declared.value.Value.{Value}
@@ -13,12 +13,12 @@ use Rattle.forms.specs.Values.{nanos_of}
 unfoldable pub worth : ℕ → Result Value Cause
 worth nanos = if nat_lt nanos (2 ^ 64 * 1_000_000_000) then Ok (Length nanos) else Err Range
 
--- months, and no weeks, days, hours or minutes: the `m` of the written text would be read as minutes
+-- Beside years a month is left at least, and beside months less than a minute: months stand without weeks, days, hours and minutes,
+-- and the `m` of the written text would be read as minutes.
 unfoldable pub has_months_alone : ℕ → Bool
 has_months_alone nanos =
-    nat_lt 0 (count_of Months nanos)
-    && ((count_of Weeks nanos == 0) && ((count_of Days nanos == 0)
-    && ((count_of Hours nanos == 0) && (count_of Minutes nanos == 0))))
+    let left = nanos % weight_of Years in
+    nat_le (weight_of Months) left && nat_lt (left % weight_of Months) (weight_of Minutes)
 
 -- a length that isn't negative, is below 2^64 seconds, and whose text is read back
 unfoldable pub length_of : ℤ → Result ℕ Cause
@@ -28,13 +28,9 @@ length_of (pos nanos) =
     then (if has_months_alone nanos then Err Ambiguous else Ok nanos)
     else Err Range
 
--- the same of a triple without months
-unfoldable pub length_of_triple : ℤ → ℤ → ℤ → Result ℕ Cause
-length_of_triple months days micros =
-    if int_eq months (pos 0) then length_of (nanos_of days micros) else Err Kind
-
--- the length of a value
+-- the length of a value; a triple has no months
 abbrev pub held : Value → Result ℕ Cause
 held (Length nanos) = length_of (pos nanos)
-held (Triple months days micros) = length_of_triple months days micros
+held (Triple months days micros) =
+    if int_eq months (pos 0) then length_of (nanos_of days micros) else Err Kind
 held _ = Err Kind

@@ -7,10 +7,6 @@ use Rattle.forms.specs.declared.cause.Cause.TheVariants.{Range, Kind, Precision}
 use Rattle.forms.specs.declared.value.Value.{Value}
 use Rattle.forms.specs.declared.value.Value.TheVariants.{Instant}
 
--- decimal digits, with a plus before them or without, and the count that they write
-abbrev pub Spells : List ℕ → ℕ → Type 0
-Spells = IsTextOf
-
 -- the instant of a count that 64 bits hold
 unfoldable pub worth : ℕ → Result Value Cause
 worth ticks = if nat_lt ticks (2 ^ 64) then Ok (Instant (unix_nanos ticks)) else Err Range

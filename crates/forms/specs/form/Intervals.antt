@@ -23,19 +23,19 @@ interval_of months days micros =
     then Ok (record { months = months; days = days; microseconds = micros })
     else Err Range
 
--- a length in whole days of 86_400 seconds and the microseconds beyond them
-abbrev pub length_in_days : ℕ → Interval
-length_in_days nanos = record {
-  months = pos 0;
-  days = pos (nanos / 86_400_000_000_000);
-  microseconds = pos (nanos % 86_400_000_000_000 / 1000);
-}
-
--- the interval of a length: as many days as fit, and whole microseconds
+-- the interval of a length: as many whole days of 86_400 seconds as fit, and the microseconds beyond them, which are whole
 unfoldable pub interval_of_length : ℕ → Result Interval Cause
 interval_of_length nanos =
     if fits_type Days (pos (nanos / 86_400_000_000_000))
-    then (if (nanos % 1000 == 0) then Ok (length_in_days nanos) else Err Precision)
+    then (
+    if (nanos % 1000 == 0)
+    then Ok (record {
+      months = pos 0;
+      days = pos (nanos / 86_400_000_000_000);
+      microseconds = pos (nanos % 86_400_000_000_000 / 1000);
+    })
+    else Err Precision
+    )
     else Err Range
 
 -- the interval of a value

@@ -10,9 +10,6 @@ use Rattle.forms.specs.declared.value.Value.{Value}
 use Rattle.forms.specs.declared.value.Value.TheVariants.{Day}
 use Rattle.forms.specs.Answers.{Judged}
 
-abbrev pub Spells : List ℕ → Date → Type 0
-Spells = IsDate
-
 -- the day of a date, where there is such a day
 abbrev pub Worth : Date → Result Value Cause → Type 0
 Worth date = Judged (Exists date) (IsCivilDay (day_of date)) (Day (day_of date))

@@ -12,19 +12,14 @@ use Rattle.forms.specs.declared.value.Value.{Value}
 use Rattle.forms.specs.declared.value.Value.TheVariants.{Instant}
 use Rattle.forms.specs.Answers.{Judged}
 
-abbrev pub Spells : List ℕ → DateTime → Type 0
-Spells = IsDateTime
-
 -- ---- reading
-
--- nanoseconds since midnight
-abbrev pub clock_of : Time → ℕ
-clock_of t = ((t.hour * 60 + t.minute) * 60 + t.second) * 1_000_000_000 + t.millisecond * 1_000_000
 
 -- the moment in UTC
 abbrev pub instant_of : DateTime → ℤ
 instant_of t =
-    (day_of t.date *ℤ pos 86_400_000_000_000 +ℤ pos (clock_of t.time))
+    (day_of t.date *ℤ pos 86_400_000_000_000
+    +ℤ pos (((t.time.hour * 60 + t.time.minute) * 60 + t.time.second) * 1_000_000_000
+    + t.time.millisecond * 1_000_000))
     -ℤ offset_of t.time *ℤ pos 1_000_000_000
 
 -- there is such a day, a clock shows the time, and the offset is less than a day

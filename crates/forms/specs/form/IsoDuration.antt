@@ -8,15 +8,7 @@ use Rattle.forms.specs.declared.cause.Cause.TheVariants.{Range, Kind, Precision}
 use Rattle.forms.specs.declared.value.Value.{Value}
 use Rattle.forms.specs.declared.value.Value.TheVariants.{Triple, Length}
 
-abbrev pub Spells : List ℕ → Duration → Type 0
-Spells = IsDuration
-
 -- ---- reading
-
--- the microseconds of a time
-abbrev pub micros_of : ℕ → ℕ → ℕ → ℕ → ℕ
-micros_of hour minute second millisecond =
-    ((hour * 60 + minute) * 60 + second) * 1_000_000 + millisecond * 1000
 
 -- months, days and microseconds that 64 bits hold
 unfoldable pub triple_of : ℕ → ℕ → ℕ → Result Value Cause
@@ -26,7 +18,8 @@ triple_of months days micros =
 
 abbrev pub worth : Duration → Result Value Cause
 worth (YMDHMS year month day hour minute second millisecond) =
-    triple_of (12 * year + month) day (micros_of hour minute second millisecond)
+    triple_of (12 * year + month) day
+    (((hour * 60 + minute) * 60 + second) * 1_000_000 + millisecond * 1000)
 worth (Weeks weeks) = triple_of 0 (7 * weeks) 0
 
 -- ---- writing

@@ -1,7 +1,7 @@
 -- Date-times of TOML 1.1: a date-time with an offset is a moment, one without is local, and a date or a time may stand alone.
 use Rattle.std.specs.Prelude.{◌≡◌, ◌⊎◌, ℕ, ◌+◌, ◌*◌, ◌/◌, ◌%◌, ◌==◌, List, ℤ, pos, ◌+ℤ◌, ◌-ℤ◌, ◌*ℤ◌, unsigned_abs, Option, Some, None, unwrap_or, Result, Ok, Err, if◌then◌else◌}
 use Rattle.std.specs.Int.{int_div_euclid, int_rem_euclid}
-use Rattle.iso8601.specs.Calendar.{day_of as calendar_day}
+use Rattle.iso8601.specs.Calendar.{day_of}
 use Rattle.iso8601.specs.declared.types.Date.TheVariants.{YMD}
 use Rattle.port_toml_datetime.specs.Datetimes.{IsDatetime, datetime_of}
 use Rattle.port_toml_datetime.specs.WellFormed.{IsRealDay}
@@ -16,24 +16,15 @@ use Rattle.forms.specs.declared.value.Value.{Value}
 use Rattle.forms.specs.declared.value.Value.TheVariants.{Instant, Day, Local, Clock}
 use Rattle.forms.specs.Answers.{result_map}
 
-abbrev pub Spells : List ℕ → Datetime → Type 0
-Spells = IsDatetime
-
 -- ---- reading
 
--- the number of a date's day, by the calendar of ISO 8601
-abbrev pub day_of : Date → ℤ
-day_of d = calendar_day (YMD (pos d.year) d.month d.day)
-
--- nanoseconds since midnight, where seconds and nanoseconds that aren't written are 0
-abbrev pub clock_of : Time → ℕ
-clock_of t =
-    ((t.hour * 60 + t.minute) * 60 + unwrap_or t.second 0) * 1_000_000_000
-    + unwrap_or t.nanosecond 0
-
--- the same, unless it is a leap second, which POSIX counts nowhere
+-- nanoseconds since midnight, where seconds and nanoseconds that aren't written are 0, unless it is a leap second, which POSIX counts
+-- nowhere
 unfoldable pub clock : Time → Result ℤ Cause
-clock t = if (unwrap_or t.second 0 == 60) then Err NoSuchMoment else Ok (pos (clock_of t))
+clock t =
+    if (unwrap_or t.second 0 == 60) then Err NoSuchMoment
+    else Ok (pos (((t.hour * 60 + t.minute) * 60 + unwrap_or t.second 0) * 1_000_000_000
+    + unwrap_or t.nanosecond 0))
 
 -- how many minutes ahead of UTC
 abbrev pub minutes_of : Offset → ℤ
@@ -53,12 +44,9 @@ dated_worth day None offset = Ok (Day day)
 
 -- the value of the parts that are there; no text has neither a date nor a time
 abbrev pub worth_of : Option Date → Option Time → Option Offset → Result Value Cause
-worth_of (Some date) time offset = dated_worth (day_of date) time offset
+worth_of (Some date) time offset = dated_worth (day_of (YMD (pos date.year) date.month date.day)) time offset
 worth_of None (Some time) offset = result_map Clock (clock time)
 worth_of None None offset = Err Syntax
-
-abbrev pub worth : Datetime → Result Value Cause
-worth d = worth_of d.date d.time d.offset
 
 -- ---- writing
 
@@ -78,8 +66,10 @@ time_of nanos = record {
 -- the date with this day, or `Range` where no date of the years 0 to 9999 has it
 abbrev pub HoldsDay : ℤ → Result Date Cause → Type 0
 HoldsDay day held =
-    ((date : Date) × IsRealDay date × (day_of date ≡ day) × (held ≡ Ok date))
-    ⊎ (((date : Date) → IsRealDay date → day_of date ≡ day → ⊥) × (held ≡ Err Range))
+    ((date : Date) × IsRealDay date × (day_of (YMD (pos date.year) date.month date.day) ≡ day)
+    × (held ≡ Ok date))
+    ⊎ (((date : Date) → IsRealDay date → day_of (YMD (pos date.year) date.month date.day) ≡ day → ⊥)
+    × (held ≡ Err Range))
 
 -- that date with a time or without, and an offset or none
 abbrev pub HoldsDated : ℤ → Option Time → Option Offset → Result Datetime Cause → Type 0

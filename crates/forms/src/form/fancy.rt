@@ -7,7 +7,8 @@ ghost use Rattle.forms.specs.declared.form.Form.{Form as AnyForm};
 ghost use Rattle.forms.specs.Answers.{bytes_of};
 ghost use Rattle.forms.specs.Forms.{Reads, Writes};
 ghost use Rattle.forms.specs.Values.{IsWithinBounds, nanos_of};
-ghost use Rattle.forms.specs.form.Fancy.{held, length_of, length_of_triple};
+ghost use Rattle.forms.specs.form.Fancy.{held, length_of};
+ghost use Rattle.forms.specs.inside.FancyParts.{length_of_triple};
 ghost use Rattle.forms.specs.inside.Lawful.{Lawful};
 
 use crate::cause::Cause;

@@ -5,7 +5,8 @@ ghost use Rattle.forms.specs.declared.form.Form.{Form as AnyForm};
 ghost use Rattle.forms.specs.Answers.{bytes_of};
 ghost use Rattle.forms.specs.Forms.{Reads, Writes};
 ghost use Rattle.forms.specs.Values.{IsWithinBounds};
-ghost use Rattle.forms.specs.form.IsoDuration.{micros_of, triple_of, worth, duration_of, counts_of, held_triple, held_length, held};
+ghost use Rattle.forms.specs.form.IsoDuration.{triple_of, worth, duration_of, counts_of, held_triple, held_length, held};
+ghost use Rattle.forms.specs.inside.IsoParts.{micros_of};
 ghost use Rattle.forms.specs.inside.Lawful.{Lawful};
 
 use crate::cause::Cause;

@@ -4,13 +4,14 @@ use Rattle.std.specs.Prelude.{ℤ}
 use Rattle.std.proofs.lemmas.Int.{ints}
 use Rattle.forms.specs.declared.value.Value.TheVariants.{Instant}
 use Rattle.forms.specs.Answers.{Is, ReadsBy}
-use Rattle.forms.specs.form.FileTime.{Spells, worth}
+use Rattle.forms.specs.form.FileTime.{worth}
+use Rattle.nt_time.specs.Text.{IsTextOf}
 use Rattle.forms.proofs.FileTimes.{reads_ticks, reads_beyond, reads_syntax}
 use Rattle.forms.proofs.form.file_time.read.Goals as goal
 
 pub returns-in-Ok : goal.returns-in-Ok
 returns-in-Ok c =
-    let P : ℤ → Type 0 = λ z. ReadsBy Spells (Is worth) c.args.text.now (Ok (Instant z)) in
+    let P : ℤ → Type 0 = λ z. ReadsBy IsTextOf (Is worth) c.args.text.now (Ok (Instant z)) in
     subst P (omega (arith, ints)) (reads_ticks c.args.text.now c.in-Ok.time c.in-Ok.ensures.ok c.in-Ok.ensures.fits)
 
 pub returns-in-Empty : goal.returns-in-Empty

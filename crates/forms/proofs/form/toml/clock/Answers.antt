@@ -2,7 +2,7 @@
 use Rattle.std.proofs.Common.{◌≡◌, refl, sym, ◌∙◌, ap, arith, Ok}
 use Rattle.std.specs.Prelude.{ℤ}
 use Rattle.std.proofs.lemmas.Int.{ints}
-use Rattle.forms.specs.form.Toml.{clock_of}
+use Rattle.forms.specs.inside.TomlParts.{clock_of}
 use Rattle.forms.proofs.TomlDateTimes.{leap, no_leap}
 use Rattle.forms.proofs.form.toml.clock.Goals as goal
 
