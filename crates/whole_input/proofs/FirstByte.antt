@@ -3,7 +3,7 @@ use Rattle.std.proofs.Common.{◌≡◌, ℕ, zero, suc, ◌<◌, ◌≤◌, ◌
 use Rattle.std.proofs.lemmas.Bool.{false_from_ne_true}
 use Rattle.std.proofs.Math.Seq.{take-length}
 use Rattle.std.proofs.lemmas.Str.{IsCharBoundary-after_ascii}
-use Rattle.scan_core.specs.Join.{onto_first}
+use Rattle.std.specs.List.{onto_first}
 use Rattle.memchr.specs.Find.{Nowhere, Passes, is_byte, IsFirstByte, places, places_from}
 use Rattle.forms.specs.Lines.{lines}
 use Rattle.whole_input.specs.Parts.{HasNo, IsSplitAt}
