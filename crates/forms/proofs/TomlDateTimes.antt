@@ -27,7 +27,8 @@ use Rattle.forms.specs.declared.value.Value.{Value}
 use Rattle.forms.specs.declared.value.Value.TheVariants.{Instant, Day, Local, Clock, Triple, Length}
 use Rattle.forms.specs.Answers.{Is, result_map}
 use Rattle.forms.specs.Values.{IsWithinBounds, IsOfDay, Same}
-use Rattle.forms.specs.form.Toml.{clock, minutes_of, moment_of, dated_worth, worth_of, fraction_of, time_of, HoldsDay, HoldsDated, Holds}
+use Rattle.forms.specs.form.Toml.{clock, minutes_of, moment_of, dated_worth, worth_of, time_of, HoldsDay, HoldsDated, Holds}
+use Rattle.forms.specs.inside.TomlParts.{fraction_of}
 use Rattle.forms.specs.inside.TomlParts.{day_of, clock_of, worth}
 use Rattle.port_toml_datetime.specs.Datetimes.{IsDatetime}
 use Rattle.forms.specs.inside.Lawful.{Lawful}
@@ -132,11 +133,9 @@ unfolding clock
 no_leap t isnt = let test : (unwrap_or t.second 0 == 60) ≡ false = grind (arith, nat_tests) in rw test refl
 
 pub no_fraction : (nanos : ℕ) → nanos % 1_000_000_000 ≡ 0 → fraction_of nanos ≡ None
-unfolding fraction_of
 no_fraction nanos e = rw e refl
 
 pub some_fraction : (nanos : ℕ) → (nanos % 1_000_000_000 ≡ 0 → ⊥) → fraction_of nanos ≡ Some (nanos % 1_000_000_000)
-unfolding fraction_of
 some_fraction nanos isnt = let test : (nanos % 1_000_000_000 == 0) ≡ false = grind (arith, nat_tests) in rw test refl
 
 fraction_if : (n : ℕ) (test : Bool) → (n == 0) ≡ test → unwrap_or (cond test None (Some n)) 0 ≡ n
@@ -144,7 +143,6 @@ fraction_if n true h = let zero : n ≡ 0 = grind (arith, nat_tests) in sym zero
 fraction_if n false h = refl
 
 fraction_value : (nanos : ℕ) → unwrap_or (fraction_of nanos) 0 ≡ nanos % 1_000_000_000
-unfolding fraction_of
 fraction_value nanos = fraction_if (nanos % 1_000_000_000) (nanos % 1_000_000_000 == 0) refl
 
 clock_parts : (n : ℕ) → ((n / 3_600_000_000_000 * 60 + n / 60_000_000_000 % 60) * 60 + n / 1_000_000_000 % 60) * 1_000_000_000 + n % 1_000_000_000 ≡ n
@@ -161,7 +159,6 @@ fraction_real second n true s f = s
 fraction_real second n false s f = (s, f)
 
 time_real : (nanos : ℕ) → nanos < 86_400_000_000_000 → IsRealTime (time_of nanos)
-unfolding fraction_of
 time_real nanos h = record { hour = omega arith; minute = omega arith; seconds = fraction_real (nanos / 1_000_000_000 % 60) (nanos % 1_000_000_000) (nanos % 1_000_000_000 == 0) (omega arith) (omega arith) }
 
 -- ---- what a value is worth, within the bounds

@@ -9,7 +9,8 @@ use Rattle.iso8601.specs.Fields.{IsOrZero}
 use Rattle.iso8601.specs.Durations.{IsNumber, IsCount, IsCounted, IsDuration}
 use Rattle.iso8601.specs.inside.GrammarParts.{IsSeconds, IsPerhapsClock}
 use Rattle.iso8601.specs.Ranges.{IsDurationInRange}
-use Rattle.iso8601.specs.WrittenDurations.{are_zero, count_text, second_text, clock_counts_text, date_counts_text, duration_text}
+use Rattle.iso8601.specs.WrittenDurations.{count_text, second_text, duration_text}
+use Rattle.iso8601.specs.inside.DurationParts.{are_zero, clock_counts_text, date_counts_text}
 use Rattle.iso8601.specs.declared.types.Duration.{Duration}
 use Rattle.iso8601.specs.declared.types.Duration.TheVariants.{YMDHMS, Weeks}
 use Rattle.iso8601.proofs.FieldFacts.{joins_three}
@@ -171,6 +172,6 @@ spelled_if y mo d h m s ms true z r =
 spelled_if y mo d h m s ms false z r = (date_counts_text y mo d ++ clock_counts_text h m s ms, inr (inl (counted_spelled y mo d h m s ms r z)), refl)
 
 pub duration_spelled : (d : Duration) → IsDurationInRange d → IsDuration (duration_text d) d
-unfolding duration_text
+unfolding duration_text date_counts_text clock_counts_text
 duration_spelled (YMDHMS y mo d h m s ms) r = spelled_if y mo d h m s ms (are_all_zero y mo d h m s ms) refl r
 duration_spelled (Weeks w) r = (decimal w ++ codes "W", inl (w, whole_count (codes "W") w r, refl), refl)

@@ -7,7 +7,8 @@ use Rattle.scan_core.specs.Padded.{padded_digits}
 use Rattle.scan_core.proofs.PaddedFacts.{padded_field}
 use Rattle.iso8601.specs.Fields.{IsYear, IsMarked}
 use Rattle.iso8601.specs.Times.{IsFraction}
-use Rattle.iso8601.specs.Written.{minus, year_text}
+use Rattle.iso8601.specs.Written.{year_text}
+use Rattle.scan_core.specs.Number.{minus}
 use Rattle.scan_core.proofs.Signs.{is_negative-pos}
 
 pub marked_spelled : (mark : List ℕ) (count lo hi n : ℕ) → 0 < count → n < 10 ^ count → n < 2 ^ 64 → lo ≤ n → n ≤ hi → IsMarked mark count lo hi (mark ++ padded_digits count n) n
@@ -17,11 +18,11 @@ marked_spelled mark count lo hi n some fits small least most =
 -- ---- years
 
 year_ahead : (n : ℕ) → year_text (pos n) ≡ padded_digits 4 n
-unfolding year_text minus
+unfolding year_text
 year_ahead n = rw (is_negative-pos n) refl
 
 year_behind : (n : ℕ) → year_text (negsuc n) ≡ codes "-" ++ padded_digits 4 (suc n)
-unfolding year_text minus
+unfolding year_text
 year_behind n = refl
 
 pub year_spelled : (year : ℤ) → unsigned_abs year ≤ 9999 → IsYear (year_text year) year

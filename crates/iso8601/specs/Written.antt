@@ -3,15 +3,12 @@
 -- written with as many digits as they have.
 use Rattle.std.specs.Prelude.{ℕ, ℤ, neg_ℤ, unsigned_abs, Bool, ◌||◌, List, [], ◌++◌, codes, if◌then◌else◌}
 use Rattle.std.specs.Int.{is_negative}
+use Rattle.scan_core.specs.Number.{minus}
 use Rattle.scan_core.specs.Padded.{padded_digits}
 use Rattle.iso8601.specs.declared.types.Date.{Date}
 use Rattle.iso8601.specs.declared.types.Date.TheVariants.{YMD, Week, Ordinal}
 use Rattle.iso8601.specs.declared.types.Time.{Time}
 use Rattle.iso8601.specs.declared.types.DateTime.{DateTime}
-
--- a minus, or nothing
-unfoldable pub minus : Bool → List ℕ
-minus negative = if negative then codes "-" else []
 
 -- the magnitude of a year in at least four digits, behind a minus where the year is negative
 unfoldable pub year_text : ℤ → List ℕ

@@ -1,7 +1,8 @@
 //! The texts of durations.
 ghost use Rattle.std.specs.Prelude.{◌≡◌, ◌+◌, ◌≤◌, ◌++◌, length, codes, decimal, Some};
 ghost use Rattle.arrayvec.specs.ArrayString.{array_string_len};
-ghost use Rattle.iso8601.specs.WrittenDurations.{clock_counts_text, count_text, date_counts_text, duration_text, second_text};
+ghost use Rattle.iso8601.specs.WrittenDurations.{count_text, duration_text, second_text};
+ghost use Rattle.iso8601.specs.inside.DurationParts.{clock_counts_text, date_counts_text};
 
 use crate::types::Duration;
 use crate::written::push_digits;
@@ -53,7 +54,7 @@ fn push_seconds(out: &mut Short, second: u32, millisecond: u32)
 }
 
 /// Appends `T` and the counts of a clock that aren't 0, or nothing where all are.
-#[tactic(auto, unfolding(crate::specs::WrittenDurations::clock_counts_text))]
+#[tactic(auto, unfolding(crate::specs::inside::DurationParts::clock_counts_text))]
 fn push_clock(out: &mut Short, hour: u32, minute: u32, second: u32, millisecond: u32)
     requires { array_string_len out.old + 45 ≤ 128 }
     ensures bytes { out.new.bytes
@@ -70,7 +71,7 @@ fn push_clock(out: &mut Short, hour: u32, minute: u32, second: u32, millisecond:
 }
 
 /// Appends the counts of a date that aren't 0.
-#[tactic(auto, unfolding(crate::specs::WrittenDurations::date_counts_text))]
+#[tactic(auto, unfolding(crate::specs::inside::DurationParts::date_counts_text))]
 fn push_date(out: &mut Short, year: u32, month: u32, day: u32)
     requires { array_string_len out.old + 33 ≤ 128 }
     ensures bytes { out.new.bytes ≡ out.old.bytes ++ date_counts_text year month day }
@@ -88,7 +89,7 @@ impl Duration {
 
     /// The written text, at most 79 bytes: `P1Y2M3DT4H5M6.007S`, `P5W`, or `P0D` where every count is 0. Every value has
     /// one. A duration with at most 999 milliseconds is read back whole and equal.
-    #[tactic(auto, unfolding(crate::specs::WrittenDurations::duration_text))]
+    #[tactic(auto, unfolding(crate::specs::WrittenDurations::duration_text, crate::specs::inside::DurationParts::date_counts_text, crate::specs::inside::DurationParts::clock_counts_text))]
     pub fn text(&self) -> Short
         ensures bytes { result.bytes ≡ duration_text self.now }
         ensures len { array_string_len result ≤ 79 }

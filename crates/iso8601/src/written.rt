@@ -3,7 +3,8 @@ ghost use Rattle.std.specs.Prelude.{◌≡◌, ◌+◌, ◌≤◌, ◌++◌, len
 ghost use Rattle.arrayvec.specs.ArrayString.{array_string_len};
 ghost use Rattle.scan_core.specs.Padded.{padded_digits};
 ghost use Rattle.std.specs.Int.{is_negative};
-ghost use Rattle.iso8601.specs.Written.{clock_text, date_text, date_time_text, minus, offset_text, time_text, two_wide, year_text};
+ghost use Rattle.iso8601.specs.Written.{clock_text, date_text, date_time_text, offset_text, time_text, two_wide, year_text};
+ghost use Rattle.scan_core.specs.Number.{minus};
 ghost use Rattle.iso8601.specs.inside.WrittenParts.{governed_part};
 
 use crate::types::{Date, DateTime, Time};
@@ -24,7 +25,6 @@ pub(crate) fn push_digits(out: &mut Short, value: u32, width: usize)
 }
 
 /// Appends a minus, or nothing.
-#[tactic(auto, unfolding(crate::specs::Written::minus))]
 fn push_minus(out: &mut Short, negative: bool)
     requires { array_string_len out.old + 1 ≤ 128 }
     ensures bytes { out.new.bytes ≡ out.old.bytes ++ minus negative }

@@ -1,5 +1,5 @@
 -- Short durations, as the crate `fancy-duration` has them: what a strict text spells is a length.
-use Rattle.std.specs.Prelude.{ℕ, ◌*◌, ◌%◌, ◌^◌, ◌&&◌, Bool, ℤ, pos, negsuc, Result, Ok, Err, nat_le, nat_lt, if◌then◌else◌}
+use Rattle.std.specs.Prelude.{ℕ, ◌*◌, ◌%◌, ◌^◌, ◌&&◌, Bool, ℤ, pos, negsuc, ◌+ℤ◌, ◌*ℤ◌, Result, Ok, Err, nat_le, nat_lt, if◌then◌else◌}
 use Rattle.std.specs.Ordering.{int_eq}
 use Rattle.fancy_duration.specs.Parts.{weight_of}
 use Rattle.fancy_duration.specs.declared.part.DurationPart.TheVariants.{Years, Months, Minutes}
@@ -7,7 +7,6 @@ use Rattle.forms.specs.declared.cause.Cause.{Cause}
 use Rattle.forms.specs.declared.cause.Cause.TheVariants.{Range, Kind, Ambiguous}
 use Rattle.forms.specs.declared.value.Value.{Value}
 use Rattle.forms.specs.declared.value.Value.TheVariants.{Triple, Length}
-use Rattle.forms.specs.Values.{nanos_of}
 
 -- the length of fewer than 2^64 seconds
 unfoldable pub worth : ℕ → Result Value Cause
@@ -32,5 +31,6 @@ length_of (pos nanos) =
 abbrev pub held : Value → Result ℕ Cause
 held (Length nanos) = length_of (pos nanos)
 held (Triple months days micros) =
-    if int_eq months (pos 0) then length_of (nanos_of days micros) else Err Kind
+    if int_eq months (pos 0)
+    then length_of ((days *ℤ pos 86_400_000_000 +ℤ micros) *ℤ pos 1000) else Err Kind
 held _ = Err Kind

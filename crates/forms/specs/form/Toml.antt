@@ -50,17 +50,14 @@ worth_of None None offset = Err Syntax
 
 -- ---- writing
 
--- the nanoseconds of a second, where they aren't 0
-unfoldable pub fraction_of : ℕ → Option ℕ
-fraction_of nanos = if (nanos % 1_000_000_000 == 0) then None else Some (nanos % 1_000_000_000)
-
 -- the time so many nanoseconds after midnight, with seconds, and with a fraction where it isn't 0
 abbrev pub time_of : ℕ → Time
 time_of nanos = record {
   hour = nanos / 3_600_000_000_000;
   minute = nanos / 60_000_000_000 % 60;
   second = Some (nanos / 1_000_000_000 % 60);
-  nanosecond = fraction_of nanos;
+  nanosecond =
+      if (nanos % 1_000_000_000 == 0) then None else Some (nanos % 1_000_000_000);
 }
 
 -- the date with this day, or `Range` where no date of the years 0 to 9999 has it

@@ -1,5 +1,5 @@
 -- Parts of values of TOML by names that private contracts and proofs alone cite.
-use Rattle.std.specs.Prelude.{ℕ, ◌+◌, ◌*◌, ℤ, pos, unwrap_or, Result}
+use Rattle.std.specs.Prelude.{ℕ, ◌+◌, ◌*◌, ◌%◌, ◌==◌, ℤ, pos, unwrap_or, Option, Some, None, Result, if◌then◌else◌}
 use Rattle.iso8601.specs.Calendar.{day_of as calendar_day}
 use Rattle.iso8601.specs.declared.types.Date.TheVariants.{YMD}
 use Rattle.port_toml_datetime.specs.declared.date.Date.{Date}
@@ -21,3 +21,7 @@ clock_of t =
 
 abbrev pub worth : Datetime → Result Value Cause
 worth d = worth_of d.date d.time d.offset
+
+-- the nanoseconds of a second, where they aren't 0
+abbrev pub fraction_of : ℕ → Option ℕ
+fraction_of nanos = if (nanos % 1_000_000_000 == 0) then None else Some (nanos % 1_000_000_000)

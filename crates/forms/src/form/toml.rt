@@ -8,7 +8,8 @@ ghost use Rattle.forms.specs.declared.value.Value.{Value as AnyValue};
 ghost use Rattle.forms.specs.Answers.{bytes_of};
 ghost use Rattle.forms.specs.Forms.{Reads, Writes};
 ghost use Rattle.forms.specs.Values.{IsWithinBounds};
-ghost use Rattle.forms.specs.form.Toml.{clock, minutes_of, moment_of, dated_worth, worth_of, fraction_of, time_of, HoldsDay, HoldsDated, Holds};
+ghost use Rattle.forms.specs.form.Toml.{clock, minutes_of, moment_of, dated_worth, worth_of, time_of, HoldsDay, HoldsDated, Holds};
+ghost use Rattle.forms.specs.inside.TomlParts.{fraction_of};
 ghost use Rattle.forms.specs.inside.TomlParts.{day_of};
 ghost use Rattle.forms.specs.inside.Lawful.{Lawful};
 
