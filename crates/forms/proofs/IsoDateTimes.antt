@@ -19,7 +19,7 @@ use Rattle.iso8601.specs.declared.types.Date.{Date}
 use Rattle.iso8601.specs.DateTimes.{IsDateTime}
 use Rattle.iso8601.specs.Moments.{IsMoment, IsMomentOf, offset_of}
 use Rattle.iso8601.specs.Ranges.{IsDateTimeInRange, HaveOneSign}
-use Rattle.iso8601.specs.Written.{minus, year_text, date_text, clock_text, two_wide, offset_text, time_text, date_time_text}
+use Rattle.iso8601.specs.Written.{minus, year_text, date_text, time_of_day_text, two_wide, offset_text, time_text, date_time_text}
 use Rattle.iso8601.specs.declared.types.Date.TheVariants.{YMD}
 use Rattle.iso8601.specs.declared.types.DateTime.{DateTime}
 use Rattle.iso8601.specs.declared.types.FixedMoment.{FixedMoment}
@@ -82,8 +82,8 @@ unfolding date_text
 date_short year month day y m d =
     joined (year_text year) _ 5 10 (year_short year y) (joined (codes "-") _ 1 9 (omega arith) (joined (padded_digits 2 month) _ 4 5 (small 2 month (omega arith) m) (joined (codes "-") (padded_digits 2 day) 1 4 (omega arith) (small 2 day (omega arith) d))))
 
-clock_short : (hour minute second millis : ℕ) → hour < 10 ^ 4 → minute < 10 ^ 4 → second < 10 ^ 4 → millis < 10 ^ 4 → length (clock_text hour minute second millis) ≤ 19
-unfolding clock_text
+clock_short : (hour minute second millis : ℕ) → hour < 10 ^ 4 → minute < 10 ^ 4 → second < 10 ^ 4 → millis < 10 ^ 4 → length (time_of_day_text hour minute second millis) ≤ 19
+unfolding time_of_day_text
 clock_short hour minute second millis h m s f =
     joined (padded_digits 2 hour) _ 4 15 (small 2 hour (omega arith) h)
     (joined (codes ":") _ 1 14 (omega arith)
@@ -107,7 +107,7 @@ short_text c =
     let subsec = c.time.subsec_in in
     let date = date_short c.date.year c.date.month c.date.day (omega (arith, ints)) (omega arith) (omega arith) in
     let clock = clock_short c.time.hour c.time.minute c.time.second (c.time.subsec_nanosecond / 1_000_000) (omega arith) (omega arith) (omega arith) (omega arith) in
-    let time = joined (clock_text c.time.hour c.time.minute c.time.second (c.time.subsec_nanosecond / 1_000_000)) (offset_text (pos 0) (pos 0)) 19 10 clock offset_short in
+    let time = joined (time_of_day_text c.time.hour c.time.minute c.time.second (c.time.subsec_nanosecond / 1_000_000)) (offset_text (pos 0) (pos 0)) 19 10 clock offset_short in
     let rest : length (codes "T" ++ time_text (utc c).time) ≤ 1 + (19 + 10) = joined (codes "T") (time_text (utc c).time) 1 (19 + 10) (omega arith) time in
     let whole : length (date_time_text (utc c)) ≤ 15 + (1 + (19 + 10)) = joined (date_text (date_of c.date)) (codes "T" ++ time_text (utc c).time) 15 (1 + (19 + 10)) date rest in
     omega arith

@@ -6,9 +6,9 @@ use Rattle.std.proofs.lemmas.Option.{cond_some, option_and_then_some, some_pair_
 use Rattle.scan_core.specs.Digits.{AreDigits, number_of}
 use Rattle.iso8601.specs.Fields.{IsOrZero}
 use Rattle.iso8601.specs.Prefixes.{Begins}
-use Rattle.iso8601.specs.Times.{IsFraction}
+use Rattle.iso8601.specs.Times.{IsMilliseconds}
 use Rattle.iso8601.specs.inside.GrammarParts.{IsPoint}
-use Rattle.iso8601.specs.Durations.{IsNumber, IsCount, IsDecimal, IsClock}
+use Rattle.iso8601.specs.Durations.{IsNumberOf32Bits, IsCount, IsDecimal, IsDurationClock}
 use Rattle.iso8601.specs.inside.GrammarParts.{IsSeconds, IsPerhapsClock}
 use Rattle.iso8601.specs.inside.Reading.{number_in, read_mark}
 use Rattle.scan_core.specs.Fronts.{front_digits, after_digits}
@@ -24,7 +24,7 @@ use Rattle.iso8601.proofs.Optional.{Optional, Marks, IsBoth, both_marks, both_op
 abbrev pub seen : ℕ → ℕ → List ℕ → Peeked
 seen number letter behind = record { number = number; letter = letter; behind = behind }
 
-pub peek_exact : (digits rest : List ℕ) (letter value : ℕ) → IsNumber digits value → is_ascii_digit letter ≡ false → peek (digits ++ letter ∷ rest) ≡ Some (seen value letter rest)
+pub peek_exact : (digits rest : List ℕ) (letter value : ℕ) → IsNumberOf32Bits digits value → is_ascii_digit letter ≡ false → peek (digits ++ letter ∷ rest) ≡ Some (seen value letter rest)
 unfolding peek
 peek_exact digits rest letter value n h =
     let front : front_digits (digits ++ letter ∷ rest) ≡ digits = front_of digits (letter ∷ rest) n.all_digits h in
@@ -41,7 +41,7 @@ letter_made number (b ∷ bs) p h =
     let P : Option Peeked → Type 0 = λ o. IsSeen number (b ∷ bs) o in
     subst P h (refl, refl)
 
-pub peek_sound : (bytes : List ℕ) (p : Peeked) → peek bytes ≡ Some p → (digits : List ℕ) × IsNumber digits p.number × (bytes ≡ digits ++ p.letter ∷ p.behind)
+pub peek_sound : (bytes : List ℕ) (p : Peeked) → peek bytes ≡ Some p → (digits : List ℕ) × IsNumberOf32Bits digits p.number × (bytes ≡ digits ++ p.letter ∷ p.behind)
 unfolding peek
 peek_sound bytes p h =
     option_and_then_some _ _ _ h (λ number is made.
@@ -76,7 +76,7 @@ count_sound unit bytes rest value h =
     let parts = some_pair_parts _ _ _ _ (ap Some test.1) in
     let n = peek_sound bytes p found in
     let here : p.letter ≡ unit = eqb-true p.letter unit test.0 in
-    let P : ℕ → Type 0 = λ v. IsNumber n.0 v in (
+    let P : ℕ → Type 0 = λ v. IsNumberOf32Bits n.0 v in (
       n.0 ++ unit ∷ [],
       record { digits = n.0; number = subst P parts.0 n.1; joined = refl },
       n.2 ∙ ap (λ (l : List ℕ). n.0 ++ l) (ap (λ (c : ℕ). c ∷ p.behind) here ∙ ap (λ (l : List ℕ). unit ∷ l) parts.1) ∙ sym (append_assoc n.0 (unit ∷ []) rest),
@@ -108,21 +108,21 @@ no_number unit b bs h = rw h refl
 
 -- ---- seconds
 
-closed_made : (bytes digits : List ℕ) (p : Peeked) (o : Option (List ℕ)) → IsNumber digits p.number → bytes ≡ digits ++ p.letter ∷ p.behind → IsPoint (p.letter ∷ []) → read_mark 83 (after_digits p.behind) ≡ o
+closed_made : (bytes digits : List ℕ) (p : Peeked) (o : Option (List ℕ)) → IsNumberOf32Bits digits p.number → bytes ≡ digits ++ p.letter ∷ p.behind → IsPoint (p.letter ∷ []) → read_mark 83 (after_digits p.behind) ≡ o
     → Begins IsSeconds bytes (closed_by bytes (p.number, millis_of (front_digits p.behind)) o).0 (closed_by bytes (p.number, millis_of (front_digits p.behind)) o).1
 unfolding millis_of
 closed_made bytes digits p None n split point h = ([], inl (inl (refl, refl), refl), refl)
 closed_made bytes digits p (Some rest) n split point h =
     let fd : List ℕ = front_digits p.behind in
     let behind : p.behind ≡ fd ++ 83 ∷ rest = sym (front_and_after p.behind) ∙ ap (λ (l : List ℕ). fd ++ l) (letter_sound 83 (after_digits p.behind) rest h) in
-    let fraction : IsFraction (p.letter ∷ fd) (number_of (take 3 (fd ++ codes "000"))) =
+    let fraction : IsMilliseconds (p.letter ∷ fd) (number_of (take 3 (fd ++ codes "000"))) =
     record { point = p.letter ∷ []; digits = fd; mark = point; all_digits = front_are_digits p.behind; joined = refl; value = refl } in (
       digits ++ ((p.letter ∷ fd) ++ codes "S"),
       inr (record { digits = digits; fraction = p.letter ∷ fd; number = n; millis = fraction; joined = refl }),
       split ∙ ap (λ (l : List ℕ). digits ++ (p.letter ∷ l)) (behind ∙ sym (append_assoc fd (83 ∷ []) rest)) ∙ sym (append_assoc digits ((p.letter ∷ fd) ++ codes "S") rest),
     )
 
-seconds_if : (bytes digits : List ℕ) (p : Peeked) (whole point comma : Bool) → IsNumber digits p.number → bytes ≡ digits ++ p.letter ∷ p.behind
+seconds_if : (bytes digits : List ℕ) (p : Peeked) (whole point comma : Bool) → IsNumberOf32Bits digits p.number → bytes ≡ digits ++ p.letter ∷ p.behind
     → (whole ≡ true → p.letter ≡ 83) → (point ≡ true → p.letter ≡ 46) → (comma ≡ true → p.letter ≡ 44)
     → let some : (ℕ × ℕ) × List ℕ = read_closed bytes p.number p.behind in
     let r : (ℕ × ℕ) × List ℕ =
@@ -157,7 +157,7 @@ seconds_count : (text rest : List ℕ) (value : ℕ) → IsCount (codes "S") tex
 unfolding read_seconds
 seconds_count text rest value c = rw (count_some 83 text rest value refl c) refl
 
-seconds_point : (point digits fd rest : List ℕ) (value : ℕ) → IsPoint point → IsNumber digits value → AreDigits fd → read_seconds (digits ++ (point ++ (fd ++ 83 ∷ rest))) ≡ ((value, millis_of fd), rest)
+seconds_point : (point digits fd rest : List ℕ) (value : ℕ) → IsPoint point → IsNumberOf32Bits digits value → AreDigits fd → read_seconds (digits ++ (point ++ (fd ++ 83 ∷ rest))) ≡ ((value, millis_of fd), rest)
 unfolding read_seconds
 seconds_point point digits fd rest value (inl h) n d = rw (h, peek_exact digits (fd ++ 83 ∷ rest) 46 value n refl) (closed_at _ fd rest value d)
 seconds_point point digits fd rest value (inr h) n d = rw (h, peek_exact digits (fd ++ 83 ∷ rest) 44 value n refl) (closed_at _ fd rest value d)
@@ -191,7 +191,7 @@ seconds_exact text rest value (inr d) end = seconds_decimal text rest value d
 pub seconds_optional : Optional IsSeconds read_seconds (λ rest. rest ≡ [])
 seconds_optional = record { sound = seconds_sound; reach = seconds_reach; exact = seconds_exact }
 
-point_other : (other : ℕ) (point digits more : List ℕ) (value : ℕ) → (46 == other) ≡ false → (44 == other) ≡ false → IsPoint point → IsNumber digits value → NoCount other (digits ++ (point ++ more))
+point_other : (other : ℕ) (point digits more : List ℕ) (value : ℕ) → (46 == other) ≡ false → (44 == other) ≡ false → IsPoint point → IsNumberOf32Bits digits value → NoCount other (digits ++ (point ++ more))
 point_other other point digits more value p c (inl h) n = rw h (other_unit other (digits ++ 46 ∷ more) (seen value 46 more) (peek_exact digits more 46 value n refl) p)
 point_other other point digits more value p c (inr h) n = rw h (other_unit other (digits ++ 44 ∷ more) (seen value 44 more) (peek_exact digits more 44 value n refl) c)
 
@@ -214,7 +214,7 @@ clock_parts =
     let ends = both_marks (IsPerhapsCount (codes "M")) IsSeconds (NoCount 72) (count_marks 77 72 refl refl) (seconds_marks 72 refl refl refl) in
     both_optional (IsPerhapsCount (codes "H")) _ (read_perhaps 72) (read_both (read_perhaps 77) read_seconds) (NoCount 72) (λ rest. rest ≡ []) (count_optional 72 refl) late ends (nothing_left 72)
 
-parts_of : (text : List ℕ) (v : ℕ × (ℕ × (ℕ × ℕ))) (c : IsClock text v) → IsClockParts (c.hour_text ++ (c.minute_text ++ c.second_text)) v
+parts_of : (text : List ℕ) (v : ℕ × (ℕ × (ℕ × ℕ))) (c : IsDurationClock text v) → IsClockParts (c.hour_text ++ (c.minute_text ++ c.second_text)) v
 parts_of text v c =
     record { first = c.hour_text; second = c.minute_text ++ c.second_text; is_first = c.hours; is_second = record { first = c.minute_text; second = c.second_text; is_first = c.minutes; is_second = c.seconds; joined = refl }; joined = refl }
 
@@ -240,7 +240,7 @@ clock_sound : (bytes : List ℕ) → Begins IsPerhapsClock bytes (read_clock byt
 clock_sound [] = ([], inl (refl, refl), refl)
 clock_sound (b ∷ bs) = clock_if (b == 84) b bs (eqb-true b 84)
 
-clock_split : (text rest : List ℕ) (v : ℕ × (ℕ × (ℕ × ℕ))) (c : IsClock text v) → text ++ rest ≡ 84 ∷ ((c.hour_text ++ (c.minute_text ++ c.second_text)) ++ rest)
+clock_split : (text rest : List ℕ) (v : ℕ × (ℕ × (ℕ × ℕ))) (c : IsDurationClock text v) → text ++ rest ≡ 84 ∷ ((c.hour_text ++ (c.minute_text ++ c.second_text)) ++ rest)
 clock_split text rest v c = ap (λ (l : List ℕ). l ++ rest) c.joined
 
 clock_reach : (text rest : List ℕ) (v : ℕ × (ℕ × (ℕ × ℕ))) → IsPerhapsClock text v → length (read_clock (text ++ rest)).1 ≤ length rest

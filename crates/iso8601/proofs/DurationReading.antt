@@ -9,7 +9,7 @@ use Rattle.scan_core.specs.Digits.{AreDigits, number_of}
 use Rattle.scan_core.proofs.DigitFacts.{digits-append, number_of-lt}
 use Rattle.scan_core.specs.Fields.{IsField}
 use Rattle.iso8601.specs.inside.GrammarParts.{IsPerhaps}
-use Rattle.iso8601.specs.Durations.{IsNumber, IsCounted, IsDated, IsDuration}
+use Rattle.iso8601.specs.Durations.{IsNumberOf32Bits, IsCounted, IsDated, IsDuration}
 use Rattle.iso8601.specs.inside.GrammarParts.{IsPerhapsClock, IsWeeks, IsBody}
 use Rattle.iso8601.specs.inside.Reading.{or_else}
 use Rattle.iso8601.specs.inside.TimeReading.{read_both, read_time}
@@ -243,16 +243,16 @@ dated_sound bytes rest d h =
 abbrev pub PeeksDate : List ℕ → Type 0
 PeeksDate bytes = (p : Peeked) × (peek bytes ≡ Some p) × IsNoUnit p.letter × ((p.letter == 87) ≡ false)
 
-run_is_number : (digits : List ℕ) → 0 < length digits → length digits ≤ 8 → AreDigits digits → IsNumber digits (number_of digits)
+run_is_number : (digits : List ℕ) → 0 < length digits → length digits ≤ 8 → AreDigits digits → IsNumberOf32Bits digits (number_of digits)
 run_is_number digits some short all =
     let below = number_of-lt digits all in
     let most : 10 ^ length digits ≤ 10 ^ 8 = pow-le-pow_right {n = 10} (omega arith) {i = length digits} {j = 8} short in
     record { some = some; all_digits = all; number = refl; fits = omega arith }
 
-peeks_hyphen : (digits more : List ℕ) → IsNumber digits (number_of digits) → PeeksDate (digits ++ 45 ∷ more)
+peeks_hyphen : (digits more : List ℕ) → IsNumberOf32Bits digits (number_of digits) → PeeksDate (digits ++ 45 ∷ more)
 peeks_hyphen digits more n = (seen (number_of digits) 45 more, peek_exact digits more 45 _ n refl, (refl, refl, refl), refl)
 
-peeks_t : (digits more : List ℕ) → IsNumber digits (number_of digits) → PeeksDate (digits ++ 84 ∷ more)
+peeks_t : (digits more : List ℕ) → IsNumberOf32Bits digits (number_of digits) → PeeksDate (digits ++ 84 ∷ more)
 peeks_t digits more n = (seen (number_of digits) 84 more, peek_exact digits more 84 _ n refl, (refl, refl, refl), refl)
 
 dated_peek_at : (year first month second day more : List ℕ) (y m d : ℕ) → IsField 4 0 9999 year y → IsPerhaps (45 ∷ []) first → IsField 2 1 12 month m → IsPerhaps (45 ∷ []) second → IsField 2 1 31 day d

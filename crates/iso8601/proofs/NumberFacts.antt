@@ -6,7 +6,7 @@ use Rattle.std.specs.Str.Parse.{digits_value_after}
 use Rattle.scan_core.specs.Digits.{AreDigits, number_of}
 use Rattle.scan_core.specs.Fronts.{NoDigitFirst, front_digits}
 use Rattle.scan_core.proofs.FrontFacts.{front_are_digits}
-use Rattle.iso8601.specs.Durations.{IsNumber}
+use Rattle.iso8601.specs.Durations.{IsNumberOf32Bits}
 use Rattle.iso8601.specs.inside.Reading.{number_in}
 
 -- ---- which digits write one
@@ -17,7 +17,7 @@ fits_test a b h k = grind (arith, nat_tests)
 misfits_test : (a b : ℕ) → (a ≡ 0) ⊎ (2 ^ 32 ≤ b) → (nat_lt 0 a && nat_lt b (2 ^ 32)) ≡ false
 misfits_test a b h = grind (arith, nat_tests)
 
-pub number_exact : (digits : List ℕ) (n : ℕ) → IsNumber digits n → number_in digits ≡ Some n
+pub number_exact : (digits : List ℕ) (n : ℕ) → IsNumberOf32Bits digits n → number_in digits ≡ Some n
 unfolding number_in
 number_exact digits n is = rw (fits_test (length digits) (number_of digits) is.some (omega (arith, is.number, is.fits)), is.number) refl
 
@@ -25,14 +25,14 @@ pub number_missing : (digits : List ℕ) → (length digits ≡ 0) ⊎ (2 ^ 32 �
 unfolding number_in
 number_missing digits h = rw (misfits_test (length digits) (number_of digits) h) refl
 
-number_if : (t : Bool) (digits : List ℕ) (n : ℕ) → AreDigits digits → (nat_lt 0 (length digits) && nat_lt (number_of digits) (2 ^ 32)) ≡ t → cond {A = Option ℕ} t (Some (number_of digits)) None ≡ Some n → IsNumber digits n
+number_if : (t : Bool) (digits : List ℕ) (n : ℕ) → AreDigits digits → (nat_lt 0 (length digits) && nat_lt (number_of digits) (2 ^ 32)) ≡ t → cond {A = Option ℕ} t (Some (number_of digits)) None ≡ Some n → IsNumberOf32Bits digits n
 number_if true digits n all e h =
     let same : n ≡ number_of digits = cc in
     let tests : (0 < length digits) × (number_of digits < 2 ^ 32) = grind (arith, nat_tests) in
     record { some = tests.0; all_digits = all; number = same; fits = omega (arith, tests.1) }
 number_if false digits n all e h = cc
 
-pub number_sound : (digits : List ℕ) (n : ℕ) → AreDigits digits → number_in digits ≡ Some n → IsNumber digits n
+pub number_sound : (digits : List ℕ) (n : ℕ) → AreDigits digits → number_in digits ≡ Some n → IsNumberOf32Bits digits n
 unfolding number_in
 number_sound digits n all h = number_if (nat_lt 0 (length digits) && nat_lt (number_of digits) (2 ^ 32)) digits n all refl h
 

@@ -6,7 +6,7 @@ use Rattle.std.proofs.lemmas.Fmt.{decimal_nonempty}
 use Rattle.scan_core.specs.Padded.{padded_digits}
 use Rattle.scan_core.proofs.DigitFacts.{digits_decimal, number_of-decimal}
 use Rattle.iso8601.specs.Fields.{IsOrZero}
-use Rattle.iso8601.specs.Durations.{IsNumber, IsCount, IsCounted, IsDuration}
+use Rattle.iso8601.specs.Durations.{IsNumberOf32Bits, IsCount, IsCounted, IsDuration}
 use Rattle.iso8601.specs.inside.GrammarParts.{IsSeconds, IsPerhapsClock}
 use Rattle.iso8601.specs.Ranges.{IsDurationInRange}
 use Rattle.iso8601.specs.WrittenDurations.{count_text, second_text, duration_text}
@@ -18,7 +18,7 @@ use Rattle.iso8601.proofs.SpelledFields.{fraction_spelled}
 
 -- ---- counts
 
-number_spelled : (n : ℕ) → n < 2 ^ 32 → IsNumber (decimal n) n
+number_spelled : (n : ℕ) → n < 2 ^ 32 → IsNumberOf32Bits (decimal n) n
 number_spelled n small =
     let fits : n < 2 ^ 64 = omega arith in
     record { some = decimal_nonempty n fits; all_digits = digits_decimal n fits; number = sym (number_of-decimal n fits); fits = small }

@@ -6,7 +6,7 @@ use Rattle.scan_core.specs.Digits.{number_of}
 use Rattle.scan_core.specs.Padded.{padded_digits}
 use Rattle.scan_core.proofs.PaddedFacts.{padded_field}
 use Rattle.iso8601.specs.Fields.{IsYear, IsMarked}
-use Rattle.iso8601.specs.Times.{IsFraction}
+use Rattle.iso8601.specs.Times.{IsMilliseconds}
 use Rattle.iso8601.specs.Written.{year_text}
 use Rattle.scan_core.specs.Number.{minus}
 use Rattle.scan_core.proofs.Signs.{is_negative-pos}
@@ -33,7 +33,7 @@ year_spelled (negsuc n) most =
 
 -- ---- milliseconds
 
-pub fraction_spelled : (n : ℕ) → n ≤ 999 → IsFraction (codes "." ++ padded_digits 3 n) n
+pub fraction_spelled : (n : ℕ) → n ≤ 999 → IsMilliseconds (codes "." ++ padded_digits 3 n) n
 fraction_spelled n most =
     let field = padded_field 3 0 999 n (omega arith) (omega arith) (omega arith) (omega arith) most in
     let three : take 3 (padded_digits 3 n ++ codes "000") ≡ padded_digits 3 n = take_at (padded_digits 3 n) (codes "000") 3 field.long in

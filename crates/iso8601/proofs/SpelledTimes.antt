@@ -10,7 +10,7 @@ use Rattle.iso8601.specs.Dates.{IsDate}
 use Rattle.iso8601.specs.DateTimes.{IsDateTime}
 use Rattle.iso8601.specs.Times.{IsOffset, IsTime}
 use Rattle.iso8601.specs.Ranges.{IsDateInRange, HaveOneSign, IsTimeInRange, IsDateTimeInRange}
-use Rattle.iso8601.specs.Written.{year_text, date_text, clock_text, offset_text, time_text, date_time_text}
+use Rattle.iso8601.specs.Written.{year_text, date_text, time_of_day_text, offset_text, time_text, date_time_text}
 use Rattle.iso8601.specs.declared.types.Date.{Date}
 use Rattle.iso8601.specs.declared.types.Date.TheVariants.{YMD, Week, Ordinal}
 use Rattle.iso8601.specs.declared.types.Time.{Time}
@@ -104,7 +104,7 @@ joins : (h m s f o : List ℕ) → (h ++ (codes ":" ++ (m ++ (codes ":" ++ (s ++
 joins h m s f o = simp append_assoc refl
 
 pub time_spelled : (t : Time) → IsTimeInRange t → IsTime (time_text t) t
-unfolding time_text clock_text
+unfolding time_text time_of_day_text
 time_spelled t r =
     record {
       hour_text = padded_digits 2 t.hour;

@@ -9,7 +9,7 @@ use Rattle.scan_core.proofs.DigitFacts.{test_from_digit}
 use Rattle.scan_core.proofs.FrontFacts.{front_of, after_of, front_are_digits, front_and_after}
 use Rattle.iso8601.specs.Fields.{IsOrZero}
 use Rattle.iso8601.specs.Prefixes.{Begins}
-use Rattle.iso8601.specs.Times.{IsFraction, IsSignedOffset, IsOffset}
+use Rattle.iso8601.specs.Times.{IsMilliseconds, IsSignedOffset, IsOffset}
 use Rattle.iso8601.specs.inside.GrammarParts.{IsPoint, IsLater}
 use Rattle.iso8601.specs.inside.Reading.{read_field, read_marked}
 use Rattle.scan_core.specs.Fronts.{front_digits, after_digits, NoDigitFirst}
@@ -49,7 +49,7 @@ after_joined : (digits rest : List ℕ) → AreDigits digits → after_digits (d
 after_joined [] rest d = refl
 after_joined (c ∷ cs) rest d = let yes = test_from_digit c d.0 in rw yes (after_joined cs rest d.1)
 
-pub made_fraction : (point : ℕ) (bs : List ℕ) → IsPoint (point ∷ []) → Begins (IsOrZero IsFraction) (point ∷ bs) (millis_of (front_digits bs)) (after_digits bs)
+pub made_fraction : (point : ℕ) (bs : List ℕ) → IsPoint (point ∷ []) → Begins (IsOrZero IsMilliseconds) (point ∷ bs) (millis_of (front_digits bs)) (after_digits bs)
 unfolding millis_of
 made_fraction point bs is = (
   point ∷ front_digits bs,
@@ -59,12 +59,12 @@ made_fraction point bs is = (
 
 fraction_if : (point comma : Bool) (b : ℕ) (bs : List ℕ) → (point ≡ true → b ≡ 46) → (comma ≡ true → b ≡ 44)
     → let some : ℕ × List ℕ = (millis_of (front_digits bs), after_digits bs) in
-    let r : ℕ × List ℕ = cond {A = ℕ × List ℕ} point some (cond {A = ℕ × List ℕ} comma some (0, b ∷ bs)) in Begins (IsOrZero IsFraction) (b ∷ bs) r.0 r.1
+    let r : ℕ × List ℕ = cond {A = ℕ × List ℕ} point some (cond {A = ℕ × List ℕ} comma some (0, b ∷ bs)) in Begins (IsOrZero IsMilliseconds) (b ∷ bs) r.0 r.1
 fraction_if true comma b bs is_point is_comma = made_fraction b bs (inl (ap (λ (c : ℕ). c ∷ []) (is_point refl)))
 fraction_if false true b bs is_point is_comma = made_fraction b bs (inr (ap (λ (c : ℕ). c ∷ []) (is_comma refl)))
 fraction_if false false b bs is_point is_comma = ([], inl (refl, refl), refl)
 
-pub fraction_sound : (bytes : List ℕ) → Begins (IsOrZero IsFraction) bytes (read_fraction bytes).0 (read_fraction bytes).1
+pub fraction_sound : (bytes : List ℕ) → Begins (IsOrZero IsMilliseconds) bytes (read_fraction bytes).0 (read_fraction bytes).1
 fraction_sound [] = ([], inl (refl, refl), refl)
 fraction_sound (b ∷ bs) = fraction_if (b == 46) (b == 44) b bs (eqb-true b 46) (eqb-true b 44)
 
@@ -72,12 +72,12 @@ behind_point : (point bs : List ℕ) → IsPoint point → read_fraction (point 
 behind_point point bs (inl h) = rw h refl
 behind_point point bs (inr h) = rw h refl
 
-pub fraction_at : (text rest : List ℕ) (value : ℕ) (f : IsFraction text value) → read_fraction (text ++ rest) ≡ (millis_of (f.digits ++ front_digits rest), after_digits rest)
+pub fraction_at : (text rest : List ℕ) (value : ℕ) (f : IsMilliseconds text value) → read_fraction (text ++ rest) ≡ (millis_of (f.digits ++ front_digits rest), after_digits rest)
 fraction_at text rest value f =
     let split : text ++ rest ≡ f.point ++ (f.digits ++ rest) = ap (λ (x : List ℕ). x ++ rest) f.joined ∙ append_assoc f.point f.digits rest in
     rw (split, behind_point f.point (f.digits ++ rest) f.mark, front_joined f.digits rest f.all_digits, after_joined f.digits rest f.all_digits) refl
 
-fraction_reach : (text rest : List ℕ) (value : ℕ) → (IsOrZero IsFraction) text value → length (read_fraction (text ++ rest)).1 ≤ length rest
+fraction_reach : (text rest : List ℕ) (value : ℕ) → (IsOrZero IsMilliseconds) text value → length (read_fraction (text ++ rest)).1 ≤ length rest
 fraction_reach text rest value (inl none) = let s = fraction_sound rest in rw none.0 (shrinks rest s.0 (read_fraction rest).1 s.2)
 fraction_reach text rest value (inr f) = rw (fraction_at text rest value f) (shrinks rest (front_digits rest) (after_digits rest) (sym (front_and_after rest)))
 
@@ -89,13 +89,13 @@ no_digits : (rest : List ℕ) → StopsFraction rest → NoDigitFirst rest
 no_digits [] s = tt
 no_digits (b ∷ bs) s = s.0
 
-fraction_exact : (text rest : List ℕ) (value : ℕ) → (IsOrZero IsFraction) text value → StopsFraction rest → read_fraction (text ++ rest) ≡ (value, rest)
+fraction_exact : (text rest : List ℕ) (value : ℕ) → (IsOrZero IsMilliseconds) text value → StopsFraction rest → read_fraction (text ++ rest) ≡ (value, rest)
 unfolding millis_of
 fraction_exact text rest value (inl none) s = rw (none.0, none.1) (no_point rest s)
 fraction_exact text rest value (inr f) s =
     rw (fraction_at text rest value f, front_of [] rest tt (no_digits rest s), after_of [] rest tt (no_digits rest s), append-nil f.digits, f.value) refl
 
-pub fraction_optional : Optional (IsOrZero IsFraction) read_fraction StopsFraction
+pub fraction_optional : Optional (IsOrZero IsMilliseconds) read_fraction StopsFraction
 fraction_optional = record { sound = fraction_sound; reach = fraction_reach; exact = fraction_exact }
 
 -- ---- the offset
@@ -180,7 +180,7 @@ point_marks : (point bs : List ℕ) → IsPoint point → StopsField (point ++ b
 point_marks point bs (inl h) = rw h (refl, refl)
 point_marks point bs (inr h) = rw h (refl, refl)
 
-fraction_marks : Marks (IsOrZero IsFraction) StopsField
+fraction_marks : Marks (IsOrZero IsMilliseconds) StopsField
 fraction_marks text value (inl none) = inl none.0
 fraction_marks text value (inr f) =
     inr (λ rest.
@@ -194,5 +194,5 @@ offset_stops text value o =
       | inr marks ↦ inr (λ rest. (marks rest).1)
     ]
 
-pub seconds_end : Marks (IsBoth (IsOrZero IsFraction) IsOffset) StopsField
-seconds_end = both_marks (IsOrZero IsFraction) IsOffset StopsField fraction_marks offset_stops
+pub seconds_end : Marks (IsBoth (IsOrZero IsMilliseconds) IsOffset) StopsField
+seconds_end = both_marks (IsOrZero IsMilliseconds) IsOffset StopsField fraction_marks offset_stops

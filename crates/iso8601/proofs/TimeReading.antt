@@ -4,7 +4,7 @@ use Rattle.std.proofs.lemmas.Option.{option_and_then_some, some_pair_parts}
 use Rattle.iso8601.specs.declared.types.Time.{Time}
 use Rattle.scan_core.specs.Fields.{IsField}
 use Rattle.iso8601.specs.Fields.{IsOrZero}
-use Rattle.iso8601.specs.Times.{IsFraction, IsOffset, IsTime}
+use Rattle.iso8601.specs.Times.{IsMilliseconds, IsOffset, IsTime}
 use Rattle.iso8601.specs.inside.GrammarParts.{IsLater}
 use Rattle.iso8601.specs.inside.TimeReading.{read_later, read_fraction, read_offset, read_both, read_tail, time_of, read_time}
 use Rattle.iso8601.proofs.Longest.{Sound, Reach}
@@ -14,7 +14,7 @@ use Rattle.iso8601.proofs.TimeParts.{StopsField, StopsFraction, later_optional, 
 
 -- the seconds, the fraction and the offset
 abbrev IsTail : List ℕ → ℕ × (ℕ × (ℤ × ℤ)) → Type 0
-IsTail = IsBoth (IsOrZero (IsLater 60)) (IsBoth (IsOrZero IsFraction) IsOffset)
+IsTail = IsBoth (IsOrZero (IsLater 60)) (IsBoth (IsOrZero IsMilliseconds) IsOffset)
 
 ends_fraction : (rest : List ℕ) → rest ≡ [] → StopsFraction rest
 ends_fraction rest end = rw end tt
@@ -25,8 +25,8 @@ ends_field rest end = rw end tt
 tail_optional : Optional IsTail read_tail (λ rest. rest ≡ [])
 unfolding read_tail
 tail_optional =
-    let behind = both_optional (IsOrZero IsFraction) IsOffset read_fraction read_offset StopsFraction (λ rest. rest ≡ []) fraction_optional offset_optional fraction_end ends_fraction in
-    both_optional (IsOrZero (IsLater 60)) (IsBoth (IsOrZero IsFraction) IsOffset) (read_later 60) (read_both read_fraction read_offset) StopsField (λ rest. rest ≡ []) (later_optional 60) behind seconds_end ends_field
+    let behind = both_optional (IsOrZero IsMilliseconds) IsOffset read_fraction read_offset StopsFraction (λ rest. rest ≡ []) fraction_optional offset_optional fraction_end ends_fraction in
+    both_optional (IsOrZero (IsLater 60)) (IsBoth (IsOrZero IsMilliseconds) IsOffset) (read_later 60) (read_both read_fraction read_offset) StopsField (λ rest. rest ≡ []) (later_optional 60) behind seconds_end ends_field
 
 abbrev tail_values : Time → ℕ × (ℕ × (ℤ × ℤ))
 tail_values t = (t.second, (t.millisecond, (t.tz_offset_hours, t.tz_offset_minutes)))

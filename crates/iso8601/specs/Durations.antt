@@ -3,13 +3,13 @@ use Rattle.std.specs.Prelude.{◌≡◌, ◌≢◌, ℕ, ◌<◌, ◌^◌, ◌�
 use Rattle.scan_core.specs.Digits.{AreDigits, number_of}
 use Rattle.scan_core.specs.Fields.{IsField}
 use Rattle.iso8601.specs.Fields.{IsMarked, IsOrZero}
-use Rattle.iso8601.specs.Times.{IsFraction, IsTime}
+use Rattle.iso8601.specs.Times.{IsMilliseconds, IsTime}
 use Rattle.iso8601.specs.declared.types.Time.{Time}
 use Rattle.iso8601.specs.declared.types.Duration.{Duration}
 use Rattle.iso8601.specs.declared.types.Duration.TheVariants.{YMDHMS, Weeks}
 
 -- digits, one or more, of a number of 32 bits
-pub record IsNumber (digits : List ℕ) (value : ℕ) : Type 0 where
+pub record IsNumberOf32Bits (digits : List ℕ) (value : ℕ) : Type 0 where
   pub some : 0 < length digits
   pub all_digits : AreDigits digits
   pub number : value ≡ number_of digits
@@ -18,19 +18,19 @@ pub record IsNumber (digits : List ℕ) (value : ℕ) : Type 0 where
 -- a number and the letter of its unit
 pub record IsCount (unit text : List ℕ) (value : ℕ) : Type 0 where
   pub digits : List ℕ
-  pub number : IsNumber digits value
+  pub number : IsNumberOf32Bits digits value
   pub joined : text ≡ digits ++ unit
 
 -- seconds with a fraction, and `S`
 pub record IsDecimal (text : List ℕ) (value : ℕ × ℕ) : Type 0 where
   pub digits : List ℕ
   pub fraction : List ℕ
-  pub number : IsNumber digits value.0
-  pub millis : IsFraction fraction value.1
+  pub number : IsNumberOf32Bits digits value.0
+  pub millis : IsMilliseconds fraction value.1
   pub joined : text ≡ digits ++ (fraction ++ codes "S")
 
 -- `T`, and perhaps hours, minutes and seconds
-pub record IsClock (text : List ℕ) (value : ℕ × (ℕ × (ℕ × ℕ))) : Type 0 where
+pub record IsDurationClock (text : List ℕ) (value : ℕ × (ℕ × (ℕ × ℕ))) : Type 0 where
   pub hour_text : List ℕ
   pub minute_text : List ℕ
   pub second_text : List ℕ
@@ -53,7 +53,7 @@ pub record IsCounted (text : List ℕ) (duration : Duration) : Type 0 where
   pub years : IsOrZero (IsCount (codes "Y")) year_text year
   pub months : IsOrZero (IsCount (codes "M")) month_text month
   pub days : IsOrZero (IsCount (codes "D")) day_text day
-  pub clocks : ((clock_text ≡ []) × (clock ≡ (0, (0, (0, 0))))) ⊎ IsClock clock_text clock
+  pub clocks : ((clock_text ≡ []) × (clock ≡ (0, (0, (0, 0))))) ⊎ IsDurationClock clock_text clock
   pub some : text ≢ []
   pub joined : text ≡ year_text ++ (month_text ++ (day_text ++ clock_text))
   pub value : duration ≡ YMDHMS year month day clock.0 clock.1.0 clock.1.1.0 clock.1.1.1

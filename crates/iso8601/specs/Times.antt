@@ -8,7 +8,7 @@ use Rattle.iso8601.specs.Fields.{IsMarked, IsOrZero}
 use Rattle.iso8601.specs.declared.types.Time.{Time}
 
 -- a point or a comma, and digits, of which three count; filled with zeros on the right they are milliseconds
-pub record IsFraction (text : List ℕ) (millis : ℕ) : Type 0 where
+pub record IsMilliseconds (text : List ℕ) (millis : ℕ) : Type 0 where
   pub point : List ℕ
   pub digits : List ℕ
   pub mark : (point ≡ codes ".") ⊎ (point ≡ codes ",")
@@ -34,7 +34,8 @@ IsOffset text offset =
     ((text ≡ []) × (offset ≡ (pos 0, pos 0)))
     ⊎ (((text ≡ codes "Z") × (offset ≡ (pos 0, pos 0))) ⊎ IsSignedOffset text offset)
 
--- the text is a time
+-- The text is a time. A fraction is one of a second, also behind minutes without seconds: `16:43.5` is 16:43:00.5, where ISO 8601 has a
+-- fraction be one of the last field, and this be 16:43:30.
 pub record IsTime (text : List ℕ) (time : Time) : Type 0 where
   pub hour_text : List ℕ
   pub minute_text : List ℕ
@@ -44,6 +45,6 @@ pub record IsTime (text : List ℕ) (time : Time) : Type 0 where
   pub hours : IsField 2 0 24 hour_text time.hour
   pub minutes : IsMarked (codes ":") 2 0 59 minute_text time.minute
   pub seconds : IsOrZero (IsMarked (codes ":") 2 0 60) second_text time.second
-  pub fractions : IsOrZero IsFraction fraction time.millisecond
+  pub fractions : IsOrZero IsMilliseconds fraction time.millisecond
   pub offsets : IsOffset offset (time.tz_offset_hours, time.tz_offset_minutes)
   pub joined : text ≡ hour_text ++ (minute_text ++ (second_text ++ (fraction ++ offset)))

@@ -23,8 +23,8 @@ date_text (Week year ww d) =
 date_text (Ordinal year ddd) = year_text year ++ (codes "-" ++ padded_digits 3 ddd)
 
 -- `16:43:16.123`
-unfoldable pub clock_text : ℕ → ℕ → ℕ → ℕ → List ℕ
-clock_text hour minute second millisecond =
+unfoldable pub time_of_day_text : ℕ → ℕ → ℕ → ℕ → List ℕ
+time_of_day_text hour minute second millisecond =
     padded_digits 2 hour ++ (codes ":"
     ++ (padded_digits 2 minute ++ (codes ":"
     ++ (padded_digits 2 second ++ (codes "." ++ padded_digits 3 millisecond)))))
@@ -44,10 +44,12 @@ offset_text hours minutes =
     ++ (two_wide (if governed then neg_ℤ hours else hours)
     ++ (codes ":" ++ two_wide (if governed then neg_ℤ minutes else minutes)))
 
+-- `16:43:16.123+02:00`
 unfoldable pub time_text : Time → List ℕ
 time_text t =
-    clock_text t.hour t.minute t.second t.millisecond
+    time_of_day_text t.hour t.minute t.second t.millisecond
     ++ offset_text t.tz_offset_hours t.tz_offset_minutes
 
+-- a date, `T` and a time
 unfoldable pub date_time_text : DateTime → List ℕ
 date_time_text t = date_text t.date ++ (codes "T" ++ time_text t.time)

@@ -3,7 +3,7 @@ ghost use Rattle.std.specs.Prelude.{◌≡◌, ◌+◌, ◌≤◌, ◌++◌, len
 ghost use Rattle.arrayvec.specs.ArrayString.{array_string_len};
 ghost use Rattle.scan_core.specs.Padded.{padded_digits};
 ghost use Rattle.std.specs.Int.{is_negative};
-ghost use Rattle.iso8601.specs.Written.{clock_text, date_text, date_time_text, offset_text, time_text, two_wide, year_text};
+ghost use Rattle.iso8601.specs.Written.{time_of_day_text, date_text, date_time_text, offset_text, time_text, two_wide, year_text};
 ghost use Rattle.scan_core.specs.Number.{minus};
 ghost use Rattle.iso8601.specs.inside.WrittenParts.{governed_part};
 
@@ -85,12 +85,12 @@ fn push_date(out: &mut Short, date: Date)
 }
 
 /// Appends the hours, minutes, seconds and milliseconds of a time.
-#[tactic(auto, unfolding(crate::specs::Written::clock_text))]
+#[tactic(auto, unfolding(crate::specs::Written::time_of_day_text))]
 fn push_clock(out: &mut Short, time: &Time)
     requires { array_string_len out.old + 43 ≤ 128 }
     ensures bytes { out.new.bytes
         ≡ out.old.bytes
-        ++ clock_text time.now.hour time.now.minute time.now.second time.now.millisecond }
+        ++ time_of_day_text time.now.hour time.now.minute time.now.second time.now.millisecond }
     ensures len { array_string_len out.new ≤ array_string_len out.old + 43 }
 {
     push_digits(out, time.hour, 2);

@@ -20,7 +20,7 @@ use Rattle.pg_interval_2.specs.inside.IsoShapes.{date_unit, time_unit, ArePairs,
 use Rattle.pg_interval_2.specs.inside.IsoShapes.{IsStrictEither}
 use Rattle.pg_interval_2.specs.Postgres.{IsItem}
 use Rattle.pg_interval_2.specs.inside.PostgresParts.{IsPostgres}
-use Rattle.pg_interval_2.specs.Sql.{IsSignOr, IsYearMonth, IsDays, IsTime, AreSqlWords, IsSql}
+use Rattle.pg_interval_2.specs.Sql.{IsSignOr, IsYearMonth, IsDays, IsSqlTime, AreSqlWords, IsSql}
 use Rattle.pg_interval_2.specs.inside.SqlParts.{HasSeconds}
 use Rattle.pg_interval_2.specs.Styles.{Shape}
 use Rattle.pg_interval_2.specs.UnitNames.{postgres_names, verbose_names}
@@ -254,7 +254,7 @@ seconds_in negative piece counts (inl h) = same piece [] h.0 refl
 seconds_in negative piece counts (inr h) =
     joined piece (codes ":") (h.seconds ++ h.tail) h.joined colon (append h.seconds h.tail (digits_in h.seconds h.second_field.1) (fraction_in h.fraction h.tail h.point))
 
-time_in : (default : Bool) (word : List ℕ) (counts : List Count) → IsTime default word counts → In word
+time_in : (default : Bool) (word : List ℕ) (counts : List Count) → IsSqlTime default word counts → In word
 time_in default word counts h =
     let minutes = append h.minutes h.piece (digits_in h.minutes h.minute_field.1) (seconds_in h.negative h.piece h.second_counts h.seconds) in
     let with_colon = append (codes ":") (h.minutes ++ h.piece) colon minutes in

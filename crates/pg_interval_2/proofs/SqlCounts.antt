@@ -3,7 +3,7 @@ use Rattle.std.proofs.Common.{◌≡◌, ◌⊎◌, ℕ, cond, Bool, true, false
 use Rattle.scan_core.specs.Blanks.{is_blank, words, EndsWord}
 use Rattle.scan_core.specs.Count.{Count}
 use Rattle.pg_interval_2.specs.inside.ItemReading.{after_blanks}
-use Rattle.pg_interval_2.specs.Sql.{IsYearMonth, IsTime, AreSqlWords, IsSql}
+use Rattle.pg_interval_2.specs.Sql.{IsYearMonth, IsSqlTime, AreSqlWords, IsSql}
 use Rattle.pg_interval_2.specs.inside.SqlReading.{YearMonth, Days, word_counts, read_field, read_word, last_time, behind_date, behind_days, read_sql}
 use Rattle.pg_interval_2.proofs.Answering.{HasOneList}
 use Rattle.pg_interval_2.proofs.ItemWords.{first_word, words-after_blanks, words_in_front}
@@ -66,7 +66,7 @@ no_words bytes h = nothing_if (after_blanks bytes) (after_blanks-first bytes) (w
 
 -- ---- the words of a text are read
 
-one_word : (text word : List ℕ) (counts : List Count) → words text ≡ word ∷ [] → IsYearMonth word counts ⊎ IsTime false word counts
+one_word : (text word : List ℕ) (counts : List Count) → words text ≡ word ∷ [] → IsYearMonth word counts ⊎ IsSqlTime false word counts
     → read_sql text ≡ Some counts
 unfolding read_sql behind_date
 one_word text word counts h (inl date) =
@@ -82,7 +82,7 @@ one_word text word counts h (inr time) =
     rw (read, end) (ap (λ (l : List Count). Some l) (sym reads.counted))
 
 -- a time that ends the bytes, behind counts
-ends_in_time : (default : Bool) (bytes word : List ℕ) (before counts : List Count) → words bytes ≡ word ∷ [] → IsTime default word counts
+ends_in_time : (default : Bool) (bytes word : List ℕ) (before counts : List Count) → words bytes ≡ word ∷ [] → IsSqlTime default word counts
     → option_and_then (last_time before) (read_word default (after_blanks bytes)) ≡ Some (before ++ counts)
 ends_in_time default bytes word before counts h time =
     let found = begins_with bytes word [] h in

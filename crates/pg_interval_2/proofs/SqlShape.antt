@@ -8,7 +8,7 @@ use Rattle.scan_core.specs.Digits.{AreDigits, number_of}
 use Rattle.scan_core.proofs.DigitFacts.{digit_is_alone}
 use Rattle.pg_interval_2.specs.Denotes.{HasNoShape}
 use Rattle.pg_interval_2.specs.inside.ItemReading.{after_blanks}
-use Rattle.pg_interval_2.specs.Sql.{IsSignOr, IsYearMonth, IsDays, IsTime, AreSqlWords, IsSql}
+use Rattle.pg_interval_2.specs.Sql.{IsSignOr, IsYearMonth, IsDays, IsSqlTime, AreSqlWords, IsSql}
 use Rattle.pg_interval_2.specs.inside.SqlReading.{SqlWord, YearMonth, Days, Time, word_counts, read_word, last_time, days_and_time, behind_date, behind_days, read_words, read_sql}
 use Rattle.pg_interval_2.proofs.ItemFacts.{are_skipped}
 use Rattle.pg_interval_2.proofs.ItemWords.{words-after_blanks, words_in_front, no_blanks-append, digits_no_blanks}
@@ -63,7 +63,7 @@ are_days bytes rest negative days h = record {
 is_time :
     (default : Bool) (bytes rest : List ℕ) (negative : Bool) (hours minutes : List ℕ) (seconds : Option (List ℕ × List ℕ))
     (h : StandsWord default bytes (Time negative hours minutes seconds, rest))
-    → IsTime default (h.sign ++ h.body) (word_counts (Time negative hours minutes seconds))
+    → IsSqlTime default (h.sign ++ h.body) (word_counts (Time negative hours minutes seconds))
 is_time default bytes rest negative hours minutes seconds h =
     let behind = h.is.2 in
     record {
@@ -88,7 +88,7 @@ pub record TimeEnds (default : Bool) (bytes : List ℕ) (before counts : List Co
   pub word : List ℕ
   pub time_counts : List Count
   pub words_are : words bytes ≡ word ∷ []
-  pub time : IsTime default word time_counts
+  pub time : IsSqlTime default word time_counts
   pub counted : counts ≡ before ++ time_counts
 
 last_ends : (default : Bool) (bytes : List ℕ) (before counts : List Count) (r : SqlWord × List ℕ) → StandsWord default bytes r
@@ -194,7 +194,7 @@ words_found text counts (YearMonth negative years months, rest) h e = date_found
 words_found text counts (Days negative days, rest) h e = days_found text counts negative days rest h e
 words_found text counts (Time negative hours minutes seconds, rest) h e =
     let ends = last_ends false (after_blanks text) [] counts (Time negative hours minutes seconds, rest) h e in
-    by_words text (ends.word ∷ []) counts ends.words_are (inr (subst (IsTime false ends.word) (sym ends.counted) ends.time))
+    by_words text (ends.word ∷ []) counts ends.words_are (inr (subst (IsSqlTime false ends.word) (sym ends.counted) ends.time))
 
 pub is_sql : (text : List ℕ) (counts : List Count) → read_sql text ≡ Some counts → IsSql text counts
 unfolding read_sql

@@ -3,7 +3,7 @@ use Rattle.std.proofs.Common.{ℕ, ◌<◌, Bool, true, false, List, [], ◌++�
 use Rattle.scan_core.specs.Count.{Count}
 use Rattle.scan_core.proofs.WordFacts.{NoBlanks}
 use Rattle.scan_core.specs.Digits.{AreSomeDigits}
-use Rattle.pg_interval_2.specs.Sql.{IsSignOr, IsYearMonth, IsDays, IsTime}
+use Rattle.pg_interval_2.specs.Sql.{IsSignOr, IsYearMonth, IsDays, IsSqlTime}
 use Rattle.pg_interval_2.specs.inside.SqlParts.{HasSeconds}
 use Rattle.pg_interval_2.proofs.ItemWords.{no_blanks-append, digits_no_blanks, point_no_blanks}
 
@@ -39,7 +39,7 @@ seconds_clear negative piece counts (inr h) =
     let joined = h.joined in
     rw joined (refl, no_blanks-append h.seconds h.tail (digits_no_blanks h.seconds h.second_field.1) (point_no_blanks h.fraction h.tail h.point))
 
-pub time_solid : (default : Bool) (word : List ℕ) (counts : List Count) → IsTime default word counts → IsSolid word
+pub time_solid : (default : Bool) (word : List ℕ) (counts : List Count) → IsSqlTime default word counts → IsSolid word
 time_solid default word counts h =
     subst IsSolid (sym h.joined) (solid default h.negative h.sign h.hours (codes ":" ++ (h.minutes ++ h.piece)) h.signed h.hour_field
     (refl, no_blanks-append h.minutes h.piece (digits_no_blanks h.minutes h.minute_field.1) (seconds_clear h.negative h.piece h.second_counts h.seconds)))

@@ -13,7 +13,7 @@ use Rattle.scan_core.specs.Digits.{AreSomeDigits}
 use Rattle.pg_interval_2.specs.inside.ClockSteps.{hours_text, field_text, fraction_text, clock_steps}
 use Rattle.scan_core.specs.Number.{minus}
 use Rattle.pg_interval_2.specs.inside.PartSteps.{years_of, months_of, hours_of, minutes_of, seconds_of, subsecond_of}
-use Rattle.pg_interval_2.specs.Sql.{IsSignOr, IsYearMonth, IsDays, IsTime, AreSqlWords, IsSql}
+use Rattle.pg_interval_2.specs.Sql.{IsSignOr, IsYearMonth, IsDays, IsSqlTime, AreSqlWords, IsSql}
 use Rattle.scan_core.specs.Number.{sign_text}
 use Rattle.pg_interval_2.specs.inside.SqlSteps.{has_all_signs, year_month_text, signed_text, months_text, days_text, time_text, plain_text, sql_steps}
 use Rattle.pg_interval_2.proofs.ClockCounts.{micros_digits, uncut_micros, three_counts}
@@ -79,7 +79,7 @@ short_micros micros below =
     cond_both (micros == 0) _ _ (λ (digits : List ℕ). length digits ≤ 6) (λ _. omega arith) (λ _. omega (arith, length-padded 6 micros, length_decimal_micros micros below))
 
 time_is : (default negative : Bool) (sign : List ℕ) (micros : ℤ) → IsSignOr default negative sign → unsigned_abs micros ≤ 2 ^ 63
-    → IsTime default (sign ++ clock_steps 1 micros) (three_counts negative 1 micros)
+    → IsSqlTime default (sign ++ clock_steps 1 micros) (three_counts negative 1 micros)
 unfolding clock_steps hours_text field_text
 time_is default negative sign micros signed small = record {
   negative = negative;

@@ -7,7 +7,7 @@ use Rattle.scan_core.specs.declared.share.Unit.TheVariants.{Hour, Minute}
 use Rattle.scan_core.specs.Number.{IsFraction}
 use Rattle.scan_core.specs.Digits.{AreSomeDigits}
 use Rattle.pg_interval_2.specs.inside.ItemReading.{after_blanks}
-use Rattle.pg_interval_2.specs.Sql.{IsSignOr, IsYearMonth, IsDays, IsTime}
+use Rattle.pg_interval_2.specs.Sql.{IsSignOr, IsYearMonth, IsDays, IsSqlTime}
 use Rattle.pg_interval_2.specs.inside.SqlParts.{HasSeconds}
 use Rattle.pg_interval_2.specs.inside.SqlReading.{SqlWord, YearMonth, Days, Time, seconds_counts, word_counts, read_sign_or, read_field, read_seconds, read_perhaps_seconds, read_time, read_months, read_behind, closed_word, read_word}
 use Rattle.scan_core.specs.Fronts.{NoDigitFirst}
@@ -136,7 +136,7 @@ minutes_read : (negative : Bool) (hours minutes piece rest : List ℕ) (seconds 
 unfolding read_time
 minutes_read negative hours minutes piece rest seconds field n read = let found = field_read minutes (piece ++ rest) field n in rw (found, read) refl
 
-pub time_read : (default : Bool) (word rest : List ℕ) (counts : List Count) → IsTime default word counts → EndsWord rest
+pub time_read : (default : Bool) (word rest : List ℕ) (counts : List Count) → IsSqlTime default word counts → EndsWord rest
     → ReadsTime default word rest counts
 time_read default word rest counts h ends =
     let seconds = seconds_read h.negative h.piece rest h.second_counts h.seconds ends in

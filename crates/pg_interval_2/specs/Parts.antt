@@ -18,6 +18,7 @@ pub record Parts : Type 0 where
   pub seconds : ℕ
   pub micros : ℕ
 
+-- 12 months a year, 60 minutes an hour, 60 seconds a minute
 abbrev pub parts_of : Interval → Parts
 parts_of t = record {
   months_negative = is_negative t.months;

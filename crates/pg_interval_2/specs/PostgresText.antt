@@ -15,6 +15,7 @@ part_words plural negative n name =
     ∷ (if not plural && n == 1 then name else (name ++ codes "s"))
     ∷ [])
 
+-- the parts that aren't 0 with their names, and a clock where the time isn't 0
 unfoldable pub postgres_text : Interval → List ℕ
 postgres_text t =
     let p = parts_of t in

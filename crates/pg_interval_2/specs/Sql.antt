@@ -34,7 +34,7 @@ pub record IsDays (negative : Bool) (word : List ℕ) (counts : List Count) : Ty
   pub counted : counts ≡ count_of negative days [] Day ∷ []
 
 -- a colon and seconds, perhaps with a point and at most six digits: `:06`, `:06.5`
-pub record IsSeconds (negative : Bool) (piece : List ℕ) (counts : List Count) : Type 0 where
+pub record IsSqlSeconds (negative : Bool) (piece : List ℕ) (counts : List Count) : Type 0 where
   pub seconds : List ℕ
   pub fraction : List ℕ
   pub tail : List ℕ
@@ -45,7 +45,7 @@ pub record IsSeconds (negative : Bool) (piece : List ℕ) (counts : List Count) 
   pub counted : counts ≡ count_of negative seconds fraction Second ∷ []
 
 -- hours, a colon and minutes, perhaps with seconds: `4:05`, `-4:05:06.5`
-pub record IsTime (default : Bool) (word : List ℕ) (counts : List Count) : Type 0 where
+pub record IsSqlTime (default : Bool) (word : List ℕ) (counts : List Count) : Type 0 where
   pub negative : Bool
   pub sign : List ℕ
   pub hours : List ℕ
@@ -55,7 +55,7 @@ pub record IsTime (default : Bool) (word : List ℕ) (counts : List Count) : Typ
   pub signed : IsSignOr default negative sign
   pub hour_field : AreSomeDigits hours
   pub minute_field : AreSomeDigits minutes
-  pub seconds : ((piece ≡ []) × (second_counts ≡ [])) ⊎ IsSeconds negative piece second_counts
+  pub seconds : ((piece ≡ []) × (second_counts ≡ [])) ⊎ IsSqlSeconds negative piece second_counts
   pub joined : word ≡ sign ++ (hours ++ (codes ":" ++ (minutes ++ piece)))
   pub counted :
       counts ≡ count_of negative hours [] Hour ∷ count_of negative minutes [] Minute ∷ second_counts
@@ -63,13 +63,13 @@ pub record IsTime (default : Bool) (word : List ℕ) (counts : List Count) : Typ
 -- one to three words: a year-month or a time; days and a time, which without a sign of its own is negative where the days have a
 -- minus; or a year-month, days and a time, each of which without a sign is positive
 abbrev pub AreSqlWords : List (List ℕ) → List Count → Type 0
-AreSqlWords (word ∷ []) counts = IsYearMonth word counts ⊎ IsTime false word counts
+AreSqlWords (word ∷ []) counts = IsYearMonth word counts ⊎ IsSqlTime false word counts
 AreSqlWords (first ∷ second ∷ []) counts =
     (negative : Bool) × (days : List Count) × (time : List Count) × IsDays negative first days
-    × IsTime negative second time × (counts ≡ days ++ time)
+    × IsSqlTime negative second time × (counts ≡ days ++ time)
 AreSqlWords (first ∷ second ∷ third ∷ []) counts =
     (negative : Bool) × (date : List Count) × (days : List Count) × (time : List Count)
-    × IsYearMonth first date × IsDays negative second days × IsTime false third time
+    × IsYearMonth first date × IsDays negative second days × IsSqlTime false third time
     × (counts ≡ date ++ (days ++ time))
 AreSqlWords _ counts = ⊥
 

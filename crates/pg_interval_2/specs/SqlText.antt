@@ -16,6 +16,7 @@ needs_signs t =
     || (not (int_eq t.months (pos 0))
     && not (int_eq t.days (pos 0) && int_eq t.microseconds (pos 0)))
 
+-- a year-month, days and a time, each with its sign, or one or two of them under one sign
 unfoldable pub sql_text : Interval → List ℕ
 sql_text t =
     let p = parts_of t in

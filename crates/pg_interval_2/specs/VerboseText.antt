@@ -25,6 +25,7 @@ has_ago t =
     not (int_lt (pos 0) t.microseconds)
     && (p.months_negative || (p.days_negative || p.time_negative))
 
+-- `@`, the parts that aren't 0 with their names, and perhaps `ago`
 unfoldable pub verbose_text : Interval → List ℕ
 verbose_text t =
     let p = parts_of t in

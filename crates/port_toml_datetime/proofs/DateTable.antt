@@ -2,7 +2,7 @@
 use Rattle.std.proofs.Common.{◌≡◌, ℕ, ◌≤◌, pos, List, ◌∷◌, ◌++◌, None, codes, refl, ◌∙◌, ap, arith}
 use Rattle.scan_core.specs.Digits.{AreDigits, number_of}
 use Rattle.port_toml_datetime.specs.declared.date.Date.{Date}
-use Rattle.port_toml_datetime.specs.Dates.{IsDate}
+use Rattle.port_toml_datetime.specs.Dates.{IsFullDate}
 use Rattle.scan_core.specs.Calendar.{days_in_month}
 use Rattle.port_toml_datetime.specs.Tokens.{token, after, after_token}
 use Rattle.port_toml_datetime.specs.Checks.{first_failing, date_rows, after_date}
@@ -14,7 +14,7 @@ use Rattle.port_toml_datetime.proofs.Rows.{all_hold, none_fails}
 use Rattle.port_toml_datetime.proofs.FieldFacts.{is_length, within_is, is_within_them, field_made, four_made, field_run}
 
 pub record DateFound (year text : List ℕ) : Type 0 where
-  pub is : IsDate (year ++ (codes "-" ++ (token 0 text ++ (codes "-" ++ token 2 text)))) (date_of year text)
+  pub is : IsFullDate (year ++ (codes "-" ++ (token 0 text ++ (codes "-" ++ token 2 text)))) (date_of year text)
   pub joined : text ≡ token 0 text ++ (codes "-" ++ (token 2 text ++ after_date text))
 
 pub date_sound : (year text : List ℕ) → AreDigits year → first_failing (date_rows year text) ≡ None → DateFound year text
@@ -51,7 +51,7 @@ same_bound y m d a b c e f g h = rw (← e, ← f, ← g) h
 same_date : (y m d : ℕ) (date : Date) → date.year ≡ y → date.month ≡ m → date.day ≡ d → ◌≡◌ {A = Date} (record { year = y; month = m; day = d }) date
 same_date y m d date e f g = rw (← e, ← f, ← g) refl
 
-pub date_exact : (text rest : List ℕ) (date : Date) (i : IsDate text date) → NoDigitFirst rest → DateRead i.year_text (i.month_text ++ (codes "-" ++ (i.day_text ++ rest))) date rest
+pub date_exact : (text rest : List ℕ) (date : Date) (i : IsFullDate text date) → NoDigitFirst rest → DateRead i.year_text (i.month_text ++ (codes "-" ++ (i.day_text ++ rest))) date rest
 unfolding date_rows date_of
 date_exact text rest date i n =
     let month = field_run 2 1 12 i.month_text (45 ∷ (i.day_text ++ rest)) date.month i.months (omega arith) refl in

@@ -11,14 +11,14 @@ use Rattle.port_toml_datetime.specs.declared.offset.Offset.{Offset}
 use Rattle.port_toml_datetime.specs.declared.offset.Offset.TheVariants.{Z, Custom}
 use Rattle.port_toml_datetime.specs.declared.datetime.Datetime.{Datetime}
 use Rattle.scan_core.specs.Fields.{IsField}
-use Rattle.port_toml_datetime.specs.Dates.{IsDate}
+use Rattle.port_toml_datetime.specs.Dates.{IsFullDate}
 use Rattle.scan_core.specs.Calendar.{is_leap_year, days_in_month}
-use Rattle.port_toml_datetime.specs.Times.{nanoseconds, IsSecondFraction, IsTime}
+use Rattle.port_toml_datetime.specs.Times.{nanoseconds, IsSecondFraction, IsPartialTime}
 use Rattle.port_toml_datetime.specs.inside.GrammarParts.{IsPerhapsSeconds}
-use Rattle.port_toml_datetime.specs.Offsets.{IsOffset}
+use Rattle.port_toml_datetime.specs.Offsets.{IsTimeOffset}
 use Rattle.port_toml_datetime.specs.Datetimes.{IsDatetime, datetime_of}
 use Rattle.scan_core.proofs.TrimmedFacts.{Fills, trimmed_fills}
-use Rattle.port_toml_datetime.specs.Texts.{or_zero, fraction_text, date_text, second_text, time_text, offset_text, part_text, delimiter_text, text_of}
+use Rattle.port_toml_datetime.specs.Texts.{or_zero, fraction_text, full_date_text, partial_second_text, partial_time_text, time_offset_text, part_text, delimiter_text, text_of}
 use Rattle.port_toml_datetime.specs.WellFormed.{IsRealDay, AreRealSeconds, IsRealTime, IsOffsetInRange, AreWellFormed, IsWellFormed}
 
 -- ---- fields
@@ -72,8 +72,8 @@ month_if false leap false = omega arith
 days_short : (year month : ℕ) → days_in_month (pos year) month < 100
 days_short year month = month_if (month == 2) (is_leap_year (pos year)) (((month == 4 || month == 6) || month == 9) || month == 11)
 
-date_back : (d : Date) → IsRealDay d → IsDate (date_text d) d
-unfolding date_text
+date_back : (d : Date) → IsRealDay d → IsFullDate (full_date_text d) d
+unfolding full_date_text
 date_back d r =
     record {
       year_text = padded_digits 4 d.year;
@@ -85,7 +85,7 @@ date_back d r =
       joined = refl;
     }
 
-seconds_back : (s n : Option ℕ) → AreRealSeconds s n → IsPerhapsSeconds (second_text s n) s n
+seconds_back : (s n : Option ℕ) → AreRealSeconds s n → IsPerhapsSeconds (partial_second_text s n) s n
 seconds_back None None a = inl (refl, refl, refl)
 seconds_back None (Some n) a = absurd a
 seconds_back (Some s) None a =
@@ -93,13 +93,13 @@ seconds_back (Some s) None a =
 seconds_back (Some s) (Some n) a =
     inr (record { digits = padded_digits 2 s; fraction = codes "." ++ fraction_text n; number = s; field = two_field 0 60 s (omega arith) (omega arith) a.0; fractions = inr (fraction_back n a.1); joined = refl; value = refl })
 
-time_back : (t : Time) → IsRealTime t → IsTime (time_text t) t
-unfolding time_text
+time_back : (t : Time) → IsRealTime t → IsPartialTime (partial_time_text t) t
+unfolding partial_time_text
 time_back t c =
     record {
       hour_text = padded_digits 2 t.hour;
       minute_text = padded_digits 2 t.minute;
-      second_text = second_text t.second t.nanosecond;
+      second_text = partial_second_text t.second t.nanosecond;
       hours = two_field 0 23 t.hour (omega arith) (omega arith) c.hour;
       minutes = two_field 0 59 t.minute (omega arith) (omega arith) c.minute;
       seconds = seconds_back t.second t.nanosecond c.seconds;
@@ -112,8 +112,8 @@ minutes_whole n = omega arith
 negative_is : (n : ℕ) → negsuc n ≡ neg_ℤ (pos (n + 1))
 negative_is n = let e : n + 1 ≡ suc n = omega arith in rw e refl
 
-offset_back : (o : Offset) → IsOffsetInRange o → IsOffset (offset_text o) o
-unfolding offset_text
+offset_back : (o : Offset) → IsOffsetInRange o → IsTimeOffset (time_offset_text o) o
+unfolding time_offset_text
 offset_back Z near = inl (inl refl, refl)
 offset_back (Custom (pos n)) near =
     inr (record {
@@ -143,13 +143,13 @@ offset_back (Custom (negsuc n)) near =
 -- ---- the whole
 
 parts_back : (d : Option Date) (t : Option Time) (o : Option Offset) → AreWellFormed d t o
-    → IsDatetime (part_text date_text d ++ (delimiter_text d t ++ (part_text time_text t ++ part_text offset_text o))) (datetime_of d t o)
+    → IsDatetime (part_text full_date_text d ++ (delimiter_text d t ++ (part_text partial_time_text t ++ part_text time_offset_text o))) (datetime_of d t o)
 parts_back (Some d) (Some t) (Some o) w =
-    inl (record { date_text = date_text d; delimiter = codes "T"; time_text = time_text t; offset_text = offset_text o; date = d; time = t; offset = Some o; dates = date_back d w.0; delimits = inl refl; times = time_back t w.1; offsets = inr (o, offset_back o w.2, refl); joined = refl; made = refl })
+    inl (record { date_text = full_date_text d; delimiter = codes "T"; time_text = partial_time_text t; offset_text = time_offset_text o; date = d; time = t; offset = Some o; dates = date_back d w.0; delimits = inl refl; times = time_back t w.1; offsets = inr (o, offset_back o w.2, refl); joined = refl; made = refl })
 parts_back (Some d) (Some t) None w =
-    inl (record { date_text = date_text d; delimiter = codes "T"; time_text = time_text t; offset_text = []; date = d; time = t; offset = None; dates = date_back d w.0; delimits = inl refl; times = time_back t w.1; offsets = inl (refl, refl); joined = refl; made = refl })
-parts_back (Some d) None None w = inr (inl (d, rw (append-nil (date_text d)) (date_back d w), refl))
-parts_back None (Some t) None w = inr (inr (t, rw (append-nil (time_text t)) (time_back t w), refl))
+    inl (record { date_text = full_date_text d; delimiter = codes "T"; time_text = partial_time_text t; offset_text = []; date = d; time = t; offset = None; dates = date_back d w.0; delimits = inl refl; times = time_back t w.1; offsets = inl (refl, refl); joined = refl; made = refl })
+parts_back (Some d) None None w = inr (inl (d, rw (append-nil (full_date_text d)) (date_back d w), refl))
+parts_back None (Some t) None w = inr (inr (t, rw (append-nil (partial_time_text t)) (time_back t w), refl))
 parts_back (Some d) None (Some o) w = absurd w
 parts_back None None o w = absurd w
 parts_back None (Some t) (Some o) w = absurd w

@@ -7,8 +7,8 @@ use Rattle.port_toml_datetime.specs.declared.date.Date.{Date}
 use Rattle.port_toml_datetime.specs.declared.time.Time.{Time}
 use Rattle.port_toml_datetime.specs.declared.offset.Offset.{Offset}
 use Rattle.port_toml_datetime.specs.declared.datetime.Datetime.{Datetime}
-use Rattle.port_toml_datetime.specs.Dates.{IsDate}
-use Rattle.port_toml_datetime.specs.Times.{IsTime}
+use Rattle.port_toml_datetime.specs.Dates.{IsFullDate}
+use Rattle.port_toml_datetime.specs.Times.{IsPartialTime}
 use Rattle.scan_core.specs.Number.{sign_text}
 use Rattle.port_toml_datetime.specs.Datetimes.{IsDateAndTime, IsDatetime, datetime_of}
 use Rattle.port_toml_datetime.specs.inside.GrammarParts.{IsDelimiter, IsPerhapsOffset}
@@ -26,7 +26,7 @@ use Rattle.port_toml_datetime.proofs.OffsetTable.{offset_sound, offset_exact}
 
 -- ---- what the checks let through
 
-full_time_sound : (date : Date) (date_text delimiter text : List ℕ) → IsDate date_text date → IsDelimiter delimiter → first_failing (full_time_rows text) ≡ None
+full_time_sound : (date : Date) (date_text delimiter text : List ℕ) → IsFullDate date_text date → IsDelimiter delimiter → first_failing (full_time_rows text) ≡ None
     → IsDateAndTime (date_text ++ (delimiter ++ text)) (date_time_of date text)
 unfolding full_time_rows date_time_of
 full_time_sound date date_text delimiter text is delimits h =
@@ -55,7 +55,7 @@ full_time_sound date date_text delimiter text is delimits h =
       made = refl;
     }
 
-tail_sound : (date : Date) (date_text text : List ℕ) → IsDate date_text date → first_failing (tail_rows text) ≡ None → IsDatetime (date_text ++ text) (tail_of date text)
+tail_sound : (date : Date) (date_text text : List ℕ) → IsFullDate date_text date → first_failing (tail_rows text) ≡ None → IsDatetime (date_text ++ text) (tail_of date text)
 unfolding tail_rows tail_of
 tail_sound date date_text [] is h = inr (inl (date, rw (append-nil date_text) is, refl))
 tail_sound date date_text (b ∷ bs) is h =
@@ -84,7 +84,7 @@ start_if true text e first m h =
     let last = end_sound (after_time (after 2 text)) (all_hold (end_row (after_time (after 2 text)) ∷ []) both.1).0 in
     let whole : after 2 text ≡ clock.0 = clock.2 ∙ ap (λ (l : List ℕ). clock.0 ++ l) last ∙ append-nil clock.0 in
     let split : text ≡ token 0 text ++ (58 ∷ clock.0) = first.joined ∙ ap (λ (l : List ℕ). token 0 text ++ l) (mark ∙ ap (λ (l : List ℕ). 58 ∷ l) whole) in
-    inr (inr (time_of (token 0 text) (after 2 text), subst (λ (l : List ℕ). IsTime l (time_of (token 0 text) (after 2 text))) (sym split) clock.1, refl))
+    inr (inr (time_of (token 0 text) (after 2 text), subst (λ (l : List ℕ). IsPartialTime l (time_of (token 0 text) (after 2 text))) (sym split) clock.1, refl))
 start_if false text e first m h =
     elim (either_sound 45 58 (after_token text) refl refl refl refl m) [
       | inl mark ↦
@@ -131,7 +131,7 @@ record FullTimeRead (date : Date) (text : List ℕ) (value : Datetime) : Type 0 
 five : (a b c d rest : List ℕ) → (a ++ (b ++ (c ++ d))) ++ rest ≡ a ++ (b ++ (c ++ (d ++ rest)))
 five a b c d rest = simp append_assoc refl
 
-full_time_exact : (date : Date) (time : Time) (offset : Option Offset) (time_text offset_text : List ℕ) → IsTime time_text time → IsPerhapsOffset offset_text offset
+full_time_exact : (date : Date) (time : Time) (offset : Option Offset) (time_text offset_text : List ℕ) → IsPartialTime time_text time → IsPerhapsOffset offset_text offset
     → FullTimeRead date (time_text ++ offset_text) (datetime_of (Some date) (Some time) offset)
 unfolding full_time_rows date_time_of
 full_time_exact date time offset time_text offset_text i o =
@@ -164,7 +164,7 @@ unfolding tail_rows tail_of
 nothing_behind date = record { first = tt; pass = refl; reads = refl }
 
 -- a date and its tail
-dated : (date : Date) (date_text text : List ℕ) (value : Datetime) → IsDate date_text date → TailRead date text value → Passes (date_text ++ text) value
+dated : (date : Date) (date_text text : List ℕ) (value : Datetime) → IsFullDate date_text date → TailRead date text value → Passes (date_text ++ text) value
 unfolding checks dated_rows value_of
 dated date date_text text value i t =
     let behind_year : List ℕ = i.month_text ++ (45 ∷ (i.day_text ++ text)) in
@@ -177,7 +177,7 @@ dated date date_text text value i t =
       reads = rw (year.follows, year.first) (rw (read.value, read.follows) t.reads);
     })
 
-local_time : (time : Time) (text : List ℕ) → IsTime text time → Passes text (datetime_of None (Some time) None)
+local_time : (time : Time) (text : List ℕ) → IsPartialTime text time → Passes text (datetime_of None (Some time) None)
 unfolding checks local_time_rows value_of
 local_time time text i =
     let tail : List ℕ = i.minute_text ++ (i.second_text ++ []) in

@@ -3,7 +3,7 @@ use Rattle.std.proofs.Common.{◌≡◌, ℕ, nat_le, Bool, true, false, cond, L
 use Rattle.std.specs.Prelude.{is_some, option_map}
 use Rattle.scan_core.specs.Digits.{AreDigits, number_of}
 use Rattle.port_toml_datetime.specs.declared.time.Time.{Time}
-use Rattle.port_toml_datetime.specs.Times.{nanoseconds, IsTime}
+use Rattle.port_toml_datetime.specs.Times.{nanoseconds, IsPartialTime}
 use Rattle.port_toml_datetime.specs.inside.GrammarParts.{IsPerhapsSecondFraction, IsPerhapsSeconds}
 use Rattle.port_toml_datetime.specs.Tokens.{first_token, after_token, token, after, is_digits, is_of}
 use Rattle.port_toml_datetime.specs.Checks.{first_failing, has_length, where_there, marked, after_marked, fraction, after_fraction, time_rows, after_time}
@@ -53,7 +53,7 @@ colon_if true text e h f two most =
 colon_if false text e h f two most = ([], inl (refl, refl, refl), refl)
 
 pub time_sound : (hour text : List ℕ) → AreDigits hour → first_failing (time_rows hour text) ≡ None
-    → (piece : List ℕ) × IsTime (hour ++ (codes ":" ++ piece)) (time_of hour text) × (text ≡ piece ++ after_time text)
+    → (piece : List ℕ) × IsPartialTime (hour ++ (codes ":" ++ piece)) (time_of hour text) × (text ≡ piece ++ after_time text)
 unfolding time_rows time_of after_time
 time_sound hour text digits h =
     let a = all_hold (time_rows hour text) h in
@@ -146,7 +146,7 @@ same_time : (h m : ℕ) (s n : Option ℕ) (time : Time) → time.hour ≡ h →
     → ◌≡◌ {A = Time} (record { hour = h; minute = m; second = s; nanosecond = n }) time
 same_time h m s n time e f g k = rw (← e, ← f, g, k) refl
 
-pub time_exact : (text rest : List ℕ) (time : Time) (i : IsTime text time) → Stops rest → TimeRead i.hour_text (i.minute_text ++ (i.second_text ++ rest)) time rest
+pub time_exact : (text rest : List ℕ) (time : Time) (i : IsPartialTime text time) → Stops rest → TimeRead i.hour_text (i.minute_text ++ (i.second_text ++ rest)) time rest
 unfolding time_rows time_of after_time
 time_exact text rest time i st =
     let minute = field_run 2 0 59 i.minute_text (i.second_text ++ rest) time.minute i.minutes (omega arith) (seconds_first i.second_text rest time.second time.nanosecond i.seconds st) in

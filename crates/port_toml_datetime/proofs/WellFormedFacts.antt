@@ -5,17 +5,17 @@ use Rattle.port_toml_datetime.specs.declared.time.Time.{Time}
 use Rattle.port_toml_datetime.specs.declared.offset.Offset.{Offset}
 use Rattle.port_toml_datetime.specs.declared.offset.Offset.TheVariants.{Custom}
 use Rattle.port_toml_datetime.specs.declared.datetime.Datetime.{Datetime}
-use Rattle.port_toml_datetime.specs.Dates.{IsDate}
-use Rattle.port_toml_datetime.specs.Times.{IsTime}
+use Rattle.port_toml_datetime.specs.Dates.{IsFullDate}
+use Rattle.port_toml_datetime.specs.Times.{IsPartialTime}
 use Rattle.port_toml_datetime.specs.inside.GrammarParts.{IsPerhapsSecondFraction, IsPerhapsSeconds}
 use Rattle.scan_core.specs.Shares.{signed}
-use Rattle.port_toml_datetime.specs.Offsets.{IsOffset}
+use Rattle.port_toml_datetime.specs.Offsets.{IsTimeOffset}
 use Rattle.port_toml_datetime.specs.Datetimes.{IsDatetime}
 use Rattle.port_toml_datetime.specs.inside.GrammarParts.{IsPerhapsOffset}
 use Rattle.port_toml_datetime.specs.WellFormed.{IsRealDay, AreRealSeconds, IsRealTime, IsOffsetInRange, AreWellFormed, IsWellFormed}
 use Rattle.port_toml_datetime.proofs.FractionFacts.{nine_short}
 
-real_day : (text : List ℕ) (date : Date) → IsDate text date → IsRealDay date
+real_day : (text : List ℕ) (date : Date) → IsFullDate text date → IsRealDay date
 real_day text date i = record { year = i.years.most; month = i.months.least; months = i.months.most; day = i.days.least; days = i.days.most }
 
 some_seconds : (s : ℕ) (piece : List ℕ) (value : Option ℕ) → s ≤ 60 → IsPerhapsSecondFraction piece value → AreRealSeconds (Some s) value
@@ -26,7 +26,7 @@ real_seconds : (piece : List ℕ) (second value : Option ℕ) → IsPerhapsSecon
 real_seconds piece second value (inl none) = rw (none.1, none.2) tt
 real_seconds piece second value (inr f) = rw f.value (some_seconds f.number f.fraction value f.field.most f.fractions)
 
-real_time : (text : List ℕ) (time : Time) → IsTime text time → IsRealTime time
+real_time : (text : List ℕ) (time : Time) → IsPartialTime text time → IsRealTime time
 real_time text time i = record { hour = i.hours.most; minute = i.minutes.most; seconds = real_seconds i.second_text time.second time.nanosecond i.seconds }
 
 signed_in_range : (negative : Bool) (n : ℕ) → n ≤ 1439 → IsOffsetInRange (Custom (signed negative n))
@@ -34,7 +34,7 @@ signed_in_range false n h = h
 signed_in_range true zero h = omega arith
 signed_in_range true (suc n) h = omega (arith, h)
 
-in_range : (text : List ℕ) (offset : Offset) → IsOffset text offset → IsOffsetInRange offset
+in_range : (text : List ℕ) (offset : Offset) → IsTimeOffset text offset → IsOffsetInRange offset
 in_range text offset (inl (is, z)) = rw z tt
 in_range text offset (inr i) = rw i.value (signed_in_range i.negative (60 * i.hour + i.minute) (omega (arith, i.hours.most, i.minutes.most)))
 

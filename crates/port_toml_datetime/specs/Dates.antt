@@ -6,7 +6,7 @@ use Rattle.scan_core.specs.Fields.{IsField}
 use Rattle.port_toml_datetime.specs.declared.date.Date.{Date}
 
 -- `YYYY-MM-DD`
-pub record IsDate (text : List ℕ) (date : Date) : Type 0 where
+pub record IsFullDate (text : List ℕ) (date : Date) : Type 0 where
   pub year_text : List ℕ
   pub month_text : List ℕ
   pub day_text : List ℕ

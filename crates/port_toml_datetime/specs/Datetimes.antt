@@ -2,9 +2,9 @@
 -- Date" and "Local Time". A text is a date, a time, or both with an offset or without. None of
 -- these goes before another.
 use Rattle.std.specs.Prelude.{◌≡◌, ◌⊎◌, ℕ, List, [], ◌++◌, codes, Option, Some, None}
-use Rattle.port_toml_datetime.specs.Dates.{IsDate}
-use Rattle.port_toml_datetime.specs.Times.{IsTime}
-use Rattle.port_toml_datetime.specs.Offsets.{IsOffset}
+use Rattle.port_toml_datetime.specs.Dates.{IsFullDate}
+use Rattle.port_toml_datetime.specs.Times.{IsPartialTime}
+use Rattle.port_toml_datetime.specs.Offsets.{IsTimeOffset}
 use Rattle.port_toml_datetime.specs.declared.date.Date.{Date}
 use Rattle.port_toml_datetime.specs.declared.time.Time.{Time}
 use Rattle.port_toml_datetime.specs.declared.offset.Offset.{Offset}
@@ -24,11 +24,11 @@ pub record IsDateAndTime (text : List ℕ) (value : Datetime) : Type 0 where
   pub date : Date
   pub time : Time
   pub offset : Option Offset
-  pub dates : IsDate date_text date
+  pub dates : IsFullDate date_text date
   pub delimits : (delimiter ≡ codes "T") ⊎ ((delimiter ≡ codes "t") ⊎ (delimiter ≡ codes " "))
-  pub times : IsTime time_text time
+  pub times : IsPartialTime time_text time
   pub offsets : ((offset_text ≡ []) × (offset ≡ None))
-      ⊎ ((o : Offset) × IsOffset offset_text o × (offset ≡ Some o))
+      ⊎ ((o : Offset) × IsTimeOffset offset_text o × (offset ≡ Some o))
   pub joined : text ≡ date_text ++ (delimiter ++ (time_text ++ offset_text))
   pub made : value ≡ datetime_of (Some date) (Some time) offset
 
@@ -36,5 +36,5 @@ pub record IsDateAndTime (text : List ℕ) (value : Datetime) : Type 0 where
 abbrev pub IsDatetime : List ℕ → Datetime → Type 0
 IsDatetime text value =
     IsDateAndTime text value
-    ⊎ (((date : Date) × IsDate text date × (value ≡ datetime_of (Some date) None None))
-    ⊎ ((time : Time) × IsTime text time × (value ≡ datetime_of None (Some time) None)))
+    ⊎ (((date : Date) × IsFullDate text date × (value ≡ datetime_of (Some date) None None))
+    ⊎ ((time : Time) × IsPartialTime text time × (value ≡ datetime_of None (Some time) None)))

@@ -20,6 +20,6 @@ pub record IsNumericOffset (text : List ℕ) (offset : Offset) : Type 0 where
   pub value : offset ≡ Custom (signed negative (60 * hour + minute))
 
 -- `Z`, `z`, or a sign and `HH:MM`
-abbrev pub IsOffset : List ℕ → Offset → Type 0
-IsOffset text offset =
+abbrev pub IsTimeOffset : List ℕ → Offset → Type 0
+IsTimeOffset text offset =
     (((text ≡ codes "Z") ⊎ (text ≡ codes "z")) × (offset ≡ Z)) ⊎ IsNumericOffset text offset

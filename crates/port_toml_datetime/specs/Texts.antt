@@ -14,25 +14,28 @@ abbrev pub or_zero : List ℕ → List ℕ
 or_zero [] = codes "0"
 or_zero (b ∷ bs) = b ∷ bs
 
+-- the digits of nanoseconds behind the point, without the zeros at their end
 unfoldable pub fraction_text : ℕ → List ℕ
 fraction_text nanosecond = or_zero (trimmed_digits (padded_digits 9 nanosecond))
 
-unfoldable pub date_text : Date → List ℕ
-date_text d =
+-- `1979-05-27`
+unfoldable pub full_date_text : Date → List ℕ
+full_date_text d =
     padded_digits 4 d.year ++ (codes "-"
     ++ (padded_digits 2 d.month ++ (codes "-" ++ padded_digits 2 d.day)))
 
 -- the second, which is 0 where a nanosecond stands alone, and the fraction
-abbrev pub second_text : Option ℕ → Option ℕ → List ℕ
-second_text None None = []
-second_text (Some s) None = codes ":" ++ padded_digits 2 s
-second_text None (Some n) = codes ":" ++ (padded_digits 2 0 ++ (codes "." ++ fraction_text n))
-second_text (Some s) (Some n) = codes ":" ++ (padded_digits 2 s ++ (codes "." ++ fraction_text n))
+abbrev pub partial_second_text : Option ℕ → Option ℕ → List ℕ
+partial_second_text None None = []
+partial_second_text (Some s) None = codes ":" ++ padded_digits 2 s
+partial_second_text None (Some n) = codes ":" ++ (padded_digits 2 0 ++ (codes "." ++ fraction_text n))
+partial_second_text (Some s) (Some n) = codes ":" ++ (padded_digits 2 s ++ (codes "." ++ fraction_text n))
 
-unfoldable pub time_text : Time → List ℕ
-time_text t =
+-- `07:32:00.5`
+unfoldable pub partial_time_text : Time → List ℕ
+partial_time_text t =
     padded_digits 2 t.hour ++ (codes ":" ++ (padded_digits 2 t.minute
-    ++ second_text t.second t.nanosecond))
+    ++ partial_second_text t.second t.nanosecond))
 
 -- `HH:MM` of so many minutes
 abbrev pub minutes_text : ℕ → List ℕ
@@ -44,10 +47,12 @@ abbrev pub signed_text : ℤ → List ℕ
 signed_text (pos n) = sign_text false ++ minutes_text n
 signed_text (negsuc n) = sign_text true ++ minutes_text (n + 1)
 
-unfoldable pub offset_text : Offset → List ℕ
-offset_text Z = codes "Z"
-offset_text (Custom minutes) = signed_text minutes
+-- `Z`, or a signed offset
+unfoldable pub time_offset_text : Offset → List ℕ
+time_offset_text Z = codes "Z"
+time_offset_text (Custom minutes) = signed_text minutes
 
+-- the text of a part, or nothing where there is none
 abbrev pub part_text : {A : Type 0} → (A → List ℕ) → Option A → List ℕ
 part_text text None = []
 part_text text (Some a) = text a
@@ -58,7 +63,8 @@ delimiter_text (Some d) (Some t) = codes "T"
 delimiter_text None t = []
 delimiter_text (Some d) None = []
 
+-- the parts that are there
 unfoldable pub text_of : Datetime → List ℕ
 text_of d =
-    part_text date_text d.date ++ (delimiter_text d.date d.time
-    ++ (part_text time_text d.time ++ part_text offset_text d.offset))
+    part_text full_date_text d.date ++ (delimiter_text d.date d.time
+    ++ (part_text partial_time_text d.time ++ part_text time_offset_text d.offset))

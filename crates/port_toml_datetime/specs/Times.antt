@@ -30,7 +30,7 @@ pub record IsSeconds (text : List ℕ) (second nanosecond : Option ℕ) : Type 0
   pub value : second ≡ Some number
 
 -- `HH:MM`, and perhaps `:SS`, and perhaps a fraction behind that
-pub record IsTime (text : List ℕ) (time : Time) : Type 0 where
+pub record IsPartialTime (text : List ℕ) (time : Time) : Type 0 where
   pub hour_text : List ℕ
   pub minute_text : List ℕ
   pub second_text : List ℕ

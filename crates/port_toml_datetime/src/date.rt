@@ -1,6 +1,6 @@
 //! Local dates: section "Local Date" of the TOML specification.
 ghost use Rattle.std.specs.Prelude.{Some};
-ghost use Rattle.port_toml_datetime.specs.Texts.{date_text};
+ghost use Rattle.port_toml_datetime.specs.Texts.{full_date_text};
 
 use crate::text::date_text;
 use std::fmt;
@@ -22,7 +22,7 @@ pub struct Date {
 
 /// `YYYY-MM-DD`, such as `1979-05-27`. A number that has more digits is written whole.
 impl Display for Date {
-    ghost output = { λ date. Some (date_text date) };
+    ghost output = { λ date. Some (full_date_text date) };
 
     fn fmt<W: fmt::Write>(&self, f: &mut fmt::Formatter<W>) -> fmt::Result {
         f.write_str(date_text(*self).as_str())

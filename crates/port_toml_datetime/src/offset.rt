@@ -1,6 +1,6 @@
 //! Offsets from UTC: section "Offset Date-Time" of the TOML specification.
 ghost use Rattle.std.specs.Prelude.{Some};
-ghost use Rattle.port_toml_datetime.specs.Texts.{offset_text};
+ghost use Rattle.port_toml_datetime.specs.Texts.{time_offset_text};
 
 use crate::text::offset_text;
 use std::fmt;
@@ -24,7 +24,7 @@ pub enum Offset {
 /// `Z`, or a sign and `HH:MM` of the magnitude: `-07:00`, `+00:00`. An hour with more digits is
 /// written whole: `i16::MIN` minutes are `-546:08`.
 impl Display for Offset {
-    ghost output = { λ offset. Some (offset_text offset) };
+    ghost output = { λ offset. Some (time_offset_text offset) };
 
     fn fmt<W: fmt::Write>(&self, f: &mut fmt::Formatter<W>) -> fmt::Result {
         f.write_str(offset_text(*self).as_str())

@@ -2,17 +2,17 @@
 ghost use Rattle.std.specs.Prelude.{◌≡◌, ◌+◌, ◌<◌, ◌≤◌, ◌++◌, codes};
 ghost use Rattle.arrayvec.specs.ArrayString.{array_string_len};
 ghost use Rattle.scan_core.specs.Padded.{padded_digits};
-ghost use Rattle.port_toml_datetime.specs.Texts.{date_text, delimiter_text, fraction_text, minutes_text, offset_text, part_text, second_text, signed_text, text_of, time_text};
+ghost use Rattle.port_toml_datetime.specs.Texts.{full_date_text, delimiter_text, fraction_text, minutes_text, time_offset_text, part_text, partial_second_text, signed_text, text_of, partial_time_text};
 
 use crate::number_text::{push_four, push_fraction, push_two};
 use crate::{Date, Datetime, Offset, Time};
 use scan_core::{Short, push_text};
 
 /// `YYYY-MM-DD`.
-#[tactic(auto, unfolding(crate::specs::Texts::date_text))]
+#[tactic(auto, unfolding(crate::specs::Texts::full_date_text))]
 fn push_date(out: &mut Short, date: Date)
     requires { array_string_len out.old + 13 ≤ 128 }
-    ensures bytes { out.new.bytes ≡ out.old.bytes ++ date_text date }
+    ensures bytes { out.new.bytes ≡ out.old.bytes ++ full_date_text date }
     ensures len { array_string_len out.new ≤ array_string_len out.old + 13 }
 {
     push_four(out, date.year);
@@ -45,7 +45,7 @@ fn push_point_fraction(out: &mut Short, nanosecond: u32)
 /// The second and its fraction, where they are there.
 fn push_seconds(out: &mut Short, second: Option<u8>, nanosecond: Option<u32>)
     requires { array_string_len out.old + 15 ≤ 128 }
-    ensures bytes { out.new.bytes ≡ out.old.bytes ++ second_text second nanosecond }
+    ensures bytes { out.new.bytes ≡ out.old.bytes ++ partial_second_text second nanosecond }
     ensures len { array_string_len out.new ≤ array_string_len out.old + 15 }
 {
     match (second, nanosecond) {
@@ -63,10 +63,10 @@ fn push_seconds(out: &mut Short, second: Option<u8>, nanosecond: Option<u32>)
 }
 
 /// `HH:MM`, and perhaps seconds and a fraction.
-#[tactic(auto, unfolding(crate::specs::Texts::time_text))]
+#[tactic(auto, unfolding(crate::specs::Texts::partial_time_text))]
 fn push_time(out: &mut Short, time: Time)
     requires { array_string_len out.old + 22 ≤ 128 }
-    ensures bytes { out.new.bytes ≡ out.old.bytes ++ time_text time }
+    ensures bytes { out.new.bytes ≡ out.old.bytes ++ partial_time_text time }
     ensures len { array_string_len out.new ≤ array_string_len out.old + 22 }
 {
     push_two(out, u16::from(time.hour));
@@ -103,10 +103,10 @@ fn push_signed(out: &mut Short, minutes: i16)
 }
 
 /// `Z`, or a sign and `HH:MM`.
-#[tactic(auto, unfolding(crate::specs::Texts::offset_text))]
+#[tactic(auto, unfolding(crate::specs::Texts::time_offset_text))]
 fn push_offset(out: &mut Short, offset: Offset)
     requires { array_string_len out.old + 8 ≤ 128 }
-    ensures bytes { out.new.bytes ≡ out.old.bytes ++ offset_text offset }
+    ensures bytes { out.new.bytes ≡ out.old.bytes ++ time_offset_text offset }
     ensures len { array_string_len out.new ≤ array_string_len out.old + 7 }
 {
     match offset {
@@ -118,7 +118,7 @@ fn push_offset(out: &mut Short, offset: Offset)
 /// The date, where there is one.
 fn push_part_date(out: &mut Short, date: Option<Date>)
     requires { array_string_len out.old + 13 ≤ 128 }
-    ensures bytes { out.new.bytes ≡ out.old.bytes ++ part_text date_text date }
+    ensures bytes { out.new.bytes ≡ out.old.bytes ++ part_text full_date_text date }
     ensures len { array_string_len out.new ≤ array_string_len out.old + 13 }
 {
     if let Some(date) = date {
@@ -142,7 +142,7 @@ fn push_delimiter(out: &mut Short, date: Option<Date>, time: Option<Time>)
 /// The time, where there is one.
 fn push_part_time(out: &mut Short, time: Option<Time>)
     requires { array_string_len out.old + 22 ≤ 128 }
-    ensures bytes { out.new.bytes ≡ out.old.bytes ++ part_text time_text time }
+    ensures bytes { out.new.bytes ≡ out.old.bytes ++ part_text partial_time_text time }
     ensures len { array_string_len out.new ≤ array_string_len out.old + 22 }
 {
     if let Some(time) = time {
@@ -153,7 +153,7 @@ fn push_part_time(out: &mut Short, time: Option<Time>)
 /// The offset, where there is one.
 fn push_part_offset(out: &mut Short, offset: Option<Offset>)
     requires { array_string_len out.old + 8 ≤ 128 }
-    ensures bytes { out.new.bytes ≡ out.old.bytes ++ part_text offset_text offset }
+    ensures bytes { out.new.bytes ≡ out.old.bytes ++ part_text time_offset_text offset }
     ensures len { array_string_len out.new ≤ array_string_len out.old + 7 }
 {
     if let Some(offset) = offset {
@@ -163,7 +163,7 @@ fn push_part_offset(out: &mut Short, offset: Option<Offset>)
 
 /// `YYYY-MM-DD`.
 pub(crate) fn date_text(date: Date) -> Short
-    ensures bytes { result.bytes ≡ date_text date }
+    ensures bytes { result.bytes ≡ full_date_text date }
 {
     let mut out = Short::new();
     push_date(&mut out, date);
@@ -172,7 +172,7 @@ pub(crate) fn date_text(date: Date) -> Short
 
 /// `HH:MM`, and perhaps seconds and a fraction.
 pub(crate) fn time_text(time: Time) -> Short
-    ensures bytes { result.bytes ≡ time_text time }
+    ensures bytes { result.bytes ≡ partial_time_text time }
 {
     let mut out = Short::new();
     push_time(&mut out, time);
@@ -181,7 +181,7 @@ pub(crate) fn time_text(time: Time) -> Short
 
 /// `Z`, or a sign and `HH:MM`.
 pub(crate) fn offset_text(offset: Offset) -> Short
-    ensures bytes { result.bytes ≡ offset_text offset }
+    ensures bytes { result.bytes ≡ time_offset_text offset }
 {
     let mut out = Short::new();
     push_offset(&mut out, offset);

@@ -1,6 +1,6 @@
 //! Local times: section "Local Time" of the TOML specification.
 ghost use Rattle.std.specs.Prelude.{Some};
-ghost use Rattle.port_toml_datetime.specs.Texts.{time_text};
+ghost use Rattle.port_toml_datetime.specs.Texts.{partial_time_text};
 
 use crate::text::time_text;
 use std::fmt;
@@ -29,7 +29,7 @@ pub struct Time {
 /// A nanosecond without a second stands behind `:00`. A number that has more digits is written
 /// whole.
 impl Display for Time {
-    ghost output = { λ time. Some (time_text time) };
+    ghost output = { λ time. Some (partial_time_text time) };
 
     fn fmt<W: fmt::Write>(&self, f: &mut fmt::Formatter<W>) -> fmt::Result {
         f.write_str(time_text(*self).as_str())

@@ -28,6 +28,7 @@ pub record IsReal (t : DateTime) : Type 0 where
   pub clock : IsOnClock t.time
   pub offset : unsigned_abs (offset_of t.time) < 86_400
 
+-- the moment, where there is one and its day is of the years -9999 to 9999
 abbrev pub Worth : DateTime → Result Value Cause → Type 0
 Worth t = Judged (IsReal t) (IsCivilDay (day_of t.date)) (Instant (instant_of t))
 

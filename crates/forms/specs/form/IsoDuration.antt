@@ -16,6 +16,7 @@ triple_of months days micros =
     if nat_lt micros (2 ^ 63) then Ok (Triple (pos months) (pos days) (pos micros))
     else Err Range
 
+-- 12 months a year and 7 days a week
 abbrev pub worth : Duration → Result Value Cause
 worth (YMDHMS year month day hour minute second millisecond) =
     triple_of (12 * year + month) day
@@ -55,6 +56,7 @@ held_length nanos =
     )
     else Err Range
 
+-- the duration of a value
 abbrev pub held : Value → Result Duration Cause
 held (Triple months days micros) = held_triple months days micros
 held (Length nanos) = held_length nanos

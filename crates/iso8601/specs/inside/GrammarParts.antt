@@ -2,7 +2,7 @@
 use Rattle.std.specs.Prelude.{◌≡◌, ℕ, ℤ, ◌⊎◌, List, [], ◌++◌, codes}
 use Rattle.scan_core.specs.Fields.{IsField}
 use Rattle.iso8601.specs.Dates.{IsMonthDay, IsWeekDay}
-use Rattle.iso8601.specs.Durations.{IsClock, IsCount, IsCounted, IsDated, IsDecimal}
+use Rattle.iso8601.specs.Durations.{IsDurationClock, IsCount, IsCounted, IsDated, IsDecimal}
 use Rattle.iso8601.specs.Fields.{IsMarked, IsOrZero}
 use Rattle.iso8601.specs.declared.types.Date.{Date}
 use Rattle.iso8601.specs.declared.types.Date.TheVariants.{Ordinal}
@@ -32,7 +32,7 @@ IsPoint text = (text ≡ codes ".") ⊎ (text ≡ codes ",")
 
 -- the same, or nothing, which means zeros
 abbrev pub IsPerhapsClock : List ℕ → ℕ × (ℕ × (ℕ × ℕ)) → Type 0
-IsPerhapsClock text value = ((text ≡ []) × (value ≡ (0, (0, (0, 0))))) ⊎ IsClock text value
+IsPerhapsClock text value = ((text ≡ []) × (value ≡ (0, (0, (0, 0))))) ⊎ IsDurationClock text value
 
 -- weeks alone
 abbrev pub IsWeeks : List ℕ → Duration → Type 0

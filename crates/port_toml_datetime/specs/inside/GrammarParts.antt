@@ -1,6 +1,6 @@
 -- Parts of the grammar by names that private contracts alone cite.
 use Rattle.std.specs.Prelude.{◌≡◌, ◌⊎◌, ℕ, List, [], codes, Option, Some, None}
-use Rattle.port_toml_datetime.specs.Offsets.{IsOffset}
+use Rattle.port_toml_datetime.specs.Offsets.{IsTimeOffset}
 use Rattle.port_toml_datetime.specs.Times.{IsSecondFraction, IsSeconds}
 use Rattle.port_toml_datetime.specs.declared.offset.Offset.{Offset}
 
@@ -11,7 +11,7 @@ IsDelimiter text = (text ≡ codes "T") ⊎ ((text ≡ codes "t") ⊎ (text ≡ 
 -- an offset, or nothing
 abbrev pub IsPerhapsOffset : List ℕ → Option Offset → Type 0
 IsPerhapsOffset text offset =
-    ((text ≡ []) × (offset ≡ None)) ⊎ ((o : Offset) × IsOffset text o × (offset ≡ Some o))
+    ((text ≡ []) × (offset ≡ None)) ⊎ ((o : Offset) × IsTimeOffset text o × (offset ≡ Some o))
 
 -- a fraction, or nothing
 abbrev pub IsPerhapsSecondFraction : List ℕ → Option ℕ → Type 0
