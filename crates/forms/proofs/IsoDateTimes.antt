@@ -19,7 +19,8 @@ use Rattle.iso8601.specs.declared.types.Date.{Date}
 use Rattle.iso8601.specs.DateTimes.{IsDateTime}
 use Rattle.iso8601.specs.Moments.{IsMoment, IsMomentOf, offset_of}
 use Rattle.iso8601.specs.Ranges.{IsDateTimeInRange, HaveOneSign}
-use Rattle.iso8601.specs.Written.{minus, year_text, date_text, time_of_day_text, two_wide, offset_text, time_text, date_time_text}
+use Rattle.iso8601.specs.Written.{year_text, date_text, time_of_day_text, two_wide, offset_text, time_text, date_time_text}
+use Rattle.scan_core.specs.Number.{minus}
 use Rattle.iso8601.specs.declared.types.Date.TheVariants.{YMD}
 use Rattle.iso8601.specs.declared.types.DateTime.{DateTime}
 use Rattle.iso8601.specs.declared.types.FixedMoment.{FixedMoment}
@@ -69,7 +70,6 @@ small : (width n : ℕ) → width ≤ 4 → n < 10 ^ 4 → length (padded_digits
 small width n w h = let digits = length-decimal-le 4 n (omega arith) h (omega arith) in let long = length-padded width n in omega arith
 
 minus_short : (negative : Bool) → length (minus negative) ≤ 1
-unfolding minus
 minus_short true = omega arith
 minus_short false = omega arith
 
