@@ -1,9 +1,11 @@
-//! The program: one reply to standard output for each line of standard input.
+//! The program: one reply to standard output for each line of standard input, or what a command says of the whole input.
 #![tactic(auto)]
 
+mod choice;
 mod streams;
 
-use forms::{RunEnd, top};
+use choice::pick;
+use forms::RunEnd;
 use std::alloc::Global;
 use std::env::{Env, args};
 use std::io;
@@ -18,9 +20,9 @@ fn main(rt: HostRuntime) -> ExitCode {
     let mut input = Input::new(rt.stdin());
     let mut output = Output::new(rt.stdout());
     let status = match joined_words(&rt, alloc) {
-        Ok(words) => top(alloc, words.as_str(), &mut input, &mut output),
+        Ok(words) => pick(alloc, words.as_str(), &mut input, &mut output),
         Err(error) if error.kind() == io::ErrorKind::OutOfMemory => RunEnd::NoMemory.status(),
-        Err(_) => top(alloc, UNREADABLE, &mut input, &mut output),
+        Err(_) => pick(alloc, UNREADABLE, &mut input, &mut output),
     };
     ExitCode::from(status)
 }
