@@ -1,10 +1,12 @@
-//! The conformance tables: each row's line goes through the program, and the reply must be the row's.
+//! The conformance tables: each row's line, or whole input, goes through the program, and the reply, or output, must be the row's.
 //! The rows stand in data/, each with the rule that it pins; they were reckoned apart from this program.
 #![tactic(auto)]
 
+mod input;
 mod row;
 
 use forms::{MemSink, MemSource, top};
+use input::input_agrees;
 use row::{Row, row_of};
 use std::alloc::{AllocError, Global};
 use std::rt::Files;
@@ -23,27 +25,54 @@ const TABLES: [&str; 9] = [
     "microsoft.tsv",
 ];
 
+/// The tables of whole inputs, in data/.
+const INPUT_TABLES: [&str; 1] = ["schedule.tsv"];
+
+/// What a row of a table asks for.
+#[derive(Clone, Copy)]
+enum Kind {
+    /// The reply to a line.
+    Line,
+    /// The output for a whole input.
+    Input,
+}
+
 fn main(rt: HostRuntime) -> io::Result<()> {
     for table in TABLES {
-        run_table(&rt, table)?;
+        run_table(&rt, table, Kind::Line)?;
+    }
+    for table in INPUT_TABLES {
+        run_table(&rt, table, Kind::Input)?;
     }
     Ok(())
 }
 
 /// Runs each row of a table, and tells which rows disagree and how many agree.
-fn run_table<R: Files + AllocGlobal + Print>(rt: &R, table: &str) -> io::Result<()> {
+fn run_table<R: Files + AllocGlobal + Print>(rt: &R, table: &str, kind: Kind) -> io::Result<()> {
     let text = fs::read_to_string(rt, table)?;
     let mut agreeing: u64 = 0;
     for line in text.lines() {
         if line.starts_with('#') {
             continue;
         }
-        match row_of(rt.alloc(), line)? {
-            Some(row) if agrees(rt.alloc(), &row)? => agreeing = agreeing.saturating_add(1),
-            _ => rt.println(format!(in rt.alloc(); "{table} disagrees: {line}")?)?,
+        if row_agrees(rt.alloc(), kind, line)? {
+            agreeing = agreeing.saturating_add(1);
+        } else {
+            rt.println(format!(in rt.alloc(); "{table} disagrees: {line}")?)?;
         }
     }
     rt.println(format!(in rt.alloc(); "{table}: {agreeing} rows agree")?)
+}
+
+/// Whether a line of a table spells a row, and the program answers it so.
+fn row_agrees(alloc: Global, kind: Kind, line: &str) -> Result<bool, AllocError> {
+    match kind {
+        Kind::Line => match row_of(alloc, line)? {
+            Some(row) => agrees(alloc, &row),
+            None => Ok(false),
+        },
+        Kind::Input => input_agrees(alloc, line),
+    }
 }
 
 /// Whether the program answers the row's line with the row's reply, and with status 0.

@@ -24,22 +24,31 @@ pub fn row_of(alloc: Global, text: &str) -> Result<Option<Row>, AllocError> {
 
 /// The bytes that a field spells, and a line feed.
 fn spelled_line(alloc: Global, field: &[u8]) -> Result<Vec<u8>, AllocError> {
+    let mut bytes = spelled(alloc, field)?;
+    bytes.push(b'\n')?;
+    Ok(bytes)
+}
+
+/// The bytes that a field spells.
+pub fn spelled(alloc: Global, field: &[u8]) -> Result<Vec<u8>, AllocError> {
     let mut bytes = Vec::new(alloc);
     let mut rest = field;
     while let Some((byte, after)) = spelled_byte(rest) {
         bytes.push(byte)?;
         rest = after;
     }
-    bytes.push(b'\n')?;
     Ok(bytes)
 }
 
-/// The byte that a field spells first, and what follows it: `\x0A` is one byte, each other character is itself.
+/// The byte that a field spells first, and what follows it: `\x0A` is one byte, and so are `\n` and `\t`, a line feed and a TAB. Each
+/// other character is itself.
 fn spelled_byte(field: &[u8]) -> Option<(u8, &[u8])>
     ensures shorter { IfSome result (λ r. length r.1.now < length field.now) }
 {
     match field {
         [b'\\', b'x', high, low, after @ ..] => Some((16 * value(*high) + value(*low), after)),
+        [b'\\', b'n', after @ ..] => Some((b'\n', after)),
+        [b'\\', b't', after @ ..] => Some((b'\t', after)),
         [byte, after @ ..] => Some((*byte, after)),
         [] => None,
     }

@@ -1,6 +1,6 @@
--- The invariant and the measure of the loop of `row::spelled_line`.
+-- The invariant and the measure of the loop of `row::spelled`.
 use Rattle.std.proofs.Common.{length}
-use Rattle.conformance.proofs.row.spelled_line.Given as goal
+use Rattle.conformance.proofs.row.spelled.Given as goal
 
 abbrev pub invariant-loop-byte : goal.invariant-loop-byte
 invariant-loop-byte l = Unit {0}
