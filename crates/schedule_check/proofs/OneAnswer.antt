@@ -1,5 +1,5 @@
 -- An input has one answer.
-use Rattle.std.proofs.Common.{◌≡◌, ◌⊎◌, ℕ, zero, suc, ◌+◌, ◌<◌, ◌≤◌, ◌==◌, true, false, true≢false, List, [], ◌∷◌, ◌++◌, length, All, AllPairs, get_or, slice_index_or, Result, Ok, Err, refl, sym, ◌∙◌, ap, subst, inl, inr, ⊎_elim, arith}
+use Rattle.std.proofs.Common.{◌≡◌, ◌⊎◌, ℕ, suc, ◌+◌, ◌<◌, ◌≤◌, ◌==◌, true, false, true≢false, List, [], ◌∷◌, ◌++◌, length, All, AllPairs, get_or, Result, Ok, Err, refl, sym, ◌∙◌, ap, subst, inl, inr, ⊎_elim, arith}
 use Rattle.std.proofs.lemmas.Bool.Decides.{nat_tests}
 use Rattle.std.proofs.lemmas.List.{get_or_default}
 use Rattle.std.proofs.lemmas.List.Sorted.{All-permutation}
@@ -11,10 +11,10 @@ use Rattle.forms.specs.declared.form.Form.{Form}
 use Rattle.forms.specs.declared.form.Form.TheVariants.{Toml, Fancy}
 use Rattle.forms.specs.declared.value.Value.{Value}
 use Rattle.forms.specs.form.FileTime as file_time
-use Rattle.whole_input.specs.Parts.{HasNo, IsSplitAt}
+use Rattle.whole_input.specs.Parts.{HasNo}
 use Rattle.whole_input.specs.Numbered.{AreRead, IsFirstFault}
 use Rattle.schedule_check.specs.Clashes.{IsNotAfter, IsOrderOf, Overlap, ClashAt, IsFirstClash, HasNoClash, slot_at}
-use Rattle.schedule_check.specs.Slots.{HasParts, ReadsAs, nanos_of, slot_of_length, IsSlotFrom, IsSlotOf, IsSlot}
+use Rattle.schedule_check.specs.Slots.{ReadsAs, nanos_of, slot_of_length, IsSlotFrom, IsSlotOf, IsSlot}
 use Rattle.schedule_check.specs.Checks.{IsSchedule, IsClashOf, Checks}
 use Rattle.schedule_check.specs.declared.check_error.CheckError.{CheckError}
 use Rattle.schedule_check.specs.declared.check_error.CheckError.TheVariants.{Refused, Clash, NoMemory}

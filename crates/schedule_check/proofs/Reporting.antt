@@ -1,51 +1,52 @@
 -- Lemmas on the report's lines.
-use Rattle.std.proofs.Common.{◌≡◌, ◌⊎◌, ℕ, zero, suc, ◌+◌, ◌<◌, ◌≤◌, List, [], ◌∷◌, ◌++◌, length, take, drop, get_or, Option, codes, decimal, Result, Ok, Err, OnErr, refl, sym, ◌∙◌, ap, subst, inl, inr, ⊎_elim, append_assoc, append-nil, add-one, arith}
-use Rattle.std.specs.Io.KnownBytes.{Appends}
+use Rattle.std.proofs.Common.{◌≡◌, ◌⊎◌, ℕ, zero, suc, ◌+◌, ◌<◌, List, [], ◌∷◌, ◌++◌, length, take, drop, get_or, Option, codes, decimal, Result, Ok, Err, OnErr, refl, sym, ◌∙◌, ap, ⊎_elim, append_assoc, append-nil, arith}
 use Rattle.forms.specs.Outside.{AppendsFront}
 use Rattle.whole_input.specs.Outcomes.{GainsPart}
 use Rattle.schedule_check.specs.Checks.{Checks}
 use Rattle.schedule_check.specs.Reports.{Reports, slot_line, slot_lines, clash_line, fault_line, fault_text, report_of, report_status}
 use Rattle.schedule_check.specs.declared.check_error.CheckError.{CheckError}
-use Rattle.schedule_check.specs.declared.check_error.CheckError.TheVariants.{Refused, Clash, NoMemory}
+use Rattle.schedule_check.specs.declared.check_error.CheckError.TheVariants.{NoMemory}
 use Rattle.schedule_check.specs.declared.fault.Fault.{Fault}
 use Rattle.schedule_check.specs.declared.slot.Slot.{Slot}
 
--- a label and digits that were pushed, in front of a rest
-pushed : (a b label digits rest : List ℕ) → b ≡ a ++ (label ++ digits) → b ++ rest ≡ a ++ (label ++ (digits ++ rest))
-pushed a b label digits rest h =
+-- a number and what stands behind it that were pushed, in front of a rest
+pushed : (a b digits behind rest : List ℕ) → b ≡ a ++ (digits ++ behind) → b ++ rest ≡ a ++ (digits ++ (behind ++ rest))
+pushed a b digits behind rest h =
     ap (λ (l : List ℕ). l ++ rest) h
-    ∙ (append_assoc a (label ++ digits) rest ∙ ap (λ (l : List ℕ). a ++ l) (append_assoc label digits rest))
+    ∙ (append_assoc a (digits ++ behind) rest ∙ ap (λ (l : List ℕ). a ++ l) (append_assoc digits behind rest))
 
-pub slot_pushed : (s : Slot) (a b c d e : List ℕ) → a ≡ [] → b ≡ a ++ (codes "" ++ decimal s.start) → c ≡ b ++ (codes " " ++ decimal s.end)
-    → d ≡ c ++ (codes " " ++ decimal s.line) → e ≡ d ++ codes "\n" → e ≡ slot_line s
+-- a first word in front of a rest
+first_word : (a b word rest : List ℕ) → a ≡ [] → b ≡ a ++ word → b ++ rest ≡ word ++ rest
+first_word a b word rest none h = ap (λ (l : List ℕ). l ++ rest) (h ∙ ap (λ (l : List ℕ). l ++ word) none)
+
+pub slot_pushed : (s : Slot) (a b c d : List ℕ) → a ≡ [] → b ≡ a ++ (decimal s.start ++ codes " ") → c ≡ b ++ (decimal s.end ++ codes " ")
+    → d ≡ c ++ (decimal s.line ++ codes "\n") → d ≡ slot_line s
 unfolding slot_line
-slot_pushed s a b c d e ha hb hc hd he =
-    let third : List ℕ = codes " " ++ (decimal s.line ++ codes "\n") in
-    let second : List ℕ = codes " " ++ (decimal s.end ++ third) in
-    let first : List ℕ = codes "" ++ (decimal s.start ++ second) in
-    he
-    ∙ (pushed c d (codes " ") (decimal s.line) (codes "\n") hd
-    ∙ (pushed b c (codes " ") (decimal s.end) third hc
-    ∙ (pushed a b (codes "") (decimal s.start) second hb ∙ ap (λ (l : List ℕ). l ++ first) ha)))
+slot_pushed s a b c d ha hb hc hd =
+    let third : List ℕ = decimal s.line ++ codes "\n" in
+    let second : List ℕ = decimal s.end ++ (codes " " ++ third) in
+    let first : List ℕ = decimal s.start ++ (codes " " ++ second) in
+    hd
+    ∙ (pushed b c (decimal s.end) (codes " ") third hc
+    ∙ (pushed a b (decimal s.start) (codes " ") second hb ∙ ap (λ (l : List ℕ). l ++ first) ha))
 
-pub clash_pushed : (first second : ℕ) (a b c d : List ℕ) → a ≡ [] → b ≡ a ++ (codes "clash " ++ decimal first) → c ≡ b ++ (codes " " ++ decimal second)
-    → d ≡ c ++ codes "\n" → d ≡ clash_line first second
+pub clash_pushed : (first second : ℕ) (a b c d : List ℕ) → a ≡ [] → b ≡ a ++ codes "clash " → c ≡ b ++ (decimal first ++ codes " ")
+    → d ≡ c ++ (decimal second ++ codes "\n") → d ≡ clash_line first second
 unfolding clash_line
 clash_pushed first second a b c d ha hb hc hd =
-    let rest : List ℕ = codes " " ++ (decimal second ++ codes "\n") in
+    let rest : List ℕ = decimal second ++ codes "\n" in
     hd
-    ∙ (pushed b c (codes " ") (decimal second) (codes "\n") hc
-    ∙ (pushed a b (codes "clash ") (decimal first) rest hb ∙ ap (λ (l : List ℕ). l ++ (codes "clash " ++ (decimal first ++ rest))) ha))
+    ∙ (pushed b c (decimal first) (codes " ") rest hc ∙ first_word a b (codes "clash ") (decimal first ++ (codes " " ++ rest)) ha hb)
 
-pub fault_pushed : (line : ℕ) (fault : Fault) (a b c d e : List ℕ) → a ≡ [] → b ≡ a ++ (codes "line " ++ decimal line) → c ≡ b ++ codes " "
+pub fault_pushed : (line : ℕ) (fault : Fault) (a b c d e : List ℕ) → a ≡ [] → b ≡ a ++ codes "line " → c ≡ b ++ (decimal line ++ codes " ")
     → d ≡ c ++ fault_text fault → e ≡ d ++ codes "\n" → e ≡ fault_line line fault
 unfolding fault_line
 fault_pushed line fault a b c d e ha hb hc hd he =
-    let both : d ≡ b ++ (codes " " ++ fault_text fault) = hd ∙ (ap (λ (l : List ℕ). l ++ fault_text fault) hc ∙ append_assoc b (codes " ") (fault_text fault)) in
-    let rest : List ℕ = codes " " ++ (fault_text fault ++ codes "\n") in
+    let rest : List ℕ = fault_text fault ++ codes "\n" in
     he
-    ∙ (pushed b d (codes " ") (fault_text fault) (codes "\n") both
-    ∙ (pushed a b (codes "line ") (decimal line) rest hb ∙ ap (λ (l : List ℕ). l ++ (codes "line " ++ (decimal line ++ rest))) ha))
+    ∙ (ap (λ (l : List ℕ). l ++ codes "\n") hd
+    ∙ (append_assoc c (fault_text fault) (codes "\n")
+    ∙ (pushed b c (decimal line) (codes " ") rest hc ∙ first_word a b (codes "line ") (decimal line ++ (codes " " ++ rest)) ha hb)))
 
 -- ---- all slots
 

@@ -14,10 +14,9 @@ pub fn slot_line(slot: Slot) -> Short
     ensures { result.bytes ≡ slot_line slot }
 {
     let mut out = Short::new();
-    push_count(&mut out, "", slot.start);
-    push_count(&mut out, " ", slot.end);
-    push_count(&mut out, " ", slot.line);
-    push_text(&mut out, "\n");
+    push_count(&mut out, slot.start, " ");
+    push_count(&mut out, slot.end, " ");
+    push_count(&mut out, slot.line, "\n");
     out
 }
 
@@ -26,9 +25,9 @@ pub fn clash_line(first: u64, second: u64) -> Short
     ensures { result.bytes ≡ clash_line first second }
 {
     let mut out = Short::new();
-    push_count(&mut out, "clash ", first);
-    push_count(&mut out, " ", second);
-    push_text(&mut out, "\n");
+    push_text(&mut out, "clash ");
+    push_count(&mut out, first, " ");
+    push_count(&mut out, second, "\n");
     out
 }
 
@@ -37,8 +36,8 @@ pub fn fault_line(line: u64, fault: Fault) -> Short
     ensures { result.bytes ≡ fault_line line fault }
 {
     let mut out = Short::new();
-    push_count(&mut out, "line ", line);
-    push_text(&mut out, " ");
+    push_text(&mut out, "line ");
+    push_count(&mut out, line, " ");
     push_fault(&mut out, fault);
     push_text(&mut out, "\n");
     out
@@ -69,13 +68,13 @@ fn push_cause(out: &mut Short, label: &str, cause: Cause)
     push_text(out, cause.name());
 }
 
-/// Appends a label of at most 9 bytes, and a number in decimal.
-fn push_count(out: &mut Short, label: &str, count: u64)
-    requires label { length label.now ≤ 9 }
+/// Appends a number in decimal, and what stands behind it, of at most 9 bytes.
+fn push_count(out: &mut Short, count: u64, behind: &str)
+    requires behind { length behind.now ≤ 9 }
     requires room { array_string_len out.old + 29 ≤ 128 }
-    ensures bytes { out.new.bytes ≡ out.old.bytes ++ (label.now ++ decimal count) }
+    ensures bytes { out.new.bytes ≡ out.old.bytes ++ (decimal count ++ behind.now) }
     ensures len { array_string_len out.new ≤ array_string_len out.old + 29 }
 {
-    push_text(out, label);
     push_num(out, count);
+    push_text(out, behind);
 }

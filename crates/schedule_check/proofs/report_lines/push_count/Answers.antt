@@ -6,12 +6,17 @@ use Rattle.schedule_check.proofs.report_lines.push_count.Goals as goal
 pub push_num-requires : goal.push_num-requires
 push_num-requires c =
     let short = length-decimal-le 20 c.args.count (omega arith) (omega arith) c.ranges.count.fits in
-    let label = c.push_text.ensures.len in
+    omega arith
+
+pub push_text-requires : goal.push_text-requires
+push_text-requires c =
+    let short = length-decimal-le 20 c.args.count (omega arith) (omega arith) c.ranges.count.fits in
+    let digits = c.push_num.ensures.len in
     omega arith
 
 pub returns-clause-len : goal.returns-clause-len
 returns-clause-len c =
     let short = length-decimal-le 20 c.args.count (omega arith) (omega arith) c.ranges.count.fits in
-    let label = c.push_text.ensures.len in
     let digits = c.push_num.ensures.len in
+    let behind = c.push_text.ensures.len in
     omega arith
