@@ -22,8 +22,10 @@ pub fn input_agrees(alloc: Global, line: &str) -> Result<bool, AllocError> {
     };
     let input = spelled(alloc, input.as_bytes())?;
     let output = spelled(alloc, output.as_bytes())?;
-    Ok(top_agrees(alloc, words, &input, &output, status)?
-        && call_agrees(alloc, words, &input, &output, status)?)
+    Ok(
+        top_agrees(alloc, words, &input, &output, status)?
+            && call_agrees(alloc, words, &input, &output, status)?,
+    )
 }
 
 /// Whether the program writes this output for an input, and ends with this status.

@@ -49,7 +49,8 @@ pub fn read_lines<X: Drop, F, R: ReadLine<X, F>>(
     reader: &R,
     text: &[u8],
 ) -> Result<Vec<X>, LineError<F>>
-    ensures ok { IfOk result (λ values. AreRead (R.is_read reader.now) 1 (lines text.now) values.items) }
+    ensures ok { IfOk result (λ values.
+        AreRead (R.is_read reader.now) 1 (lines text.now) values.items) }
     ensures refused { (line : ℕ) (fault : F) → IsErrOf result (LineError.Refused line fault)
         → IsFirstFault (R.is_read reader.now) (lines text.now) line fault }
 {
