@@ -1,0 +1,6 @@
+-- Bounds of numbers: cited by private contracts alone.
+use Rattle.std.specs.Prelude.{ℕ, ℤ, pos, neg_ℤ, ◌≤ℤ◌}
+
+-- from -n to n
+abbrev pub IsWithin : ℕ → ℤ → Type 0
+IsWithin n z = (neg_ℤ (pos n) ≤ℤ z) × (z ≤ℤ pos n)
