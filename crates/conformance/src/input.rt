@@ -2,6 +2,8 @@
 
 use crate::row::spelled;
 use forms::{MemSink, MemSource};
+use interval_column::{Column, ColumnError};
+use pg_interval_2::Style;
 use schedule_check::{CheckError, Fault, check};
 use std::alloc::{AllocError, Global};
 
@@ -46,6 +48,7 @@ fn top_agrees(
 fn top(alloc: Global, words: &str, source: &mut MemSource, sink: &mut MemSink) -> u8 {
     match words.split(' ').next() {
         Some("schedule") => schedule_check::top(alloc, words, source, sink),
+        Some("column") => interval_column::top(alloc, words, source, sink),
         _ => forms::top(alloc, words, source, sink),
     }
 }
@@ -58,6 +61,9 @@ fn call_agrees(
     output: &[u8],
     status: u8,
 ) -> Result<bool, AllocError> {
+    if let Some(name) = words.strip_prefix("column ") {
+        return column_agrees(alloc, name, input, output, status);
+    }
     match words {
         "schedule" => check_agrees(alloc, input, output, status),
         _ => Ok(true),
@@ -92,6 +98,65 @@ fn check_agrees(
         Err(CheckError::NoMemory) => return Err(AllocError),
     };
     Ok(status == wanted && output == told.as_bytes())
+}
+
+/// Whether `Column::read` answers the input as the output and the status tell, where the words name a style.
+fn column_agrees(
+    alloc: Global,
+    name: &str,
+    input: &[u8],
+    output: &[u8],
+    status: u8,
+) -> Result<bool, AllocError> {
+    let Some(style) = style_of(name) else {
+        return Ok(status == 2);
+    };
+    let (told, wanted) = match Column::read(alloc, input) {
+        Ok(column) => (told_of(alloc, style, &column)?, 0),
+        Err(ColumnError::Refused { line, fault }) => {
+            (
+                format!(in alloc; "line {line} refused {}\n", fault.name())?,
+                8,
+            )
+        }
+        Err(ColumnError::NoMemory) => return Err(AllocError),
+    };
+    Ok(status == wanted && output == told.as_bytes())
+}
+
+/// What the calls of a column tell, as the program writes it.
+fn told_of(alloc: Global, style: Style, column: &Column) -> Result<String, AllocError> {
+    let mut told = String::new(alloc);
+    for interval in column.sorted() {
+        told.push_str(interval.text(style).as_str())?;
+        told.push_str("\n")?;
+    }
+    let count = format!(in alloc; "count {}\n", column.sorted().len())?;
+    told.push_str(count.as_str())?;
+    if let (Some(least), Some(greatest)) = (column.least(), column.greatest()) {
+        let least = format!(in alloc; "least {}\n", least.text(style))?;
+        told.push_str(least.as_str())?;
+        let greatest = format!(in alloc; "greatest {}\n", greatest.text(style))?;
+        told.push_str(greatest.as_str())?;
+        let sum = match column.total() {
+            Some(total) => format!(in alloc; "sum {}\n", total.text(style))?,
+            None => format!(in alloc; "sum Range\n")?,
+        };
+        told.push_str(sum.as_str())?;
+    }
+    Ok(told)
+}
+
+/// The style of an interval form's name.
+fn style_of(name: &str) -> Option<Style> {
+    match name {
+        "PgIso" => Some(Style::Iso),
+        "Postgres" => Some(Style::Postgres),
+        "PgVerbose" => Some(Style::Verbose),
+        "PgSql" => Some(Style::Sql),
+        "IsoStrict" => Some(Style::IsoStrict),
+        _ => None,
+    }
 }
 
 /// The part of a line that has a fault, and the fault.

@@ -26,7 +26,7 @@ const TABLES: [&str; 9] = [
 ];
 
 /// The tables of whole inputs, in data/.
-const INPUT_TABLES: [&str; 1] = ["schedule.tsv"];
+const INPUT_TABLES: [&str; 2] = ["schedule.tsv", "column.tsv"];
 
 /// What a row of a table asks for.
 #[derive(Clone, Copy)]

@@ -6,10 +6,15 @@ pub returns-clause-within : goal.returns-clause-within
 returns-clause-within g c =
     let is : c.top-status.result ≡ 2 = search rules in
     let same = c.top-status.ensures.unknown is in
-    rw (same.0, same.1) at c.top.ensures.within
+    rw (same.0, same.1) at c.pick_other.ensures.within
 
 pub returns-clause-beyond : goal.returns-clause-beyond
 returns-clause-beyond g c =
     let is : c.top-status.result ≡ 2 = search rules in
     let same = c.top-status.ensures.unknown is in
-    rw (same.0, same.1) at c.top.ensures.beyond
+    rw (same.0, same.1) at c.pick_other.ensures.beyond
+
+pub returns-clause-words : goal.returns-clause-words
+returns-clause-words g c =
+    let is : c.top-status.result ≡ 2 = search rules in
+    (λ unknown. (c.top-status.ensures.words.0 is, c.pick_other.ensures.words.0 unknown), λ both. c.pick_other.ensures.words.1 both.1)
