@@ -1,5 +1,5 @@
 -- The forms' names are ASCII: a line is UTF-8 exactly where the text behind its names is.
-use Rattle.std.proofs.Common.{◌≡◌, ℕ, zero, suc, ◌<◌, Bool, true, List, [], ◌∷◌, ◌++◌, codes, Option, Some, None, refl, sym, ◌∙◌, ap, subst, inl, inr, arith}
+use Rattle.std.proofs.Common.{◌≡◌, ℕ, zero, suc, ◌<◌, Bool, true, List, [], ◌∷◌, ◌++◌, codes, Option, Some, None, refl, sym, ◌∙◌, ap, subst, inl, inr, append_assoc, arith}
 use Rattle.std.specs.Prelude.{nat_lt, get_or, IsUtf8, unwrap_or}
 use Rattle.std.specs.List.{list_all}
 use Rattle.std.proofs.lemmas.Bool.{and_parts}
@@ -8,8 +8,8 @@ use Rattle.std.proofs.lemmas.Str.{IsUtf8-append, IsUtf8-from_ascii, IsUtf8-past_
 use Rattle.forms.specs.declared.form.Form.{Form}
 use Rattle.forms.specs.declared.form.Form.TheVariants.{FileTime, IsoDateTime, IsoDate, IsoDuration, Toml, Fancy, PgIso, Postgres, PgVerbose, PgSql, IsoStrict}
 use Rattle.forms.specs.Names.{name_of}
-use Rattle.forms.specs.inside.Requests.{HasRequest}
-use Rattle.forms.specs.inside.Requests.{IsTail}
+use Rattle.forms.specs.Replies.{IsRequest}
+use Rattle.forms.specs.inside.Requests.{HasRequest, IsTail}
 use Rattle.forms.specs.inside.Reading.{behind, IsNamed}
 
 abbrev pub is_small : ℕ → Bool
@@ -68,3 +68,20 @@ request_of line rest text from to end first second told utf8 = record {
   rest = behind_tail text end told;
   joined = first ∙ ap (λ (l : List ℕ). name_of from ++ (codes " " ++ l)) second;
 }
+
+-- ---- a line of two names and a text
+
+spelled : (from to : Form) (text : List ℕ) → (name_of from ++ (codes " " ++ name_of to)) ++ (codes " " ++ text) ≡ name_of from ++ (codes " " ++ (name_of to ++ (codes " " ++ text)))
+spelled from to text = append_assoc (name_of from) (codes " " ++ name_of to) (codes " " ++ text)
+
+pub asks_text : (from to : Form) (text : List ℕ) → IsUtf8 text → IsRequest ((name_of from ++ (codes " " ++ name_of to)) ++ (codes " " ++ text)) from to text
+asks_text from to text utf8 =
+    let rest : IsUtf8 (name_of to ++ (codes " " ++ text)) = utf8_with (name_of to) (codes " " ++ text) (small_name to) (utf8_with (codes " ") text refl utf8) in
+    let all = utf8_with (name_of from) (codes " " ++ (name_of to ++ (codes " " ++ text))) (small_name from) (utf8_with (codes " ") (name_of to ++ (codes " " ++ text)) refl rest) in
+    (subst IsUtf8 (sym (spelled from to text)) all, inr refl)
+
+pub asks_nothing : (from to : Form) (text : List ℕ) → (IsUtf8 text → ⊥) → (f t : Form) (other : List ℕ) → IsRequest ((name_of from ++ (codes " " ++ name_of to)) ++ (codes " " ++ text)) f t other → ⊥
+asks_nothing from to text bad f t other asked =
+    let all = subst IsUtf8 (spelled from to text) asked.0 in
+    let rest = utf8_past (codes " ") (name_of to ++ (codes " " ++ text)) refl (utf8_past (name_of from) (codes " " ++ (name_of to ++ (codes " " ++ text))) (small_name from) all) in
+    bad (utf8_past (codes " ") text refl (utf8_past (name_of to) (codes " " ++ text) (small_name to) rest))

@@ -13,10 +13,6 @@ use Rattle.forms.specs.declared.run_end.RunEnd.TheVariants.{Done, ReadFault, Wri
 use Rattle.forms.specs.inside.Pieces.{AreWhole}
 use Rattle.forms.proofs.LinePieces.{lines_behind}
 
--- what stands behind `sample` is the count
-pub digits_counted : (words digits : List ℕ) (x count : ℕ) → x ≡ 7 → digits ≡ drop x words → IsSample words count → digits ≡ decimal count
-digits_counted words digits x count place is sample = is ∙ (ap (λ (k : ℕ). drop k words) place ∙ ap (drop 7) sample.2)
-
 all_lines : (count : ℕ) (input : List ℕ) → AreWhole (sample_lines count) input → lines input ≡ sample_lines count
 all_lines count input whole = ap lines (sym (append-nil input)) ∙ (lines_behind (sample_lines count) input [] whole ∙ append-nil (sample_lines count))
 

@@ -11,6 +11,7 @@ pub mod Forms
 pub mod ReadBack
 pub mod Replies
 pub mod Ends
+pub mod Outputs
 pub mod Sample
 pub mod Buffers
 pub mod inside

@@ -1,6 +1,6 @@
 -- Requests and replies. A line is a request: a form's name, a space, a form's name, then the end or a space and a text.
 -- Its reply is what the text is in the second form, or `refused` and the cause.
-use Rattle.std.specs.Prelude.{◌≡◌, ◌⊎◌, ℕ, false, List, [], ◌++◌, codes, Some, None, Result, Ok, Err, IsUtf8}
+use Rattle.std.specs.Prelude.{◌≡◌, ◌⊎◌, ℕ, Bool, true, false, List, [], ◌++◌, codes, Some, None, Result, Ok, Err, IsUtf8}
 use Rattle.scan_core.specs.Join.{IsJoin}
 use Rattle.scan_core.specs.Count.{Count}
 use Rattle.scan_core.specs.Sums.{fits}
@@ -36,6 +36,11 @@ IsAnswer from to text answer =
 abbrev pub answer_text : Result (List ℕ) Cause → List ℕ
 answer_text (Ok out) = out
 answer_text (Err cause) = codes "refused " ++ cause_name cause
+
+-- whether an answer is a refusal
+abbrev pub is_refusal : Result (List ℕ) Cause → Bool
+is_refusal (Ok out) = false
+is_refusal (Err cause) = true
 
 -- the line is UTF-8, and asks for the text of the first form in the second: it ends behind the names, and the text is empty, or a
 -- space and the text follow

@@ -6,7 +6,7 @@ ghost use Rattle.forms.specs.declared.cause.Cause.{Cause as AnyCause};
 ghost use Rattle.forms.specs.Answers.{bytes_of};
 ghost use Rattle.forms.specs.Names.{is_counted};
 ghost use Rattle.forms.specs.ReadBack.{Turns};
-ghost use Rattle.forms.specs.Replies.{IsAnswer, IsReply};
+ghost use Rattle.forms.specs.Replies.{IsAnswer, IsReply, answer_text, is_refusal};
 ghost use Rattle.forms.specs.inside.Putting.{Gains, Puts};
 
 use crate::cause::Cause;
@@ -123,7 +123,7 @@ fn turned_counted<L: Ledger>(
 }
 
 /// Appends the text of one form in another form.
-fn push_turned<const CAP: usize>(
+pub(crate) fn push_turned<const CAP: usize>(
     from: Form,
     to: Form,
     text: &str,
@@ -194,18 +194,41 @@ pub(crate) fn push_line_reply<const CAP: usize>(line: &[u8], out: &mut ArrayStri
     ensures reply { Gains (IsReply line.now) out.old.bytes out.new.bytes }
     ensures len { array_string_len out.new ≤ array_string_len out.old + 96 }
 {
+    match request(line) {
+        Some((from, to, text)) => {
+            push_answer(from, to, text, out);
+        }
+        None => push_refusal("Line", out),
+    }
+}
+
+/// Appends the reply to a text, of at most 96 bytes, without a line feed, and answers whether it is a refusal: of `P1Y1Y` from
+/// `Form::PgIso` to `Form::PgIso` it appends `P2Y` and answers no, and of `P` it appends `refused Syntax` and answers yes.
+#[inline(always)]
+pub fn push_answer<const CAP: usize>(
+    from: Form,
+    to: Form,
+    text: &str,
+    out: &mut ArrayString<CAP>,
+) -> bool
+    requires room { array_string_len out.old + 96 ≤ CAP }
+    ensures answer { (answer : AnyResult (List ℕ) AnyCause) × IsAnswer from to text.now answer
+        × (out.new.bytes ≡ out.old.bytes ++ answer_text answer)
+        × (result ≡ is_refusal answer) }
+    ensures len { array_string_len out.new ≤ array_string_len out.old + 96 }
+{
     answers_are_readings_written();
-    let Some((from, to, text)) = request(line) else {
-        return push_refusal("Line", out);
-    };
     match push_turned(from, to, text, out) {
-        Ok(()) => (),
-        Err(cause) => push_refusal(cause.name(), out),
+        Ok(()) => false,
+        Err(cause) => {
+            push_refusal(cause.name(), out);
+            true
+        }
     }
 }
 
 /// Appends `refused` and why.
-fn push_refusal<const CAP: usize>(name: &str, out: &mut ArrayString<CAP>)
+pub(crate) fn push_refusal<const CAP: usize>(name: &str, out: &mut ArrayString<CAP>)
     requires name { length name.now ≤ 80 }
     requires room { array_string_len out.old + 96 ≤ CAP }
     ensures bytes { out.new.bytes ≡ out.old.bytes ++ (codes "refused " ++ name.now) }

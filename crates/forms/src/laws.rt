@@ -1,5 +1,5 @@
 //! Laws of forms, lines, replies and the ends of runs.
-ghost use Rattle.std.specs.Prelude.{pos, ◌≡◌, ◌⊎◌, ◌↔◌, ◌+◌, ◌-◌, ◌/◌, ◌^◌, ◌<◌, ◌++◌, List, ℕ, Option, Result as AnyResult, Ok, IfSome};
+ghost use Rattle.std.specs.Prelude.{pos, ◌≡◌, ◌⊎◌, ◌↔◌, ◌+◌, ◌-◌, ◌/◌, ◌^◌, ◌<◌, ◌++◌, List, ℕ, Option, Result as AnyResult, Ok, IfSome, IsUtf8, codes};
 ghost use Rattle.std.specs.Io.KnownBytes.{Appends};
 ghost use Rattle.pg_interval_2.specs.Denotes.{Denotes};
 ghost use Rattle.pg_interval_2.specs.Styles.{Shape};
@@ -12,10 +12,11 @@ ghost use Rattle.forms.specs.declared.run_end.RunEnd.TheVariants.{TooLong, Write
 ghost use Rattle.forms.specs.declared.value.Value.{Value as AnyValue};
 ghost use Rattle.forms.specs.Ends.{Ended, EndsByLength, GainsFront, Streams};
 ghost use Rattle.forms.specs.Forms.{Reads, Writes};
+ghost use Rattle.forms.specs.Names.{name_of};
 ghost use Rattle.forms.specs.Lines.{lines, whole_lines};
 ghost use Rattle.forms.specs.Outside.{Rose, AppendsFront};
 ghost use Rattle.forms.specs.ReadBack.{Turns, IsReadBack};
-ghost use Rattle.forms.specs.Replies.{IsAnswer, IsIntervalAnswer, IsReply, AreReplies};
+ghost use Rattle.forms.specs.Replies.{IsAnswer, IsIntervalAnswer, IsReply, IsRequest, AreReplies};
 ghost use Rattle.forms.specs.Sample.{answers, refusals, sample_lines};
 ghost use Rattle.forms.specs.Values.{IsWithinBounds};
 ghost use Rattle.forms.specs.Waiting.{Moves};
@@ -97,6 +98,26 @@ pub fn answers_are_readings_written()
     pg_interval_2::laws::denoted_interval_is_in_range();
 }
 
+/// A text has one answer at most between any two forms.
+pub fn texts_have_one_answer()
+    ensures { (from to : AnyForm) (text : List ℕ) (a b : AnyResult (List ℕ) AnyCause)
+        → IsAnswer from to text a → IsAnswer from to text b → a ≡ b }
+{
+    all_lawful();
+    answers_are_readings_written();
+}
+
+/// A line of two names, a space and a text asks for this text where it is UTF-8, and else for nothing.
+pub fn lines_of_two_names_ask_for_their_text()
+    ensures asked { (from to : AnyForm) (text : List ℕ) → IsUtf8 text
+        → IsRequest ((name_of from ++ (codes " " ++ name_of to)) ++ (codes " " ++ text))
+        from to text }
+    ensures none { (from to : AnyForm) (text : List ℕ) → ¬ (IsUtf8 text)
+        → (f t : AnyForm) (other : List ℕ)
+        → ¬ (IsRequest ((name_of from ++ (codes " " ++ name_of to)) ++ (codes " " ++ text))
+        f t other) }
+{}
+
 /// A line has exactly one reply. That there is one is shown by answering the line.
 pub fn one_reply(line: &[u8])
     ensures some { (out : List ℕ) × IsReply line.now out }
@@ -142,6 +163,12 @@ pub fn waiting_texts_keep_their_order()
     ensures flush_fails { (a b c : Option (List ℕ)) (before text after : List ℕ)
         → Moves a b before text after → AppendsFront b c after
         → AppendsFront a c (before ++ text) }
+{}
+
+/// The whole lines of a front of some bytes are the first lines of all.
+pub fn whole_lines_of_a_front_come_first()
+    ensures { (front rest : List ℕ) → (more : List (List ℕ))
+        × (lines (front ++ rest) ≡ whole_lines front ++ more) }
 {}
 
 /// A count of faults that stands still didn't rise, but at its greatest value.

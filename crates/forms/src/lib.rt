@@ -6,8 +6,10 @@
 #![tactic(auto)]
 
 mod answer;
+mod answers_lines;
 mod buffer;
 mod cause;
+mod decimal;
 mod faults;
 mod form;
 pub mod laws;
@@ -18,22 +20,26 @@ mod output;
 mod outside;
 mod pieces;
 mod program;
+mod request_lines;
 mod run_end;
 mod sample;
 mod value;
 mod waiting;
 mod writing;
 
-pub use answer::{ConvertError, convert, reply, reply_counted};
+pub use answer::{ConvertError, convert, push_answer, reply, reply_counted};
+pub use answers_lines::{AnswersLines, Waits};
 pub use buffer::reply_lines;
 pub use cause::Cause;
+pub use decimal::number_in_decimal;
 pub use form::Form;
 pub use form::file_time::file_time_of;
 pub use memory_sink::MemSink;
 pub use memory_source::MemSource;
 pub use outside::{Failed, Sink, Source};
+pub use pieces::answer_lines;
 pub use program::{run, top};
 pub use run_end::RunEnd;
 pub use value::{Value, read_value, write_value};
-pub use waiting::{Batch, flush, put_text};
+pub use waiting::{Batch, flush, make_room, put_text};
 pub use writing::write_all;

@@ -8,9 +8,11 @@ ghost use Rattle.forms.specs.Replies.{AreReplies};
 ghost use Rattle.forms.specs.Sample.{AreUnknown, IsSample, SampleEndedWith, told};
 
 use crate::outside::{Sink, Source};
-use crate::pieces::answer_pieces;
+use crate::pieces::answer_lines;
+use crate::request_lines::Requests;
 use crate::run_end::RunEnd;
 use crate::sample::{sample, sample_count};
+use crate::waiting::Batch;
 use std::alloc::Global;
 
 /// Writes one reply for each line of the source to the sink, in order, while it reads.
@@ -39,7 +41,8 @@ pub fn run<S: Source, K: Sink>(alloc: Global, source: &mut S, sink: &mut K, limi
     let Ok(mut kept) = Vec::with_capacity(alloc, limit + 1) else {
         return RunEnd::NoMemory;
     };
-    answer_pieces(source, sink, &mut kept, limit)
+    let mut batch = Batch::new();
+    answer_lines(&mut Requests, source, sink, &mut batch, &mut kept, limit + 1, limit)
 }
 
 /// How many bytes the input of the program may have.

@@ -1,5 +1,5 @@
 //! The command `sample`: a run in memory over lines that a generator makes, and a line that tells of the replies.
-ghost use Rattle.std.specs.Prelude.{◌≡◌, ◌↔◌, ◌≤◌, ◌-◌, ◌/◌, ℕ, IsTrue, decimal, IfSome, IfNone};
+ghost use Rattle.std.specs.Prelude.{◌≡◌, ◌↔◌, ◌≤◌, ◌-◌, ◌/◌, ℕ, IsTrue, IfSome, IfNone};
 ghost use Rattle.std.specs.Io.KnownBytes.{Appends};
 ghost use Rattle.forms.specs.Replies.{AreReplies};
 ghost use Rattle.forms.specs.Sample.{IsSample, SampleStands, sample_lines, told};
@@ -7,6 +7,7 @@ ghost use Rattle.forms.specs.Sample.{IsSample, SampleStands, sample_lines, told}
 mod lines;
 mod summary;
 
+use crate::decimal::number_in_decimal;
 use crate::laws::a_tenth_of_a_sample_is_refused;
 use crate::memory_sink::MemSink;
 use crate::memory_source::MemSource;
@@ -16,7 +17,6 @@ use crate::program::{LIMIT, run};
 use crate::run_end::RunEnd;
 use crate::writing::write_all;
 use lines::sample_bytes;
-use scan_core::{Short, push_num};
 use std::alloc::Global;
 use summary::summary;
 
@@ -29,30 +29,15 @@ pub fn sample_count(words: &str) -> Option<u64>
     ensures found { IfSome result (λ count. IsSample words.now count) }
     ensures none { IfNone result ((count : ℕ) → ¬ (IsSample words.now count)) }
 {
-    let digits = words.strip_prefix("sample ")?;
-    let count = digits.parse::<u64>().ok()?;
-    if is_count(count, digits) {
-        Some(count)
-    } else {
-        None
-    }
+    let count = number_in_decimal(words.strip_prefix("sample ")?)?;
+    if is_count(count) { Some(count) } else { None }
 }
 
-/// Whether so many lines may be asked for, and the text is that count in decimal.
-fn is_count(count: u64, text: &str) -> bool
-    ensures { IsTrue result
-        ↔ ((1 ≤ count) × (count ≤ 100_000) × (text.now ≡ decimal count)) }
+/// Whether so many lines may be asked for.
+fn is_count(count: u64) -> bool
+    ensures { IsTrue result ↔ ((1 ≤ count) × (count ≤ 100_000)) }
 {
-    1 <= count && count <= MOST && is_decimal(count, text)
-}
-
-/// Whether the text is the number in decimal.
-fn is_decimal(number: u64, text: &str) -> bool
-    ensures { IsTrue result ↔ (text.now ≡ decimal number) }
-{
-    let mut out = Short::new();
-    push_num(&mut out, number);
-    out.as_str() == text
+    1 <= count && count <= MOST
 }
 
 /// Answers so many lines of the sample in memory, and writes a line to the sink that tells of the replies. It is done, or a write

@@ -30,9 +30,9 @@ pub fn put_text<K: Sink>(sink: &mut K, batch: &mut Batch, text: &str) -> Result<
     Ok(())
 }
 
-/// Writes all that waits where there is no room for so many bytes.
+/// Writes all that waits where there is no room for so many bytes, at most 65_536.
 #[inline(always)]
-pub(crate) fn make_room<K: Sink>(sink: &mut K, batch: &mut Batch, len: usize) -> Result<(), Failed>
+pub fn make_room<K: Sink>(sink: &mut K, batch: &mut Batch, len: usize) -> Result<(), Failed>
     requires { len ≤ 65_536 }
     ensures room { OnOk result (array_string_len batch.new + len ≤ 65_536) }
     ensures ok { OnOk result

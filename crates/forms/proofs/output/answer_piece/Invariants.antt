@@ -1,14 +1,13 @@
 -- The invariant and the measure of the loop of `output::answer_piece`.
-use Rattle.std.proofs.Common.{◌+◌, ◌≤◌, ◌++◌, length, vec_len, vec_capacity}
-use Rattle.forms.specs.inside.Pieces.{NoFeed}
-use Rattle.forms.proofs.Batches.{IsAnswered}
+use Rattle.std.proofs.Common.{◌≤◌, length, vec_len, vec_capacity}
+use Rattle.forms.proofs.Batches.{IsGoing}
 use Rattle.forms.proofs.output.answer_piece.Given as goal
 
 abbrev pub invariant-loop-line : goal.invariant-loop-line
 invariant-loop-line g l = record {
-  answered : IsAnswered (g.K.Sink.held l.initial.sink) (g.K.Sink.held l.sink) (l.initial.kept.items ++ l.piece) (l.kept.items ++ l.rest) l.batch.bytes;
-  part : NoFeed l.kept.items;
-  room : vec_len l.kept + length l.rest ≤ vec_capacity l.kept;
+  going : IsGoing g.A.AnswersLines.says l.most l.initial.answerer l.answerer (g.K.Sink.held l.initial.sink) (g.K.Sink.held l.sink) l.initial.kept.items l.piece l.kept.items l.rest (g.A.Batch.Waits.bytes l.batch);
+  len : vec_len l.kept ≤ l.most;
+  room : l.most ≤ vec_capacity l.kept;
   held : vec_capacity l.initial.kept ≤ vec_capacity l.kept;
   later : g.K.Sink.faults l.initial.sink ≤ g.K.Sink.faults l.sink;
 }

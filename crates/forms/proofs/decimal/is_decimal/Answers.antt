@@ -1,7 +1,7 @@
--- Answers to the goals of `sample::is_decimal`.
+-- Answers to the goals of `decimal::is_decimal`.
 use Rattle.std.proofs.Common.{arith, ap, length, List, ℕ}
 use Rattle.std.proofs.lemmas.Fmt.{length-decimal-le}
-use Rattle.forms.proofs.sample.is_decimal.Goals as goal
+use Rattle.forms.proofs.decimal.is_decimal.Goals as goal
 
 pub push_num-requires : goal.push_num-requires
 push_num-requires c =
