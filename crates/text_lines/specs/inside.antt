@@ -1,0 +1,3 @@
+-- What private contracts alone cite, by subject.
+pub mod Answering
+pub mod Words
