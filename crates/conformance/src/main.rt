@@ -26,7 +26,7 @@ const TABLES: [&str; 9] = [
 ];
 
 /// The tables of whole inputs, in data/.
-const INPUT_TABLES: [&str; 2] = ["schedule.tsv", "column.tsv"];
+const INPUT_TABLES: [&str; 3] = ["schedule.tsv", "column.tsv", "text_lines.tsv"];
 
 /// What a row of a table asks for.
 #[derive(Clone, Copy)]
