@@ -1,0 +1,78 @@
+-- Each instant of whole milliseconds in the civil years has a written text.
+use Rattle.std.proofs.Common.{◌≡◌, inl, ℕ, ◌+◌, ◌*◌, ◌/◌, ◌%◌, List, [], ◌∷◌, ◌++◌, codes, ℤ, pos, Ok, refl, sym, arith}
+use Rattle.std.proofs.lemmas.Int.{ints}
+use Rattle.jiff_core.specs.Calendar.{IsYear}
+use Rattle.jiff_core.specs.Time.{time_nanos}
+use Rattle.jiff_core.specs.DateTime.{civil_nanos}
+use Rattle.jiff_core.specs.declared.civil.datetime.DateTime.{DateTime as CivilDateTime}
+use Rattle.jiff_core.proofs.DateTimeLemmas.{civil_nanos-parts}
+use Rattle.forms.specs.Forms.{Writes}
+use Rattle.forms.specs.declared.form.Form.TheVariants.{IsoDateTime}
+use Rattle.forms.specs.declared.value.Value.TheVariants.{Instant}
+use Rattle.iso8601.specs.declared.types.Date.TheVariants.{YMD}
+use Rattle.iso8601.specs.declared.types.DateTime.{DateTime}
+use Rattle.forms.specs.form.IsoDateTime.{clock_of, IsAt as IsMomentAt}
+use Rattle.recurrence.specs.inside.Steps.{AreCalendarDates}
+use Rattle.scan_core.specs.Join.{IsJoin}
+use Rattle.recurrence.specs.Replies.{IsInstantLine}
+use Rattle.recurrence.specs.inside.Written.{IsInMillis, IsWritable, AreWritable}
+use Rattle.recurrence.proofs.CivilDays.{each_civil_instant}
+
+-- with offset `+00:00`
+abbrev utc : CivilDateTime → DateTime
+utc c = record {
+  date = YMD c.date.year c.date.month c.date.day;
+  time = record {
+    hour = c.time.hour;
+    minute = c.time.minute;
+    second = c.time.second;
+    millisecond = c.time.subsec_nanosecond / 1_000_000;
+    tz_offset_hours = pos 0;
+    tz_offset_minutes = pos 0;
+  };
+}
+
+whole_subsec : (c : CivilDateTime) (z : ℤ) → civil_nanos c ≡ z → IsInMillis z → c.time.subsec_nanosecond % 1_000_000 ≡ 0
+whole_subsec c z e h = let parts = civil_nanos-parts c in let whole = h.1 in omega (arith, ints, parts, e, whole)
+
+clock_same : (hour minute second subsec : ℕ) → subsec % 1_000_000 ≡ 0 → ((hour * 60 + minute) * 60 + second) * 1_000_000_000 + subsec / 1_000_000 * 1_000_000 ≡ (hour * 3600 + minute * 60 + second) * 1_000_000_000 + subsec
+clock_same hour minute second subsec whole = omega (arith, whole)
+
+-- the date-time in UTC of a civil date-time is at its moment
+at_moment : AreCalendarDates → (c : CivilDateTime) (z : ℤ) → civil_nanos c ≡ z → c.time.subsec_nanosecond % 1_000_000 ≡ 0 → IsMomentAt z (utc c) 0
+at_moment laws c z is whole =
+    let year : IsYear c.date.year = c.date.year_in in
+    let parts = civil_nanos-parts c in
+    let day = laws.day c.date in
+    let hour = c.time.hour_in in
+    let minute = c.time.minute_in in
+    let second = c.time.second_in in
+    let subsec = c.time.subsec_in in
+    let times : clock_of (utc c).time ≡ time_nanos c.time = clock_same c.time.hour c.time.minute c.time.second c.time.subsec_nanosecond whole in
+    record {
+      year = c.date.year;
+      month = c.date.month;
+      day = c.date.day;
+      date = refl;
+      years = omega (arith, ints);
+      hours = refl;
+      minutes = refl;
+      real = record { day = laws.exists c.date; clock = (hour, minute, second, omega arith); offset = omega (arith, ints) };
+      below = omega arith;
+      same = omega (arith, ints);
+    }
+
+-- the text of an instant
+pub has_text : AreCalendarDates → (z : ℤ) → IsWritable z → (text : List ℕ) × Writes IsoDateTime (Instant z) (Ok text)
+has_text laws z h =
+    let c = each_civil_instant z h.0 in
+    let at = at_moment laws c.0 z c.1 (whole_subsec c.0 z c.1 h.1) in
+    (_, (Ok (utc c.0), inl (utc c.0, 0, at, refl), refl))
+
+-- the texts of instants, each on a line of its own
+pub have_texts : AreCalendarDates → (instants : List ℤ) → AreWritable instants → (text : List ℕ) × IsJoin IsInstantLine text instants
+have_texts laws [] h = ([], refl)
+have_texts laws (z ∷ more) h =
+    let first = has_text laws z h.0 in
+    let rest = have_texts laws more h.1 in
+    ((first.0 ++ codes "\n") ++ rest.0, (first.0 ++ codes "\n", rest.0, (first.0, first.1, refl), rest.1, refl))
