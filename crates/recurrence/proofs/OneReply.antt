@@ -4,10 +4,10 @@ use Rattle.std.specs.Result.{is_ok}
 use Rattle.scan_core.specs.Count.{Count}
 use Rattle.scan_core.specs.Digits.{number_of}
 use Rattle.scan_core.specs.Join.{IsJoin}
-use Rattle.scan_core.specs.Sums.{fits, misfit}
+use Rattle.scan_core.specs.Sums.{fits, misfit, total}
 use Rattle.scan_core.specs.declared.share.Part.{Part}
-use Rattle.pg_interval_2.specs.Denotes.{Denotes, HasNoShape, Misfits, sum_of}
-use Rattle.pg_interval_2.specs.Iso.{IsIso}
+use Rattle.scan_core.specs.declared.share.Part.TheVariants.{Months, Days, Micros}
+use Rattle.pg_interval_2.specs.Denotes.{Denotes, HasNoShape, Misfits}
 use Rattle.pg_interval_2.specs.Styles.{Shape}
 use Rattle.pg_interval_2.specs.declared.interval.Interval.{Interval}
 use Rattle.pg_interval_2.specs.declared.style.Style.TheVariants.{Iso}
@@ -50,14 +50,17 @@ one_step ones last start step a b (inr h) (inl k) = absurd (k.0 h.0)
 one_step ones last start step a b (inr h) (inr k) = one_series_reply ones last start step a b h.1 k.1
 
 -- counts that fit have no part that doesn't
-fit_or_not : (ones : AreOne) (text : List ℕ) (step : Interval) (part : Part) → Denotes IsIso text step → Misfits IsIso text part → ⊥
+fit_or_not : (ones : AreOne) (text : List ℕ) (step : Interval) (part : Part) → Denotes (Shape Iso) text step → Misfits (Shape Iso) text part → ⊥
 fit_or_not ones text step part (counts, shape, fit, is) (counts₂, shape₂, not_fit) =
     let same = ones.counts Iso text counts counts₂ shape shape₂ in
     let none = (misfit-none counts₂).1 (subst (λ (c : List Count). IsTrue (fits c)) same fit) in
     let both : None ≡ Some part = sym none ∙ not_fit in
     cc
 
-one_interval : AreOne → (text : List ℕ) (step step₂ : Interval) → Denotes IsIso text step → Denotes IsIso text step₂ → step ≡ step₂
+abbrev sum_of : List Count → Interval
+sum_of counts = record { months = total Months counts; days = total Days counts; microseconds = total Micros counts }
+
+one_interval : AreOne → (text : List ℕ) (step step₂ : Interval) → Denotes (Shape Iso) text step → Denotes (Shape Iso) text step₂ → step ≡ step₂
 one_interval ones text step step₂ (counts, shape, fit, is) (counts₂, shape₂, fit₂, is₂) =
     is ∙ (ap sum_of (ones.counts Iso text counts counts₂ shape shape₂) ∙ sym is₂)
 

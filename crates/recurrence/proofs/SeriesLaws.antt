@@ -6,7 +6,8 @@ use Rattle.std.proofs.lemmas.Int.{ints}
 use Rattle.std.proofs.Math.IntN.{suc_ℤ-*ℤ, zero-*ℤ}
 use Rattle.jiff_core.specs.Time.{time_nanos}
 use Rattle.jiff_core.proofs.CalendarLemmas.{days_in_month_bounds}
-use Rattle.iso8601.specs.Calendar.{day_of, days_in_month, Exists}
+use Rattle.scan_core.specs.Calendar.{days_in_month}
+use Rattle.iso8601.specs.Calendar.{day_of, Exists}
 use Rattle.iso8601.specs.declared.types.Date.TheVariants.{YMD}
 use Rattle.pg_interval_2.specs.declared.interval.Interval.{Interval}
 use Rattle.recurrence.specs.Instants.{IsInDay, IsCivilInstant, IsCivilYear, IsOnDate, IsMonthLater, held_day, nanos_of, LeadsTo, IsAt}

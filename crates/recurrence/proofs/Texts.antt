@@ -10,13 +10,18 @@ use Rattle.forms.specs.Forms.{Writes}
 use Rattle.forms.specs.declared.form.Form.TheVariants.{IsoDateTime}
 use Rattle.forms.specs.declared.value.Value.TheVariants.{Instant}
 use Rattle.iso8601.specs.declared.types.Date.TheVariants.{YMD}
+use Rattle.iso8601.specs.declared.types.Time.{Time}
 use Rattle.iso8601.specs.declared.types.DateTime.{DateTime}
-use Rattle.forms.specs.form.IsoDateTime.{clock_of, IsAt as IsMomentAt}
+use Rattle.forms.specs.form.IsoDateTime.{IsAt as IsMomentAt}
 use Rattle.recurrence.specs.inside.Steps.{AreCalendarDates}
 use Rattle.scan_core.specs.Join.{IsJoin}
 use Rattle.recurrence.specs.Replies.{IsInstantLine}
 use Rattle.recurrence.specs.inside.Written.{IsInMillis, IsWritable, AreWritable}
 use Rattle.recurrence.proofs.CivilDays.{each_civil_instant}
+
+-- the time of day, in nanoseconds
+abbrev clock_of : Time → ℕ
+clock_of t = ((t.hour * 60 + t.minute) * 60 + t.second) * 1_000_000_000 + t.millisecond * 1_000_000
 
 -- with offset `+00:00`
 abbrev utc : CivilDateTime → DateTime

@@ -1,7 +1,8 @@
 -- The instants of a recurrence (ISO 8601-1:2019, 5.6): a start, to which a step of months, days and microseconds is applied k times, in the
 -- Gregorian calendar. Instants are nanoseconds since 1970-01-01 in UTC; a day has 86_400 seconds.
 use Rattle.std.specs.Prelude.{◌≡◌, ◌⊎◌, ℕ, ◌<◌, ◌≤◌, min, ℤ, pos, ◌+ℤ◌, ◌*ℤ◌, unsigned_abs, Option, Some, None}
-use Rattle.iso8601.specs.Calendar.{day_of, days_in_month, Exists, IsCivilDay}
+use Rattle.scan_core.specs.Calendar.{days_in_month}
+use Rattle.iso8601.specs.Calendar.{day_of, Exists, IsCivilDay}
 use Rattle.iso8601.specs.declared.types.Date.TheVariants.{YMD}
 use Rattle.pg_interval_2.specs.declared.interval.Interval.{Interval}
 

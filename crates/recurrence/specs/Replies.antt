@@ -4,7 +4,8 @@ use Rattle.scan_core.specs.Digits.{number_of}
 use Rattle.scan_core.specs.Join.{IsJoin}
 use Rattle.scan_core.specs.declared.share.Part.{Part}
 use Rattle.pg_interval_2.specs.Denotes.{Denotes, HasNoShape, Misfits}
-use Rattle.pg_interval_2.specs.Iso.{IsIso}
+use Rattle.pg_interval_2.specs.Styles.{Shape}
+use Rattle.pg_interval_2.specs.declared.style.Style.TheVariants.{Iso}
 use Rattle.pg_interval_2.specs.declared.interval.Interval.{Interval}
 use Rattle.forms.specs.Forms.{Reads, Writes}
 use Rattle.forms.specs.Lines.{lines}
@@ -51,9 +52,9 @@ IsStepReply last start step out =
 -- by what the step's text denotes as an interval of the ISO style
 abbrev pub IsLengthReply : ℕ → ℤ → List ℕ → List ℕ → Type 0
 IsLengthReply last start text out =
-    (HasNoShape IsIso text × (out ≡ refusal (codes "length Syntax")))
-    ⊎ (((part : Part) × Misfits IsIso text part × (out ≡ refusal (codes "length Range")))
-    ⊎ ((step : Interval) × Denotes IsIso text step × IsStepReply last start step out))
+    (HasNoShape (Shape Iso) text × (out ≡ refusal (codes "length Syntax")))
+    ⊎ (((part : Part) × Misfits (Shape Iso) text part × (out ≡ refusal (codes "length Range")))
+    ⊎ ((step : Interval) × Denotes (Shape Iso) text step × IsStepReply last start step out))
 
 -- by what the start's text stands for as a date-time
 abbrev pub IsStartReply : ℕ → Result Value Cause → List ℕ → List ℕ → Type 0
