@@ -46,17 +46,21 @@ going_put Says most s t u a b c first piece kept rest line after before waiting 
     let cuts : take most (kept ++ line) ≡ take most whole = ap (λ (l : List ℕ). take most (l ++ line)) g.2 ∙ take_front most now line in
     let says : cut most Says t whole text u = subst (λ (l : List ℕ). Says t l text u) cuts puts.1 in
     let behind : now ++ rest ≡ ended ++ after =
-    ap (λ (l : List ℕ). now ++ l) split ∙ (sym (append_assoc now line (codes "\n" ++ after)) ∙ sym (append_assoc whole (codes "\n") after)) in
-    ([], tt, sym (take_nil most), record {
-      answered = h.answered ++ whole ∷ [];
-      front = h.front ++ ended;
-      written = h.written ++ m.front;
-      whole = join_push IsEnded h.front ended h.answered whole h.whole (no_feed-append now line g.1 no_feed, refl);
-      split = h.split ∙ (ap (λ (l : List ℕ). h.front ++ l) behind ∙ sym (append_assoc h.front ended after));
-      outputs = subst (λ (l : List ℕ). AreOutputs (cut most Says) s (h.answered ++ whole ∷ []) l u) (next_same h.written before text m.front waiting m.split)
-          (outputs_push (cut most Says) s t u h.answered whole (h.written ++ before) text h.outputs says);
-      gained = Appends-trans a b c h.written m.front h.gained m.gained;
-    })
+    ap (λ (l : List ℕ). now ++ l) split ∙ (sym (append_assoc now line (codes "\n" ++ after)) ∙ sym (append_assoc whole (codes "\n") after)) in (
+      [],
+      tt,
+      sym (take_nil most),
+      record {
+        answered = h.answered ++ whole ∷ [];
+        front = h.front ++ ended;
+        written = h.written ++ m.front;
+        whole = join_push IsEnded h.front ended h.answered whole h.whole (no_feed-append now line g.1 no_feed, refl);
+        split = h.split ∙ (ap (λ (l : List ℕ). h.front ++ l) behind ∙ sym (append_assoc h.front ended after));
+        outputs = subst (λ (l : List ℕ). AreOutputs (cut most Says) s (h.answered ++ whole ∷ []) l u) (next_same h.written before text m.front waiting m.split)
+            (outputs_push (cut most Says) s t u h.answered whole (h.written ++ before) text h.outputs says);
+        gained = Appends-trans a b c h.written m.front h.gained m.gained;
+      },
+    )
 
 -- where a front of what waits was written, that is a front of the outputs
 pub going_front : {A : Type 0} (Says : A → List ℕ → List ℕ → A → Type 0) (most : ℕ) (s t : A) (a b c : Option (List ℕ)) (first piece kept rest waiting : List ℕ) → IsGoing Says most s t a b first piece kept rest waiting → AppendsFront b c waiting
@@ -83,8 +87,8 @@ going_next Says most s t u a b c first piece kept rest line after before text go
     let all : whole_lines (part ++ piece) ≡ (h.answered ++ whole ∷ []) ++ whole_lines after =
     ap whole_lines h.split ∙ (whole_lines_behind h.answered h.front (now ++ rest) h.whole ∙ (ap (λ (l : List (List ℕ)). h.answered ++ l) lines_here ∙ sym (append_assoc h.answered (whole ∷ []) (whole_lines after)))) in
     front_at (cut most Says) s u (whole_lines (part ++ piece)) (h.answered ++ whole ∷ []) (whole_lines after) h.written (before ++ text) a b c
-        (subst (λ (l : List ℕ). AreOutputs (cut most Says) s (h.answered ++ whole ∷ []) l u) (append_assoc h.written before text) (outputs_push (cut most Says) s t u h.answered whole (h.written ++ before) text h.outputs says))
-        all h.gained f
+    (subst (λ (l : List ℕ). AreOutputs (cut most Says) s (h.answered ++ whole ∷ []) l u) (append_assoc h.written before text) (outputs_push (cut most Says) s t u h.answered whole (h.written ++ before) text h.outputs says))
+    all h.gained f
 
 pub going_fails : {A : Type 0} (Says : A → List ℕ → List ℕ → A → Type 0) (most : ℕ) (s t : A) (a b c : Option (List ℕ)) (first piece kept rest line after before : List ℕ) → IsGoing Says most s t a b first piece kept rest before
     → NoFeed line → rest ≡ line ++ (codes "\n" ++ after) → FailsOutput Says t (take most (kept ++ line)) b c before
@@ -101,15 +105,18 @@ pub going_all : {A : Type 0} (Says : A → List ℕ → List ℕ → A → Type 
 going_all Says most s t a b c first piece kept rest waiting after going no_feed last kept_so part part_no_feed was =
     let g = going part part_no_feed was in
     let h = g.3 in
-    let left : List ℕ = g.0 ++ rest in
-    (left, kept_so ∙ (ap (λ (l : List ℕ). take most (l ++ rest)) g.2 ∙ take_front most g.0 rest), record {
-      answered = h.answered;
-      front = h.front;
-      whole = h.whole;
-      split = h.split;
-      left = no_feed-append g.0 rest g.1 no_feed;
-      gained = (h.written ++ waiting, h.outputs, Appends-trans a b c h.written waiting h.gained last);
-    })
+    let left : List ℕ = g.0 ++ rest in (
+      left,
+      kept_so ∙ (ap (λ (l : List ℕ). take most (l ++ rest)) g.2 ∙ take_front most g.0 rest),
+      record {
+        answered = h.answered;
+        front = h.front;
+        whole = h.whole;
+        split = h.split;
+        left = no_feed-append g.0 rest g.1 no_feed;
+        gained = (h.written ++ waiting, h.outputs, Appends-trans a b c h.written waiting h.gained last);
+      },
+    )
 
 -- ---- the last line, which no line feed ends
 

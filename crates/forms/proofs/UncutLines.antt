@@ -76,9 +76,11 @@ stands_of : {A : Type 0} (limit : ℕ) (given : List ℕ) (s t : A) (old new : S
 stands_of limit given s t old new Done h = (h.0, h.1, gains_of limit s t (lines given) old.held new.held (longer (length given) limit (lines given) h.1 (lines_within given)) h.2)
 stands_of limit given s t old new ReadFault h = (h.0, h.1, gains_of limit s t (whole_lines given) old.held new.held (longer (length given) limit (whole_lines given) h.1 (whole_within given)) h.2)
 stands_of limit given s t old new WriteFault h =
-    let short : List ℕ = take limit given in
-    (h.0, ⊎_elim (λ f. inl (front_of limit s (whole_lines short) old.held new.held (longer (length short) limit (whole_lines short) (within_limit limit given) (whole_within short)) f))
-    (λ e. inr (e.0, e.1, front_of limit s (lines given) old.held new.held (longer (length given) limit (lines given) e.1 (lines_within given)) e.2)) h.1)
+    let short : List ℕ = take limit given in (
+      h.0,
+      ⊎_elim (λ f. inl (front_of limit s (whole_lines short) old.held new.held (longer (length short) limit (whole_lines short) (within_limit limit given) (whole_within short)) f))
+          (λ e. inr (e.0, e.1, front_of limit s (lines given) old.held new.held (longer (length given) limit (lines given) e.1 (lines_within given)) e.2)) h.1,
+    )
 stands_of limit given s t old new TooLong h =
     let short : List ℕ = take limit given in
     (h.0, gains_of limit s t (whole_lines short) old.held new.held (longer (length short) limit (whole_lines short) (within_limit limit given) (whole_within short)) h.1)

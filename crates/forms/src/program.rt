@@ -42,7 +42,15 @@ pub fn run<S: Source, K: Sink>(alloc: Global, source: &mut S, sink: &mut K, limi
         return RunEnd::NoMemory;
     };
     let mut batch = Batch::new();
-    answer_lines(&mut Requests, source, sink, &mut batch, &mut kept, limit + 1, limit)
+    answer_lines(
+        &mut Requests,
+        source,
+        sink,
+        &mut batch,
+        &mut kept,
+        limit + 1,
+        limit,
+    )
 }
 
 /// How many bytes the input of the program may have.

@@ -12,7 +12,6 @@ use Rattle.recurrence.specs.Requests.{HasParts}
 no_hit : (byte mark : ℕ) → (byte == mark) ≡ false → mark ≡ byte → ⊥
 no_hit byte mark h e = grind (arith, nat_tests)
 
-
 -- a byte that a text has not doesn't split it
 pub unsplit : (mark : ℕ) (text front back : List ℕ) → HasNo mark text → text ≡ front ++ (mark ∷ back) → ⊥
 unsplit mark text front back h e = inside front (subst (HasNo mark) e h) where

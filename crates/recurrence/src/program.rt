@@ -20,6 +20,7 @@ struct Recur;
 
 impl Command for Recur {
     ghost says = { λ _. Expands };
+
     ghost needs_memory = { λ _. false };
 
     fn respond<K: Sink>(&self, _alloc: Global, input: &[u8], sink: &mut K) -> Response {

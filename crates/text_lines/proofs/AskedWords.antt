@@ -145,12 +145,12 @@ tail_text text rest place same tail = subst (λ (r : Option (List ℕ)). IsTail 
 pub read_lines_are : (words : List ℕ) (from to : Form) (text : List ℕ) (asked : Asked) → AreForms words from to (Some text) → Only words from to (Some text) → ByPlace from to text asked → AsksLines words asked
 read_lines_are words from to text asked are only by f t place = (
   λ is.
-  let h = (by f t place).0 is in
-  lines_of words f t (Some text) place (subst (λ (x : Form). AreForms words x t (Some text)) (sym h.0) (subst (λ (x : Form). AreForms words from x (Some text)) (sym h.1) are)) h.2,
+      let h = (by f t place).0 is in
+      lines_of words f t (Some text) place (subst (λ (x : Form). AreForms words x t (Some text)) (sym h.0) (subst (λ (x : Form). AreForms words from x (Some text)) (sym h.1) are)) h.2,
   λ ask.
-  let k = lines_by words f t place ask in
-  let same = only f t k.0 k.1 in
-  (by f t place).1 (sym same.0, sym same.1, tail_text text k.0 place same.2 k.2),
+      let k = lines_by words f t place ask in
+      let same = only f t k.0 k.1 in
+      (by f t place).1 (sym same.0, sym same.1, tail_text text k.0 place same.2 k.2),
 )
 
 pub read_text_is : (words : List ℕ) (from to : Form) (text : List ℕ) (asked : Asked) → AreForms words from to (Some text)
@@ -199,17 +199,17 @@ read_nothing words from to text asked are only lines is_text texts = (
 pub alone_lines_are : (words : List ℕ) (from to : Form) → AreForms words from to None → Only words from to None → AsksLines words (Lines from to Whole)
 alone_lines_are words from to are only f t place = (
   λ is.
-  let from_same : from ≡ f = cc in
-  let to_same : to ≡ t = cc in
-  let place_same : Whole ≡ place = cc in
-  subst (λ (x : Place). AskLines words f t x) place_same (subst (λ (x : Form). AskLines words x t Whole) from_same (subst (λ (x : Form). AskLines words from x Whole) to_same (lines_of words from to None Whole are tt))),
+      let from_same : from ≡ f = cc in
+      let to_same : to ≡ t = cc in
+      let place_same : Whole ≡ place = cc in
+      subst (λ (x : Place). AskLines words f t x) place_same (subst (λ (x : Form). AskLines words x t Whole) from_same (subst (λ (x : Form). AskLines words from x Whole) to_same (lines_of words from to None Whole are tt))),
   λ ask.
-  let k = lines_by words f t place ask in
-  let same = only f t k.0 k.1 in
-  let there : Whole ≡ place = whole_alone place (subst (λ (r : Option (List ℕ)). IsTail r place) (sym same.2) k.2) in
-  let from_same : from ≡ f = same.0 in
-  let to_same : to ≡ t = same.1 in
-  cc,
+      let k = lines_by words f t place ask in
+      let same = only f t k.0 k.1 in
+      let there : Whole ≡ place = whole_alone place (subst (λ (r : Option (List ℕ)). IsTail r place) (sym same.2) k.2) in
+      let from_same : from ≡ f = same.0 in
+      let to_same : to ≡ t = same.1 in
+      cc,
 )
 
 pub alone_text_only : (words : List ℕ) (from to : Form) → Only words from to None → (f t : Form) (text : List ℕ) → AskText words f t text → ⊥

@@ -153,15 +153,18 @@ FrontsBegin = (front rest : List ℕ) → (more : List (List ℕ)) × (lines (fr
 
 front_more : (IsLine : Bool → List ℕ → List ℕ → Bool → Type 0) (xs more all : List (List ℕ)) (a b : Option (List ℕ)) → all ≡ xs ++ more → GainsJudgedFront IsLine xs a b → GainsJudgedFront IsLine all a b
 front_more IsLine xs more all a b same h =
-    let f = h.1 in
-    (h.0, record {
-      answered = f.answered;
-      others = f.others ++ more;
-      back = f.back;
-      refused = f.refused;
-      split = same ∙ (ap (λ (l : List (List ℕ)). l ++ more) f.split ∙ append_assoc f.answered f.others more);
-      outputs = f.outputs;
-    }, h.2)
+    let f = h.1 in (
+      h.0,
+      record {
+        answered = f.answered;
+        others = f.others ++ more;
+        back = f.back;
+        refused = f.refused;
+        split = same ∙ (ap (λ (l : List (List ℕ)). l ++ more) f.split ∙ append_assoc f.answered f.others more);
+        outputs = f.outputs;
+      },
+      h.2,
+    )
 
 front_of_all : (IsLine : Bool → List ℕ → List ℕ → Bool → Type 0) → FrontsBegin → (given rest : List ℕ) (a b : Option (List ℕ)) → GainsJudgedFront IsLine (whole_lines (take no_limit given)) a b → GainsJudgedFront IsLine (lines (given ++ rest)) a b
 front_of_all IsLine begin given rest a b h =
@@ -179,9 +182,11 @@ four_by IsLine begin old new given true Done bytes h is = absurd (omega (arith, 
 four_by IsLine begin old new given false Done bytes h is = absurd (omega (arith, is))
 four_by IsLine begin old new given refused ReadFault bytes h is = absurd (omega (arith, is))
 four_by IsLine begin old new given refused WriteFault bytes h is =
-    let P : List ℕ → Type 0 = λ all. GainsJudgedFront IsLine (lines all) old.held new.held in
-    (h.0, ⊎_elim (λ f. if_taken old.left new.left given P bytes (λ rest. front_of_all IsLine begin given rest old.held new.held f))
-    (λ e. Consumes-whole old.left new.left given P bytes e.0 e.1) h.1)
+    let P : List ℕ → Type 0 = λ all. GainsJudgedFront IsLine (lines all) old.held new.held in (
+      h.0,
+      ⊎_elim (λ f. if_taken old.left new.left given P bytes (λ rest. front_of_all IsLine begin given rest old.held new.held f))
+          (λ e. Consumes-whole old.left new.left given P bytes e.0 e.1) h.1,
+    )
 four_by IsLine begin old new given refused TooLong bytes h is = absurd (omega (arith, is))
 four_by IsLine begin old new given refused NoMemory bytes h is = absurd (omega (arith, is))
 

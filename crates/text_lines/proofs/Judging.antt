@@ -67,6 +67,10 @@ columns_stay from to n s = (s.from ≡ from) × (s.to ≡ to) × (s.place ≡ n)
 pub columns_judge : (from to : Form) (n : Place) → Judges SaysColumn (IsOutput from to n) (columns_stay from to n) (λ s. s.first) (λ s. s.refused)
 columns_judge from to n s line out t stays h =
     let a : IsOutput from s.to s.place s.first line out h.0 = subst (λ (f : Form). IsOutput f s.to s.place s.first line out h.0) stays.0 h.1 in
-    let b : IsOutput from to s.place s.first line out h.0 = subst (λ (f : Form). IsOutput from f s.place s.first line out h.0) stays.1 a in
-    (h.0, subst (λ (k : Place). IsOutput from to k s.first line out h.0) stays.2 b,
-    (ap (λ (x : Columns). x.from) h.2 ∙ stays.0, ap (λ (x : Columns). x.to) h.2 ∙ stays.1, ap (λ (x : Columns). x.place) h.2 ∙ stays.2), ap (λ (x : Columns). x.first) h.2, ap (λ (x : Columns). x.refused) h.2)
+    let b : IsOutput from to s.place s.first line out h.0 = subst (λ (f : Form). IsOutput from f s.place s.first line out h.0) stays.1 a in (
+      h.0,
+      subst (λ (k : Place). IsOutput from to k s.first line out h.0) stays.2 b,
+      (ap (λ (x : Columns). x.from) h.2 ∙ stays.0, ap (λ (x : Columns). x.to) h.2 ∙ stays.1, ap (λ (x : Columns). x.place) h.2 ∙ stays.2),
+      ap (λ (x : Columns). x.first) h.2,
+      ap (λ (x : Columns). x.refused) h.2,
+    )

@@ -20,24 +20,30 @@ too_long from to place first line long = inl (long, refl, refl)
 
 pub refused_whole : (from to : Form) (place : Place) (first : Bool) (line front rest body end : List ℕ) → length line ≤ line_limit → IsBehindMark first line front rest → IsBeforeEnd rest body end → HasNoPlace place body
     → IsOutput from to place first line (codes "refused Line" ++ end) true
-refused_whole from to place first line front rest body end fits unmarked ended none = inr (fits, record {
-  front = front;
-  body = body;
-  end = end;
-  parts = record { rest = rest; unmarked = unmarked; ended = ended };
-  answered = inl (record { none = none; told = refl }, refl);
-})
+refused_whole from to place first line front rest body end fits unmarked ended none = inr (
+  fits,
+  record {
+    front = front;
+    body = body;
+    end = end;
+    parts = record { rest = rest; unmarked = unmarked; ended = ended };
+    answered = inl (record { none = none; told = refl }, refl);
+  },
+)
 
 pub answered_there : (from to : Form) (place : Place) (first : Bool) (line front rest body end before text after reply : List ℕ) (refused : Bool) → length line ≤ line_limit → IsBehindMark first line front rest → IsBeforeEnd rest body end
     → IsPlace place body before text after → IsTextReply from to text reply refused
     → IsOutput from to place first line (front ++ (before ++ (reply ++ (after ++ end)))) refused
-answered_there from to place first line front rest body end before text after reply refused fits unmarked ended placed replied = inr (fits, record {
-  front = front;
-  body = body;
-  end = end;
-  parts = record { rest = rest; unmarked = unmarked; ended = ended };
-  answered = inr (record { before = before; text = text; after = after; reply = reply; placed = placed; replied = replied; told = refl });
-})
+answered_there from to place first line front rest body end before text after reply refused fits unmarked ended placed replied = inr (
+  fits,
+  record {
+    front = front;
+    body = body;
+    end = end;
+    parts = record { rest = rest; unmarked = unmarked; ended = ended };
+    answered = inr (record { before = before; text = text; after = after; reply = reply; placed = placed; replied = replied; told = refl });
+  },
+)
 
 -- the whole line is the text
 pub answered_whole : (from to : Form) (first : Bool) (line front rest body end reply : List ℕ) (refused : Bool) → length line ≤ line_limit → IsBehindMark first line front rest → IsBeforeEnd rest body end → IsTextReply from to body reply refused
@@ -91,12 +97,14 @@ around place first line front rest body end before text after unmarked ended pla
     let e = end_joined rest body end ended in
     let cr : List ℕ = e.0 in
     let inner : rest ≡ before ++ (text ++ (after ++ cr)) =
-    e.1 ∙ (ap (λ (l : List ℕ). l ++ cr) (place_joined place body before text after placed) ∙ (append_assoc before (text ++ after) cr ∙ ap (λ (l : List ℕ). before ++ l) (append_assoc text after cr))) in
-    (cr, record {
-      all = mark_joined first line front rest unmarked ∙ (ap (λ (l : List ℕ). front ++ l) inner ∙ sym (append_assoc front before (text ++ (after ++ cr))));
-      behind = inner ∙ sym (append_assoc before text (after ++ cr));
-      closed = e.2;
-    })
+    e.1 ∙ (ap (λ (l : List ℕ). l ++ cr) (place_joined place body before text after placed) ∙ (append_assoc before (text ++ after) cr ∙ ap (λ (l : List ℕ). before ++ l) (append_assoc text after cr))) in (
+      cr,
+      record {
+        all = mark_joined first line front rest unmarked ∙ (ap (λ (l : List ℕ). front ++ l) inner ∙ sym (append_assoc front before (text ++ (after ++ cr))));
+        behind = inner ∙ sym (append_assoc before text (after ++ cr));
+        closed = e.2;
+      },
+    )
 
 -- the lengths of the parts
 pub around_sizes : (line front rest before text after cr end : List ℕ) → AreAround line front rest before text after cr end

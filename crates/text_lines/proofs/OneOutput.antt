@@ -103,10 +103,12 @@ one_place (Word n) line b t a c u d h k = one_word n line b t a c u d h k
 one_in_place : OneAnswer → (from to : Form) (place : Place) (front body end a b : List ℕ) (r s : Bool) → AnswersInPlace from to place front body end a r → AnswersInPlace from to place front body end b s → (a ≡ b) × (r ≡ s)
 one_in_place one from to place front body end a b r s h k =
     let parts = one_place place body h.before h.text h.after k.before k.text k.after h.placed k.placed in
-    let replies = one_reply one from to k.text h.reply k.reply r s (subst (λ (l : List ℕ). IsTextReply from to l h.reply r) parts.1 h.replied) k.replied in
-    (h.told ∙ (ap (λ (l : List ℕ). front ++ (l ++ (h.reply ++ (h.after ++ end)))) parts.0
-    ∙ (ap (λ (l : List ℕ). front ++ (k.before ++ (l ++ (h.after ++ end)))) replies.0
-    ∙ (ap (λ (l : List ℕ). front ++ (k.before ++ (k.reply ++ (l ++ end)))) parts.2 ∙ sym k.told))), replies.1)
+    let replies = one_reply one from to k.text h.reply k.reply r s (subst (λ (l : List ℕ). IsTextReply from to l h.reply r) parts.1 h.replied) k.replied in (
+      h.told ∙ (ap (λ (l : List ℕ). front ++ (l ++ (h.reply ++ (h.after ++ end)))) parts.0
+          ∙ (ap (λ (l : List ℕ). front ++ (k.before ++ (l ++ (h.after ++ end)))) replies.0
+          ∙ (ap (λ (l : List ℕ). front ++ (k.before ++ (k.reply ++ (l ++ end)))) parts.2 ∙ sym k.told))),
+      replies.1,
+    )
 
 abbrev Answered : Form → Form → Place → List ℕ → List ℕ → List ℕ → List ℕ → Bool → Type 0
 Answered from to place front body end out r = (RefusesLine place body end out × (r ≡ true)) ⊎ AnswersInPlace from to place front body end out r
@@ -136,6 +138,7 @@ pub one_judgement : OneAnswer → (from to : Form) (place : Place) (first : Bool
 one_judgement one from to place first [] a b r s h k = (h.0 ∙ sym k.0, h.1 ∙ sym k.1)
 one_judgement one from to place first (x ∷ xs) a b r s h k =
     let here = one_output one from to place first x h.0 k.0 h.2 k.2 h.4 k.4 in
-    let later = one_judgement one from to place false xs h.1 k.1 h.3 k.3 h.5 k.5 in
-    (h.6 ∙ (ap (λ (l : List ℕ). l ++ h.1) here.0 ∙ (ap (λ (l : List ℕ). k.0 ++ l) later.0 ∙ sym k.6)),
-    h.7 ∙ (ap (λ (t : Bool). t || h.3) here.1 ∙ (ap (λ (t : Bool). k.2 || t) later.1 ∙ sym k.7)))
+    let later = one_judgement one from to place false xs h.1 k.1 h.3 k.3 h.5 k.5 in (
+      h.6 ∙ (ap (λ (l : List ℕ). l ++ h.1) here.0 ∙ (ap (λ (l : List ℕ). k.0 ++ l) later.0 ∙ sym k.6)),
+      h.7 ∙ (ap (λ (t : Bool). t || h.3) here.1 ∙ (ap (λ (t : Bool). k.2 || t) later.1 ∙ sym k.7)),
+    )

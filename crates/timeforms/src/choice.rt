@@ -1,5 +1,4 @@
 //! Which program the words ask for.
-ghost use Rattle.std.specs.Prelude.{◌≡◌, ◌≢◌, ◌≤◌, ◌↔◌, ◌⊎◌, ℕ, ◌-◌, ◌/◌, [], ◌<◌, codes, length, IfSome};
 ghost use Rattle.std.specs.Io.KnownBytes.{Appends, IsAtEnd};
 ghost use Rattle.forms.specs.Lines.{lines};
 ghost use Rattle.forms.specs.Outside.{Rose};
@@ -9,19 +8,29 @@ ghost use Rattle.whole_input.specs.Outcomes.{EndedWhole, MeansStatus};
 ghost use Rattle.schedule_check.specs.Reports.{Reports};
 ghost use Rattle.pg_interval_2.specs.declared.style.Style.{Style as AnyStyle};
 ghost use Rattle.interval_column.specs.Output.{AsksFor, Tells};
+ghost use Rattle.std.specs.Prelude.{◌≡◌, ◌≢◌, ◌≤◌, ◌↔◌, ◌⊎◌, ℕ, List, ◌-◌, ◌/◌, [], ◌<◌, codes, length, IfSome};
+ghost use Rattle.forms.specs.declared.form.Form.{Form as AnyForm};
+ghost use Rattle.text_lines.specs.declared.place.Place.{Place as AnyPlace};
+ghost use Rattle.text_lines.specs.Asked.{AskLines, AskNothing, AskText};
+ghost use Rattle.text_lines.specs.Outputs.{IsOutput};
+ghost use Rattle.text_lines.specs.Ends.{JudgedEnded, MeansLines, TextEnded};
+ghost use Rattle.recurrence.specs.Replies.{Expands};
 
 use forms::{Sink, Source};
 use std::alloc::Global;
+use text_lines::laws::asked_words_begin_with_a_capital;
 
 /// The status for words that aren't known.
 const UNKNOWN_WORDS: u8 = 2;
 
-/// The program that the words ask for: that of the first command that knows them, `schedule_check::top` with `schedule`,
-/// `interval_column::top` with `column F`, and `forms::top` with all others. Each clause is one of that command's `top`, for its words.
+/// The program that the words ask for: that of the first command that knows them, `interval_column::top` with `column F`,
+/// `recurrence::top` with `recur`, `schedule_check::top` with `schedule`, `text_lines::top` with two names of forms, and `forms::top` with
+/// all others. Each clause is one of that command's `top`, for its words.
 pub fn pick<S: Source, K: Sink>(alloc: Global, words: &str, source: &mut S, sink: &mut K) -> u8
     // Words that ask for nothing are refused, with nothing taken and nothing written.
     ensures words { (result ≡ 2) ↔ (((style : AnyStyle) → AsksFor words.now style → ⊥)
-        × (AreUnknown words.now × (words.now ≢ codes "schedule"))) }
+        × (AreUnknown words.now × (words.now ≢ codes "schedule") × (words.now ≢ codes "recur")
+        × AskNothing words.now)) }
     ensures unknown { result ≡ 2 → (source.new ≡ source.old) × (sink.new ≡ sink.old) }
 
     // With `schedule` it reports on all bytes.
@@ -34,6 +43,18 @@ pub fn pick<S: Source, K: Sink>(alloc: Global, words: &str, source: &mut S, sink
         (streams S.left S.taken S.faults K.held K.faults source.new sink.new)
         result }
     ensures schedule_unwritten { words.now ≡ codes "schedule"
+        → (result ≡ 3) ⊎ ((result ≡ 5) ⊎ (result ≡ 6)) → sink.new ≡ sink.old }
+
+    // With `recur` it writes the instants of the series that each line asks for.
+    ensures recur { words.now ≡ codes "recur" → EndedWhole Expands 4_096
+        (streams S.left S.taken S.faults K.held K.faults source.old sink.old)
+        (streams S.left S.taken S.faults K.held K.faults source.new sink.new)
+        result }
+    ensures recur_status { words.now ≡ codes "recur" → MeansStatus Expands 4_096
+        (streams S.left S.taken S.faults K.held K.faults source.old sink.old)
+        (streams S.left S.taken S.faults K.held K.faults source.new sink.new)
+        result }
+    ensures recur_unwritten { words.now ≡ codes "recur"
         → (result ≡ 3) ⊎ ((result ≡ 5) ⊎ (result ≡ 6)) → sink.new ≡ sink.old }
 
     // With `column F` it writes the intervals of all lines in order, each in F, or the first line that has a fault.
@@ -49,6 +70,23 @@ pub fn pick<S: Source, K: Sink>(alloc: Global, words: &str, source: &mut S, sink
         result }
     ensures column_unwritten { (style : AnyStyle) → AsksFor words.now style
         → (result ≡ 3) ⊎ ((result ≡ 5) ⊎ (result ≡ 6)) → sink.new ≡ sink.old }
+
+    // With two forms' names the lines of the source are answered, or one text.
+    ensures asked { (from to : AnyForm) (place : AnyPlace) → AskLines words.now from to place
+        → JudgedEnded (IsOutput from to place)
+        (streams S.left S.taken S.faults K.held K.faults source.old sink.old)
+        (streams S.left S.taken S.faults K.held K.faults source.new sink.new)
+        result }
+    ensures means { (from to : AnyForm) (place : AnyPlace) → AskLines words.now from to place
+        → MeansLines (IsOutput from to place)
+        (streams S.left S.taken S.faults K.held K.faults source.old sink.old)
+        (streams S.left S.taken S.faults K.held K.faults source.new sink.new)
+        result }
+    ensures text { (from to : AnyForm) (text : List ℕ) → AskText words.now from to text
+        → TextEnded from to text
+        (K.held sink.old) (K.held sink.new) (K.faults sink.old) (K.faults sink.new) result }
+    ensures untaken { (from to : AnyForm) (text : List ℕ) → AskText words.now from to text
+        → source.new ≡ source.old }
 
     // Else want of memory comes before the first byte.
     ensures no_memory { ((style : AnyStyle) → AsksFor words.now style → ⊥)
@@ -75,14 +113,14 @@ pub fn pick<S: Source, K: Sink>(alloc: Global, words: &str, source: &mut S, sink
         → (result ≡ 5) ⊎ (result ≡ 6)) }
 
     // A sample leaves the source, and ends with the line that tells of its replies.
-    ensures source { words.now ≢ [] → ((style : AnyStyle) → AsksFor words.now style → ⊥)
-        → words.now ≢ codes "schedule" → source.new ≡ source.old }
+    ensures source { (count : ℕ) → IsSample words.now count → source.new ≡ source.old }
     ensures sampled { (count : ℕ) → IsSample words.now count → SampleEndedWith count
         (K.held sink.old) (K.held sink.new) (K.faults sink.old) (K.faults sink.new) result }
     ensures tenth { (count : ℕ) → IsSample words.now count → result ≡ 0 → (bytes : ℕ)
         × Appends (K.held sink.old) (K.held sink.new)
         (told count (count - count / 10) (count / 10) bytes) }
 {
+    asked_words_begin_with_a_capital();
     // A command that doesn't know the words leaves the source and the sink as they are.
     let status = interval_column::top(alloc, words, source, sink);
     if status != UNKNOWN_WORDS {
@@ -91,11 +129,11 @@ pub fn pick<S: Source, K: Sink>(alloc: Global, words: &str, source: &mut S, sink
     pick_other(alloc, words, source, sink)
 }
 
-/// The program that the words ask for, where they ask for no column: `schedule_check::top` with `schedule`, and `forms::top` with all
-/// others.
+/// The program that the words ask for, where they ask for no column.
 fn pick_other<S: Source, K: Sink>(alloc: Global, words: &str, source: &mut S, sink: &mut K) -> u8
     // Words that ask for nothing are refused, with nothing taken and nothing written.
-    ensures words { (result ≡ 2) ↔ (AreUnknown words.now × (words.now ≢ codes "schedule")) }
+    ensures words { (result ≡ 2) ↔ (AreUnknown words.now × (words.now ≢ codes "schedule")
+        × (words.now ≢ codes "recur") × AskNothing words.now) }
     ensures unknown { result ≡ 2 → (source.new ≡ source.old) × (sink.new ≡ sink.old) }
 
     // With `schedule` it reports on all bytes.
@@ -109,6 +147,35 @@ fn pick_other<S: Source, K: Sink>(alloc: Global, words: &str, source: &mut S, si
         result }
     ensures schedule_unwritten { words.now ≡ codes "schedule"
         → (result ≡ 3) ⊎ ((result ≡ 5) ⊎ (result ≡ 6)) → sink.new ≡ sink.old }
+
+    // With `recur` it writes the instants of the series that each line asks for.
+    ensures recur { words.now ≡ codes "recur" → EndedWhole Expands 4_096
+        (streams S.left S.taken S.faults K.held K.faults source.old sink.old)
+        (streams S.left S.taken S.faults K.held K.faults source.new sink.new)
+        result }
+    ensures recur_status { words.now ≡ codes "recur" → MeansStatus Expands 4_096
+        (streams S.left S.taken S.faults K.held K.faults source.old sink.old)
+        (streams S.left S.taken S.faults K.held K.faults source.new sink.new)
+        result }
+    ensures recur_unwritten { words.now ≡ codes "recur"
+        → (result ≡ 3) ⊎ ((result ≡ 5) ⊎ (result ≡ 6)) → sink.new ≡ sink.old }
+
+    // With two forms' names the lines of the source are answered, or one text.
+    ensures asked { (from to : AnyForm) (place : AnyPlace) → AskLines words.now from to place
+        → JudgedEnded (IsOutput from to place)
+        (streams S.left S.taken S.faults K.held K.faults source.old sink.old)
+        (streams S.left S.taken S.faults K.held K.faults source.new sink.new)
+        result }
+    ensures means { (from to : AnyForm) (place : AnyPlace) → AskLines words.now from to place
+        → MeansLines (IsOutput from to place)
+        (streams S.left S.taken S.faults K.held K.faults source.old sink.old)
+        (streams S.left S.taken S.faults K.held K.faults source.new sink.new)
+        result }
+    ensures text { (from to : AnyForm) (text : List ℕ) → AskText words.now from to text
+        → TextEnded from to text
+        (K.held sink.old) (K.held sink.new) (K.faults sink.old) (K.faults sink.new) result }
+    ensures untaken { (from to : AnyForm) (text : List ℕ) → AskText words.now from to text
+        → source.new ≡ source.old }
 
     // Else want of memory comes before the first byte.
     ensures no_memory { words.now ≢ codes "schedule" → result ≡ 6
@@ -134,7 +201,81 @@ fn pick_other<S: Source, K: Sink>(alloc: Global, words: &str, source: &mut S, si
         → (result ≡ 5) ⊎ (result ≡ 6)) }
 
     // A sample leaves the source, and ends with the line that tells of its replies.
-    ensures source { words.now ≢ [] → words.now ≢ codes "schedule" → source.new ≡ source.old }
+    ensures source { (count : ℕ) → IsSample words.now count → source.new ≡ source.old }
+    ensures sampled { (count : ℕ) → IsSample words.now count → SampleEndedWith count
+        (K.held sink.old) (K.held sink.new) (K.faults sink.old) (K.faults sink.new) result }
+    ensures tenth { (count : ℕ) → IsSample words.now count → result ≡ 0 → (bytes : ℕ)
+        × Appends (K.held sink.old) (K.held sink.new)
+        (told count (count - count / 10) (count / 10) bytes) }
+{
+    asked_words_begin_with_a_capital();
+    if words == "recur" {
+        return recurrence::top(alloc, words, source, sink);
+    }
+    pick_texts(alloc, words, source, sink)
+}
+
+/// The program that the words ask for, where they ask for no column and no recurrence.
+fn pick_texts<S: Source, K: Sink>(alloc: Global, words: &str, source: &mut S, sink: &mut K) -> u8
+    // Words that ask for nothing are refused, with nothing taken and nothing written.
+    ensures words { (result ≡ 2)
+        ↔ (AreUnknown words.now × (words.now ≢ codes "schedule") × AskNothing words.now) }
+    ensures unknown { result ≡ 2 → (source.new ≡ source.old) × (sink.new ≡ sink.old) }
+
+    // With `schedule` it reports on all bytes.
+    ensures schedule { words.now ≡ codes "schedule" → EndedWhole Reports 4_194_304
+        (streams S.left S.taken S.faults K.held K.faults source.old sink.old)
+        (streams S.left S.taken S.faults K.held K.faults source.new sink.new)
+        result }
+    ensures schedule_status { words.now ≡ codes "schedule" → MeansStatus Reports 4_194_304
+        (streams S.left S.taken S.faults K.held K.faults source.old sink.old)
+        (streams S.left S.taken S.faults K.held K.faults source.new sink.new)
+        result }
+    ensures schedule_unwritten { words.now ≡ codes "schedule"
+        → (result ≡ 3) ⊎ ((result ≡ 5) ⊎ (result ≡ 6)) → sink.new ≡ sink.old }
+
+    // With two forms' names the lines of the source are answered, or one text.
+    ensures asked { (from to : AnyForm) (place : AnyPlace) → AskLines words.now from to place
+        → JudgedEnded (IsOutput from to place)
+        (streams S.left S.taken S.faults K.held K.faults source.old sink.old)
+        (streams S.left S.taken S.faults K.held K.faults source.new sink.new)
+        result }
+    ensures means { (from to : AnyForm) (place : AnyPlace) → AskLines words.now from to place
+        → MeansLines (IsOutput from to place)
+        (streams S.left S.taken S.faults K.held K.faults source.old sink.old)
+        (streams S.left S.taken S.faults K.held K.faults source.new sink.new)
+        result }
+    ensures text { (from to : AnyForm) (text : List ℕ) → AskText words.now from to text
+        → TextEnded from to text
+        (K.held sink.old) (K.held sink.new) (K.faults sink.old) (K.faults sink.new) result }
+    ensures untaken { (from to : AnyForm) (text : List ℕ) → AskText words.now from to text
+        → source.new ≡ source.old }
+
+    // Else want of memory comes before the first byte.
+    ensures no_memory { words.now ≢ codes "schedule" → result ≡ 6
+        → (source.new ≡ source.old) × (sink.new ≡ sink.old) }
+
+    // Without words the status is that of a run, and at status 0 each line has its reply.
+    ensures ended { words.now ≡ [] → EndedWith 67_108_864
+        (streams S.left S.taken S.faults K.held K.faults source.old sink.old)
+        (streams S.left S.taken S.faults K.held K.faults source.new sink.new)
+        result }
+    ensures done { words.now ≡ [] → result ≡ 0 → IsAtEnd (S.left source.new) }
+    ensures replies { words.now ≡ [] → result ≡ 0 → IfSome (S.left source.old) (λ bytes.
+        GainsReplies (lines bytes) (K.held sink.old) (K.held sink.new)) }
+    ensures front { words.now ≡ [] → IfSome (S.left source.old) (λ bytes.
+        GainsFront (lines bytes) (K.held sink.old) (K.held sink.new)) }
+    ensures within { words.now ≡ [] → IfSome (S.left source.old) (λ bytes. length bytes ≤ 67_108_864
+        → ¬ (Rose (S.faults source.old) (S.faults source.new))
+        → ¬ (Rose (K.faults sink.old) (K.faults sink.new))
+        → (result ≡ 0) ⊎ (result ≡ 6)) }
+    ensures beyond { words.now ≡ [] → IfSome (S.left source.old) (λ bytes. 67_108_864 < length bytes
+        → ¬ (Rose (S.faults source.old) (S.faults source.new))
+        → ¬ (Rose (K.faults sink.old) (K.faults sink.new))
+        → (result ≡ 5) ⊎ (result ≡ 6)) }
+
+    // A sample leaves the source, and ends with the line that tells of its replies.
+    ensures source { (count : ℕ) → IsSample words.now count → source.new ≡ source.old }
     ensures sampled { (count : ℕ) → IsSample words.now count → SampleEndedWith count
         (K.held sink.old) (K.held sink.new) (K.faults sink.old) (K.faults sink.new) result }
     ensures tenth { (count : ℕ) → IsSample words.now count → result ≡ 0 → (bytes : ℕ)
@@ -142,7 +283,12 @@ fn pick_other<S: Source, K: Sink>(alloc: Global, words: &str, source: &mut S, si
         (told count (count - count / 10) (count / 10) bytes) }
 {
     // A command that doesn't know the words leaves the source and the sink as they are.
+    asked_words_begin_with_a_capital();
     let status = schedule_check::top(alloc, words, source, sink);
+    if status != UNKNOWN_WORDS {
+        return status;
+    }
+    let status = text_lines::top(alloc, words, source, sink);
     if status != UNKNOWN_WORDS {
         return status;
     }

@@ -6,11 +6,12 @@ use Rattle.text_lines.proofs.LineParts.{refused_whole, answered_there, around, a
 use Rattle.text_lines.proofs.columns.push_line.Goals as goal
 
 pub returns-in_default : goal.returns-in_default
-returns-in_default c =
-    (codes "refused Line" ++ c.split_end.result.1.now,
-    refused_whole c.args.from c.args.to c.args.place c.args.first c.args.line.now c.split_mark.result.0.now c.split_mark.result.1.now c.split_end.result.0.now c.split_end.result.1.now (search rules) c.split_mark.ensures c.split_end.ensures c.in_default.ensures.none,
-    c.push-in_default-2.ensures ∙ (ap (λ (l : List ℕ). l ++ c.as_bytes.result.now) c.push-in_default.ensures
-    ∙ (append_assoc c.args.batch.now (codes "refused Line") c.as_bytes.result.now ∙ ap (λ (l : List ℕ). c.args.batch.now ++ (codes "refused Line" ++ l)) c.as_bytes.ensures.value)))
+returns-in_default c = (
+  codes "refused Line" ++ c.split_end.result.1.now,
+  refused_whole c.args.from c.args.to c.args.place c.args.first c.args.line.now c.split_mark.result.0.now c.split_mark.result.1.now c.split_end.result.0.now c.split_end.result.1.now (search rules) c.split_mark.ensures c.split_end.ensures c.in_default.ensures.none,
+  c.push-in_default-2.ensures ∙ (ap (λ (l : List ℕ). l ++ c.as_bytes.result.now) c.push-in_default.ensures
+      ∙ (append_assoc c.args.batch.now (codes "refused Line") c.as_bytes.result.now ∙ ap (λ (l : List ℕ). c.args.batch.now ++ (codes "refused Line" ++ l)) c.as_bytes.ensures.value)),
+)
 
 pub slice_bounds-push-end-2 : goal.slice_bounds-push-end-2
 slice_bounds-push-end-2 c =
@@ -32,7 +33,8 @@ returns c =
     let there = front_there c.args.line.now c.split_mark.result.0.now c.split_mark.result.1.now c.in-Some.before.now c.in-Some.text.now c.in-Some.field-0-2.now parts.0 c.split_end.result.1.now parts.1 in
     let back : c.behind-back.result.now ≡ c.in-Some.field-0-2.now ++ parts.0 = c.behind-back.ensures ∙ back_there c.args.line.now c.split_mark.result.0.now c.split_mark.result.1.now c.in-Some.before.now c.in-Some.text.now c.in-Some.field-0-2.now parts.0 c.split_end.result.1.now parts.1 in
     let first = c.push-2.ensures ∙ ap (λ (l : List ℕ). c.args.batch.now ++ l) there in
-    let third = c.push-3.ensures ∙ ap (λ (l : List ℕ). c.push_reply_bytes-refused.new.batch ++ l) back in
-    (front ++ (before ++ (replied.0 ++ (c.in-Some.field-0-2.now ++ c.split_end.result.1.now))),
-    answered_there c.args.from c.args.to c.args.place c.args.first c.args.line.now front c.split_mark.result.1.now c.split_end.result.0.now c.split_end.result.1.now before c.in-Some.text.now c.in-Some.field-0-2.now replied.0 c.push_reply_bytes-refused.result (search rules) c.split_mark.ensures c.split_end.ensures c.in-Some.ensures.found replied.1,
-    put_around c.args.line.now c.split_mark.result.0.now c.split_mark.result.1.now c.in-Some.before.now c.in-Some.text.now c.in-Some.field-0-2.now parts.0 c.split_end.result.1.now replied.0 c.args.batch.now c.push-2.new.self c.push_reply_bytes-refused.new.batch c.push-3.new.self c.push-4.new.self parts.1 first replied.3 third c.push-4.ensures)
+    let third = c.push-3.ensures ∙ ap (λ (l : List ℕ). c.push_reply_bytes-refused.new.batch ++ l) back in (
+      front ++ (before ++ (replied.0 ++ (c.in-Some.field-0-2.now ++ c.split_end.result.1.now))),
+      answered_there c.args.from c.args.to c.args.place c.args.first c.args.line.now front c.split_mark.result.1.now c.split_end.result.0.now c.split_end.result.1.now before c.in-Some.text.now c.in-Some.field-0-2.now replied.0 c.push_reply_bytes-refused.result (search rules) c.split_mark.ensures c.split_end.ensures c.in-Some.ensures.found replied.1,
+      put_around c.args.line.now c.split_mark.result.0.now c.split_mark.result.1.now c.in-Some.before.now c.in-Some.text.now c.in-Some.field-0-2.now parts.0 c.split_end.result.1.now replied.0 c.args.batch.now c.push-2.new.self c.push_reply_bytes-refused.new.batch c.push-3.new.self c.push-4.new.self parts.1 first replied.3 third c.push-4.ensures,
+    )
