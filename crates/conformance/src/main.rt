@@ -1,6 +1,9 @@
 //! The conformance tables: each row's line, or whole input, goes through the program, and the reply, or output, must be the row's.
-//! The rows stand in data/, each with the rule that it pins; they were reckoned apart from this program.
+//! The rows stand in data/, each with the rule that it pins; they were reckoned apart from this program. A line goes through it twice:
+//! read and written as a whole, and byte by byte.
 #![tactic(auto)]
+
+ghost use Rattle.std.specs.Prelude.{◌≤◌};
 
 mod input;
 mod row;
@@ -13,7 +16,7 @@ use std::rt::Files;
 use std::{fs, io};
 
 /// The tables, in data/.
-const TABLES: [&str; 9] = [
+const TABLES: [&str; 10] = [
     "intervals.tsv",
     "weeks.tsv",
     "iso_strict.tsv",
@@ -23,6 +26,7 @@ const TABLES: [&str; 9] = [
     "iso8601.tsv",
     "toml.tsv",
     "microsoft.tsv",
+    "by_hand.tsv",
 ];
 
 /// The tables of whole inputs, in data/.
@@ -75,10 +79,17 @@ fn row_agrees(alloc: Global, kind: Kind, line: &str) -> Result<bool, AllocError>
     }
 }
 
-/// Whether the program answers the row's line with the row's reply, and with status 0.
+/// Whether the program answers the row's line with the row's reply, and with status 0, as a whole and byte by byte.
 fn agrees(alloc: Global, row: &Row) -> Result<bool, AllocError> {
-    let mut source = MemSource::new(alloc, row.line.as_slice(), 65_536, &[])?;
-    let mut sink = MemSink::new(alloc, 4096, 65_536, &[])?;
+    Ok(agrees_in_pieces(alloc, row, 65_536)? && agrees_in_pieces(alloc, row, 1)?)
+}
+
+/// Whether it answers so where a read gives and a write takes at most `cut` bytes.
+fn agrees_in_pieces(alloc: Global, row: &Row, cut: usize) -> Result<bool, AllocError>
+    requires { 1 ≤ cut }
+{
+    let mut source = MemSource::new(alloc, row.line.as_slice(), cut, &[])?;
+    let mut sink = MemSink::new(alloc, 4096, cut, &[])?;
     let status = top(alloc, "", &mut source, &mut sink);
     Ok(status == 0 && sink.held() == row.reply.as_slice())
 }
