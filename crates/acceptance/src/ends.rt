@@ -1,4 +1,4 @@
-//! The ends of a run: sources that fail, sinks that fail or are full, inputs beyond the limit, and words.
+//! The ends of a run: sources that fail, sinks that fail or are full, and inputs beyond the limit.
 use forms::{MemSink, MemSource, RunEnd, run, top};
 use std::test::Fail;
 
@@ -93,90 +93,20 @@ fn each_write_fails(rt: HostRuntime) -> Result<(), Fail> {
     Ok(())
 }
 
-/// The input ends after each of its bytes in turn.
-#[test]
-fn inputs_of_each_length(rt: HostRuntime) -> Result<(), Fail> {
-    let alloc = rt.alloc();
-    let line = "refused Line\n";
-    let syntax = "refused Syntax\n";
-    for (input, replies) in [
-        ("", ""),
-        ("P", line),
-        ("Pg", line),
-        ("PgI", line),
-        ("PgIs", line),
-        ("PgIso", line),
-        ("PgIso ", line),
-        ("PgIso P", line),
-        ("PgIso Pg", line),
-        ("PgIso PgI", line),
-        ("PgIso PgIs", line),
-        ("PgIso PgIso", syntax),
-        ("PgIso PgIso ", syntax),
-        ("PgIso PgIso P", syntax),
-        ("PgIso PgIso P1", syntax),
-        ("PgIso PgIso P1Y", "P1Y\n"),
-        ("PgIso PgIso P1Y1", syntax),
-        ("PgIso PgIso P1Y1Y", "P2Y\n"),
-        ("PgIso PgIso P1Y1Y\n", "P2Y\n"),
-        ("PgIso PgIso P1Y1Y\nx", "P2Y\nrefused Line\n"),
-        ("PgIso PgIso P1Y1Y\nx\n", "P2Y\nrefused Line\n"),
-    ] {
-        for cut in 1..22_usize {
-            let mut source = MemSource::new(alloc, input.as_bytes(), cut, &[])?;
-            let mut sink = MemSink::new(alloc, 100, cut, &[])?;
-            let ended = run(alloc, &mut source, &mut sink, 100);
-            assert_eq!(rt; ended, RunEnd::Done, "at {input:?} and {cut}");
-            assert_eq!(rt; sink.held(), replies.as_bytes(), "at {input:?} and {cut}");
-        }
-    }
-    Ok(())
-}
-
-/// The program answers an input of 67,108,864 bytes, which is one line here, and one byte more is too long.
-#[test]
-fn limit_of_the_program(rt: HostRuntime) -> Result<(), Fail> {
-    let alloc = rt.alloc();
-    let piece = [b'x'; 65_536];
-    let mut input = Vec::with_capacity(alloc, 67_108_865)?;
-    for _ in 0..1_024_u32 {
-        input.extend_from_slice(&piece)?;
-    }
-    for (status, held) in [(0, &b"refused Line\n"[..]), (5, b"")] {
-        let mut source = MemSource::new(alloc, &input, 65_536, &[])?;
-        let mut sink = MemSink::new(alloc, 100, 100, &[])?;
-        assert_eq!(rt; top(alloc, "", &mut source, &mut sink), status);
-        assert_eq!(rt; sink.held(), held, "at {status}");
-        input.push(b'x')?;
-    }
-    Ok(())
-}
-
+/// A source that fails, and a sink without room, at the first call.
 #[test]
 fn statuses(rt: HostRuntime) -> Result<(), Fail> {
     let alloc = rt.alloc();
-    for (words, source_fails, room, status, left) in [
-        ("", NEVER, 100, 0, 0),
-        ("x", NEVER, 100, 2, 20),
-        ("?", NEVER, 100, 2, 20),
-        (" ", NEVER, 100, 2, 20),
-        ("", 0, 100, 3, 20),
-        ("", NEVER, 3, 4, 0),
+    for (source_fails, room, status, left) in [
+        (NEVER, 100, 0, 0),
+        (0, 100, 3, 20),
+        (NEVER, 3, 4, 0),
     ] {
         let mut source = MemSource::new(alloc, INPUT, 64, &[source_fails])?;
         let mut sink = MemSink::new(alloc, room, 64, &[])?;
-        let ended = top(alloc, words, &mut source, &mut sink);
-        assert_eq!(rt; ended, status, "at {words}");
-        assert_eq!(rt; source.left().len(), left, "at {words}");
-    }
-    for (end, status) in [
-        (RunEnd::Done, 0),
-        (RunEnd::ReadFault, 3),
-        (RunEnd::WriteFault, 4),
-        (RunEnd::TooLong, 5),
-        (RunEnd::NoMemory, 6),
-    ] {
-        assert_eq!(rt; end.status(), status);
+        let ended = top(alloc, "", &mut source, &mut sink);
+        assert_eq!(rt; ended, status, "at {room}");
+        assert_eq!(rt; source.left().len(), left, "at {room}");
     }
     Ok(())
 }

@@ -9,8 +9,6 @@ mod date;
 mod date_time;
 mod error;
 pub mod laws;
-#[cfg(test)]
-mod tests;
 mod time;
 
 pub use date::Date;

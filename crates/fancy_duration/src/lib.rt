@@ -33,6 +33,3 @@ pub use fancy::FancyDuration;
 pub use part::DurationPart;
 pub use scan_core::Short;
 pub use traits::{AsFancyDuration, ParseFancyDuration};
-
-#[cfg(test)]
-mod tests;

@@ -237,26 +237,3 @@ pub(crate) fn push_refusal<const CAP: usize>(name: &str, out: &mut ArrayString<C
     out.push_str("refused ");
     out.push_str(name);
 }
-
-#[cfg(test)]
-mod tests {
-    use super::*;
-    use std::test::Fail;
-
-    #[test]
-    fn converts_texts(rt: HostRuntime) -> Result<(), Fail> {
-        for (text, to, want) in [
-            ("P1Y1Y", Form::PgIso, "P2Y"),
-            ("P1.99Y", Form::PgIso, "P2Y"),
-            ("P1Y1M1DT1H", Form::Postgres, "1 year 1 mon 1 day 01:00:00"),
-        ] {
-            let text = convert(rt.alloc(), Form::PgIso, to, text)?;
-            assert_eq!(rt; text.as_str(), want);
-        }
-        for (text, want) in [("P", Cause::Syntax), ("P2147483648D", Cause::Range)] {
-            let refused = convert(rt.alloc(), Form::PgIso, Form::PgIso, text).err();
-            assert_eq!(rt; refused, Some(ConvertError::Refused(want)), "at {text}");
-        }
-        Ok(())
-    }
-}

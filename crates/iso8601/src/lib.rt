@@ -14,8 +14,6 @@ mod counted_time;
 mod duration_text;
 pub mod laws;
 pub mod parsers;
-#[cfg(test)]
-mod tests;
 mod texts;
 mod types;
 mod values;

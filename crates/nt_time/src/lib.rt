@@ -11,8 +11,6 @@ pub mod error;
 mod file_time;
 pub mod laws;
 mod sums;
-#[cfg(test)]
-mod tests;
 mod text;
 mod unix_time;
 mod utc_date_time;

@@ -39,26 +39,3 @@ impl Interval {
         String::from_str(alloc, self.text(Style::Sql).as_str())
     }
 }
-
-#[cfg(test)]
-mod tests {
-    use super::*;
-    use std::test::Fail;
-
-    #[test]
-    fn strings_are_the_written_texts(rt: HostRuntime) -> Result<(), Fail> {
-        let interval = Interval::new(13, 1, 3_600_000_000);
-        let alloc = rt.alloc();
-        assert_eq!(rt; interval.to_iso_8601(alloc)?.as_str(), "P1Y1M1DT1H");
-        assert_eq!(rt;
-            interval.to_postgres(alloc)?.as_str(),
-            "1 year 1 mon 1 day 01:00:00"
-        );
-        assert_eq!(rt;
-            interval.to_postgres_verbose(alloc)?.as_str(),
-            "@ 1 year 1 mon 1 day 1 hour"
-        );
-        assert_eq!(rt; interval.to_sql(alloc)?.as_str(), "+1-1 +1 +1:00:00");
-        Ok(())
-    }
-}

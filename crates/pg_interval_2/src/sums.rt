@@ -236,6 +236,3 @@ impl Sub for Interval {
         self.checked_sub(rhs).unwrap()
     }
 }
-
-#[cfg(test)]
-mod tests;

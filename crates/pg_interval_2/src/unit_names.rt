@@ -111,38 +111,3 @@ fn unit_packed(names: NameSet, letters: u64) -> Option<Unit>
         None
     }
 }
-
-#[cfg(test)]
-mod tests {
-    use super::*;
-    use std::test::Fail;
-
-    #[test]
-    fn sets_of_names(rt: HostRuntime) -> Result<(), Fail> {
-        for (letters, postgres, verbose) in [
-            (YEARS, Some(Unit::Year), Some(Unit::Year)),
-            (YEAR, Some(Unit::Year), Some(Unit::Year)),
-            (MONTHS, Some(Unit::Month), Some(Unit::Month)),
-            (0x6D_6F_6E_74_68, None, None),
-            (MONS, Some(Unit::Month), Some(Unit::Month)),
-            (MON, Some(Unit::Month), Some(Unit::Month)),
-            (DAYS, Some(Unit::Day), Some(Unit::Day)),
-            (DAY, Some(Unit::Day), Some(Unit::Day)),
-            (HOURS, Some(Unit::Hour), Some(Unit::Hour)),
-            (HOUR, Some(Unit::Hour), Some(Unit::Hour)),
-            (MINUTES, Some(Unit::Minute), Some(Unit::Minute)),
-            (MINUTE, Some(Unit::Minute), Some(Unit::Minute)),
-            (MINS, None, Some(Unit::Minute)),
-            (MIN, None, Some(Unit::Minute)),
-            (SECONDS, Some(Unit::Second), Some(Unit::Second)),
-            (SECOND, Some(Unit::Second), Some(Unit::Second)),
-            (SECS, None, Some(Unit::Second)),
-            (SEC, None, Some(Unit::Second)),
-            (0x73, None, None),
-        ] {
-            assert_eq!(rt; unit_packed(NameSet::Postgres, letters), postgres);
-            assert_eq!(rt; unit_packed(NameSet::Verbose, letters), verbose);
-        }
-        Ok(())
-    }
-}

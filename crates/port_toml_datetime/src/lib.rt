@@ -17,8 +17,6 @@ mod read_date;
 mod read_offset;
 mod read_time;
 mod scan;
-#[cfg(test)]
-mod tests;
 mod text;
 mod time;
 

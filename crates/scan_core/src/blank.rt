@@ -8,18 +8,3 @@ pub fn is_blank(byte: u8) -> bool
 {
     byte == b' ' || (9..=13).contains(&byte)
 }
-
-#[cfg(test)]
-mod tests {
-    use super::*;
-    use std::test::Fail;
-
-    #[test]
-    fn six_bytes_are_blank(rt: HostRuntime) -> Result<(), Fail> {
-        for byte in 0..=255 {
-            let want = b"\t\n\x0b\x0c\r ".contains(&byte);
-            assert_eq!(rt; is_blank(byte), want, "at {byte}");
-        }
-        Ok(())
-    }
-}

@@ -55,36 +55,3 @@ pub(crate) fn are_digits(bytes: &[u8]) -> bool
 {
     bytes.iter().all(|byte| byte.is_ascii_digit())
 }
-
-#[cfg(test)]
-mod tests {
-    use super::*;
-    use std::test::Fail;
-
-    #[test]
-    fn numbers_end_at_their_bounds(rt: HostRuntime) -> Result<(), Fail> {
-        for (text, want) in [
-            ("7", Some(7)),
-            ("007", Some(7)),
-            ("4294967295", Some(u32::MAX)),
-            ("0000000000004294967295", Some(u32::MAX)),
-            ("4294967296", None),
-            ("18446744073709551615", None),
-            ("18446744073709551616", None),
-        ] {
-            let digits = text.as_bytes();
-            assert!(rt; !digits.is_empty() && are_digits(digits));
-            assert_eq!(rt; digits_u32(digits), want, "at {text}");
-        }
-        assert_eq!(rt; n_digits_in(b"24x", 2, 0, 24), Some(24));
-        assert_eq!(rt; n_digits_in(b"24x", 2, 0, 23), None);
-        assert_eq!(rt; n_digits_in(b"24x", 2, 25, 99), None);
-        assert_eq!(rt; n_digits_in(b"24x", 3, 0, 999), None);
-        assert_eq!(rt; n_digits_in(b"24", 3, 0, 999), None);
-        assert_eq!(rt;
-            n_digits_in(b"9999999999", 9, 0, 999_999_999),
-            Some(999_999_999)
-        );
-        Ok(())
-    }
-}

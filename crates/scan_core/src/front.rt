@@ -13,25 +13,3 @@ pub fn split_digits(bytes: &[u8]) -> (&[u8], &[u8])
     }
     bytes.split_at(len)
 }
-
-#[cfg(test)]
-mod tests {
-    use super::*;
-    use std::test::Fail;
-
-    #[test]
-    fn digits_end_at_another_byte(rt: HostRuntime) -> Result<(), Fail> {
-        for (text, front, rest) in [
-            ("12a3", "12", "a3"),
-            ("0129", "0129", ""),
-            ("/0", "", "/0"),
-            (":9", "", ":9"),
-            ("", "", ""),
-        ] {
-            let parts = split_digits(text.as_bytes());
-            assert_eq!(rt; parts.0, front.as_bytes(), "at {text}");
-            assert_eq!(rt; parts.1, rest.as_bytes(), "at {text}");
-        }
-        Ok(())
-    }
-}

@@ -100,33 +100,3 @@ fn push_mark(out: &mut Short, index: u64)
         push_text(out, "x");
     }
 }
-
-#[cfg(test)]
-mod tests {
-    use super::*;
-    use std::test::Fail;
-
-    /// Reckoned apart from the code, from the generator's formula; bench/lines.py writes the same.
-    #[test]
-    fn first_lines(rt: HostRuntime) -> Result<(), Fail> {
-        let lines = sample_bytes(rt.alloc(), 10)?;
-        let mut found = lines.split(|byte| *byte == b'\n');
-        for line in [
-            "PgIso PgIso P-143Y-11M-541DT45H18M42.878752S",
-            "Postgres PgIso 1 year 4 mons -4372 days 00:09:22.161378",
-            "PgVerbose PgIso @ 146 years 4 mons 9879 days 103 hours 45 mins 32.807816 secs",
-            "PgSql PgIso -168-0 -9949 +10:55:15.956989",
-            "PgIso Postgres P-190Y-9M-5641DT-78H-18M-55.252380S",
-            "Postgres Postgres -18 years -11 mons 9309 days 22:02:03.480052",
-            "PgVerbose Postgres @ -164 years -3 mons -2455 days 111 hours 44 mins 51.611428 secs",
-            "PgSql Postgres +197-10 -4100 +37:08:29.612504",
-            "PgIso PgVerbose P23Y2M2692DT27H23M38.460428S",
-            "Postgres PgVerbose 75 years 7 mons 5537 days 118:28:33.482141x",
-            "",
-        ] {
-            assert_eq!(rt; found.next(), Some(line.as_bytes()));
-        }
-        assert_eq!(rt; found.next(), None);
-        Ok(())
-    }
-}

@@ -1,0 +1,20 @@
+//! Arguments as a table has them: words with a space between, and a text behind them.
+
+/// So many numbers, with a space between.
+pub fn numbers<const N: usize>(text: &str) -> Option<[i128; N]> {
+    let mut out = [0; N];
+    let mut words = text.split(' ');
+    for slot in 0..N {
+        out[slot] = words.next()?.parse::<i128>().ok()?;
+    }
+    if words.next().is_none() {
+        Some(out)
+    } else {
+        None
+    }
+}
+
+/// A word, and the text behind the space that follows it.
+pub fn word_and_text(text: &str) -> Option<(&str, &str)> {
+    text.split_once(' ')
+}
