@@ -53,7 +53,11 @@ def ghosts(tokens):
     while at < len(tokens):
         token, end = tokens[at], None
         words = [other.text for other in tokens[at : at + 4]]
-        if token.text == "ghost" and token.kind == "name":
+        if token.text == "ghost" and words[2:] == [":", "{"]:
+            # a field of a type, or a member of a trait
+            end = closing(tokens, at + 3)
+            end += tokens[end + 1].text in (",", ";")
+        elif token.text == "ghost" and token.kind == "name":
             end = find(tokens, at, ";")
         elif token.text in ("requires", "ensures"):
             opens = at + 1 if words[1] == "{" else at + 2
@@ -100,6 +104,8 @@ REWRITES = [
     (re.compile(r"fn (\w+)\(rt: HostRuntime\)( -> io::Result<\(\)>)? \{"), r"fn \1()\2 { let rt = kit::HostRuntime;"),
     (re.compile(r"<(\w+): Files \+ AllocGlobal \+ Print>\(rt: &\1"), "(rt: &kit::HostRuntime"),
     (re.compile(r"use std::rt::Files;"), ""),
+    (re.compile(r"\b([A-Z]\w*): Drop \+ "), r"\1: "),
+    (re.compile(r"\b([A-Z]\w*): Drop\b"), r"\1"),
     (re.compile(r"\bfs::read_to_string\("), "kit::read_to_string("),
     (re.compile(r"use std::marker::Model;|use thiserror::Error;"), ""),
     (re.compile(r"std::marker::Brand"), "kit::ledger::Brand"),
