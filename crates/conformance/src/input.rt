@@ -49,6 +49,7 @@ fn top(alloc: Global, words: &str, source: &mut MemSource, sink: &mut MemSink) -
     match words.split(' ').next() {
         Some("schedule") => schedule_check::top(alloc, words, source, sink),
         Some("column") => interval_column::top(alloc, words, source, sink),
+        Some("recur") => recurrence::top(alloc, words, source, sink),
         Some("sample") => forms::top(alloc, words, source, sink),
         _ => text_lines::top(alloc, words, source, sink),
     }

@@ -30,7 +30,7 @@ const TABLES: [&str; 10] = [
 ];
 
 /// The tables of whole inputs, in data/.
-const INPUT_TABLES: [&str; 3] = ["schedule.tsv", "column.tsv", "text_lines.tsv"];
+const INPUT_TABLES: [&str; 4] = ["schedule.tsv", "column.tsv", "recur.tsv", "text_lines.tsv"];
 
 /// What a row of a table asks for.
 #[derive(Clone, Copy)]

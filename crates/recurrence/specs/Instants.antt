@@ -15,6 +15,7 @@ pub record IsInDay (instant day : ℤ) (nanos : ℕ) : Type 0 where
 abbrev pub IsCivilInstant : ℤ → Type 0
 IsCivilInstant instant = (day : ℤ) × (nanos : ℕ) × IsInDay instant day nanos × IsCivilDay day
 
+-- a year of -9999 to 9999
 abbrev pub IsCivilYear : ℤ → Type 0
 IsCivilYear year = unsigned_abs year ≤ 9999
 

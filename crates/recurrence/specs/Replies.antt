@@ -44,6 +44,7 @@ pub record IsSeriesReply (last : ℕ) (start : ℤ) (step : Interval) (out : Lis
 abbrev pub IsWholeMillis : Interval → Type 0
 IsWholeMillis step = (millis : ℤ) × (step.microseconds ≡ millis *ℤ pos 1000)
 
+-- by the time of the step: refused where it isn't whole milliseconds, and else the series
 abbrev pub IsStepReply : ℕ → ℤ → Interval → List ℕ → Type 0
 IsStepReply last start step out =
     ((IsWholeMillis step → ⊥) × (out ≡ refusal (codes "length Precision")))
