@@ -10,7 +10,7 @@ from meanings.source import plain, stripped
 
 FOLDER = pathlib.Path(__file__).resolve().parent
 # what the crates use of the kit, written anew for this tool alone, those below first
-KIT = ["kit", "arrayvec", "itoa", "memchr", "jiff_core", "jiff"]
+KIT = ["kit", "arrayvec", "itoa", "memchr", "jiff_core", "jiff_span", "jiff"]
 
 
 def crates():
@@ -60,7 +60,7 @@ class Builder:
 
     def kit(self):
         for name in KIT:
-            self.library(name, FOLDER / "kit" / f"{name}.rs", ["jiff_core"] if name == "jiff" else [])
+            self.library(name, FOLDER / "kit" / f"{name}.rs", ["jiff_core"] if name.startswith("jiff") and name != "jiff_core" else [])
 
     def externs(self, name):
         return [*KIT, *sorted(one for one in reach(name) if one in BELOW)]
