@@ -27,7 +27,7 @@ extern "C" {
 /* No reply to a line has more bytes than this, with its line feed. */
 #define TIMEFORMS_REPLY_MAX 97
 
-/* The forms, by number. A number never changes; further forms have further ones. README.md says what each is. */
+/* The forms, by number. A number never changes; further forms have further ones. docs/FORMS.md says what each is. */
 enum timeforms_form {
     TIMEFORMS_FILE_TIME = 0,     /* `FileTime`: ticks of 100 nanoseconds since 1601, `125962560000000000` */
     TIMEFORMS_ISO_DATE_TIME = 1, /* `IsoDateTime`: `2015-06-26T16:43:23.5+02:30` */
@@ -85,7 +85,7 @@ int32_t timeforms_reply_by_name(const char *from, size_t from_len, const char *t
 
 /* Answers whole lines such as `PgIso Postgres P1Y2M`, as many at the front of `lines` as the buffer has room for, each by one line in
  * the buffer: how many bytes were put there. `*used` is how many bytes of `lines` were answered. A line that can't be answered has
- * the reply `refused` and why, as README.md says, so there is no code here.
+ * the reply `refused` and why, as docs/CONVERSIONS.md says, so there is no code here.
  *
  * Call it again with what wasn't used. A last line without its line feed is never used: keep it in front of the bytes that come next,
  * or at the end of all put a line feed behind it. With a buffer of 97 bytes or more each call answers a line where there is a whole
