@@ -101,7 +101,7 @@ impl<'a> Scan<'a> {
         }
     }
 
-    /// The digits in front, perhaps none, which are passed.
+    /// The digits in front, perhaps none, which are passed; of a whole number four at most are likely.
     #[inline(always)]
     pub fn digits<L: Ledger>(&mut self, steps: &mut Steps<L>) -> Run
         ensures run { IsRun self.new.text result }
@@ -112,8 +112,36 @@ impl<'a> Scan<'a> {
         ensures end { result.end ≡ self.new.at }
         ensures ticks { steps.new + unseen (ahead self.new) ≡ steps.old + unseen (ahead self.old) }
     {
+        self.likely_digits(4, steps)
+    }
+
+    /// The digits in front, as `digits` passes them; of a fraction six at most are likely.
+    #[inline(always)]
+    pub fn fraction_digits<L: Ledger>(&mut self, steps: &mut Steps<L>) -> Run
+        ensures run { IsRun self.new.text result }
+        ensures front { digits_of self.new.text result ≡ front_digits (ahead self.old) }
+        ensures rest { ahead self.new ≡ after_digits (ahead self.old) }
+        ensures passed { Passes (front_digits (ahead self.old)) self.old self.new }
+        ensures start { result.start ≡ self.old.at }
+        ensures end { result.end ≡ self.new.at }
+        ensures ticks { steps.new + unseen (ahead self.new) ≡ steps.old + unseen (ahead self.old) }
+    {
+        self.likely_digits(6, steps)
+    }
+
+    /// The digits in front, perhaps none, which are passed; the text's end is looked for once for the likely number of them.
+    #[inline(always)]
+    fn likely_digits<L: Ledger>(&mut self, likely: usize, steps: &mut Steps<L>) -> Run
+        ensures run { IsRun self.new.text result }
+        ensures front { digits_of self.new.text result ≡ front_digits (ahead self.old) }
+        ensures rest { ahead self.new ≡ after_digits (ahead self.old) }
+        ensures passed { Passes (front_digits (ahead self.old)) self.old self.new }
+        ensures start { result.start ≡ self.old.at }
+        ensures end { result.end ≡ self.new.at }
+        ensures ticks { steps.new + unseen (ahead self.new) ≡ steps.old + unseen (ahead self.old) }
+    {
         let start = self.at();
-        let mut value = self.first_digits(4, steps);
+        let mut value = self.first_digits(likely, steps);
         while let Some(digit) = self.peek_in(Class::Digit) {
             value = with_digit(value, digit);
             self.next(steps);
@@ -136,18 +164,15 @@ impl<'a> Scan<'a> {
         ensures ticks { steps.new + unseen (ahead self.new) ≡ steps.old + unseen (ahead self.old) }
     {
         let start = self.at();
-        let mut value = 0;
-        let mut left = most;
+        let mut value = self.first_digits(most, steps);
+        let mut left = most - (self.at() - start);
         while let Some(digit) = self.peek_few(Class::Digit, left) {
             value = with_digit(value, digit);
             left -= 1;
             self.next(steps);
         }
-        Run {
-            start,
-            end: self.at(),
-            value,
-        }
+        let end = self.at();
+        Run { start, end, value }
     }
 
     /// Passes the blanks in front.

@@ -1,11 +1,11 @@
--- The invariant and the measure of the loop of `scan::Scan::digits`.
+-- The invariant and the measure of the loop of `scan::Scan::likely_digits`.
 use Rattle.std.proofs.Common.{◌≡◌, ℕ, ◌+◌, ◌^◌, List, length}
 use Rattle.std.specs.Char.{is_ascii_digit}
 use Rattle.scan_core.specs.Digits.{number_of}
 use Rattle.scan_core.specs.Runs.{Knows}
 use Rattle.scan_core.specs.Scanning.{ahead, unseen}
 use Rattle.scan_core.proofs.Scans.{IsAmong}
-use Rattle.scan_core.proofs.scan.Scan.digits.Given as goal
+use Rattle.scan_core.proofs.scan.Scan.likely_digits.Given as goal
 
 -- some of the digits were passed, and they are known
 abbrev pub invariant-loop-digit : goal.invariant-loop-digit

@@ -1,10 +1,10 @@
--- Answers to the goals of `scan::Scan::digits`.
+-- Answers to the goals of `scan::Scan::likely_digits`.
 use Rattle.std.proofs.Common.{ℕ, ◌++◌, [], ◌∷◌, ◌^◌, arith, subst, sym, ◌∙◌}
 use Rattle.std.specs.Char.{is_ascii_digit}
 use Rattle.scan_core.specs.Runs.{Knows}
 use Rattle.scan_core.proofs.RunFacts.{number_of_push, run_passed}
 use Rattle.scan_core.proofs.Scans.{all_passed, among_more, among_of, between_passed, front_passed}
-use Rattle.scan_core.proofs.scan.Scan.digits.Goals as goal
+use Rattle.scan_core.proofs.scan.Scan.likely_digits.Goals as goal
 
 pub loop-digit-init : goal.loop-digit-init
 loop-digit-init g c =
