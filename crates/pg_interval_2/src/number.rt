@@ -48,7 +48,7 @@ pub(crate) fn fraction<L: Ledger>(scan: &mut Scan<'_>, steps: &mut Steps<L>) -> 
     ensures ticks { steps.new + unseen (ahead scan.new) ≡ steps.old + unseen (ahead scan.old) }
 {
     if scan.next_if(b'.', steps) {
-        scan.digits(steps)
+        scan.fraction_digits(steps)
     } else {
         scan.digits_up_to(0, steps)
     }

@@ -5,7 +5,7 @@ use Rattle.std.proofs.lemmas.List.Folds.{list_all-append}
 use Rattle.std.specs.List.{list_all}
 use Rattle.scan_core.specs.Fronts.{behind, leading}
 use Rattle.scan_core.specs.Scanning.{Passes, Place, ahead, between, front_byte}
-use Rattle.scan_core.proofs.FrontFacts.{leading_and_behind}
+use Rattle.scan_core.proofs.FrontFacts.{behind_skips, leading_and_behind, leading_skips}
 
 pub passes_none : (place : Place) → Passes [] place place
 passes_none place = record { same = refl; at = omega arith; split = refl }
@@ -22,6 +22,10 @@ pub front_passed : (b : ℕ) (passed : Option ℕ) (old new : Place) → passed 
     → IfSome passed (λ byte. Passes (byte ∷ []) old new)
     → Passes (b ∷ []) old new
 front_passed b passed old new is front passes = subst (λ (o : Option ℕ). IfSome o (λ byte. Passes (byte ∷ []) old new)) (is ∙ front) passes
+
+pub one_passed : (b : ℕ) (old new : Place) → front_byte (ahead old) ≡ Some b → IfSome (front_byte (ahead old)) (λ byte. Passes (byte ∷ []) old new)
+    → Passes (b ∷ []) old new
+one_passed b old new front passes = front_passed b (front_byte (ahead old)) old new refl front passes
 
 take_front : (xs ys : List ℕ) → take (length xs) (xs ++ ys) ≡ xs
 take_front [] ys = refl
@@ -64,6 +68,15 @@ among_more test bytes old mid new b m h p = record {
   passed = passes_more bytes (b ∷ []) old mid new m.passed p;
   front = m.front ∙ ap (λ (l : List ℕ). bytes ++ l) (leading_cons test b (ahead mid) (ahead new) h p.split) ∙ sym (append_assoc bytes (b ∷ []) (leading test (ahead new)));
   rest = m.rest ∙ behind_cons test b (ahead mid) (ahead new) h p.split;
+}
+
+-- any bytes of the class that were passed
+pub among_of : (test : ℕ → Bool) (bytes : List ℕ) (old new : Place) → list_all test bytes ≡ true → Passes bytes old new → IsAmong test bytes old new
+among_of test bytes old new all p = record {
+  all = all;
+  passed = p;
+  front = ap (leading test) p.split ∙ leading_skips test bytes (ahead new) all;
+  rest = ap (behind test) p.split ∙ behind_skips test bytes (ahead new) all;
 }
 
 -- where none of the class is left, all were passed

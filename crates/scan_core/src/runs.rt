@@ -57,14 +57,51 @@ fn with_letter(value: u64, letter: u8) -> u64
 }
 
 impl<'a> Scan<'a> {
-    ghost use Rattle.std.specs.Prelude.{◌≡◌, ◌⊎◌, ◌+◌, ◌<◌, [], ◌∷◌, take, true, Some, IfSome, IfNone};
+    ghost use Rattle.std.specs.Prelude.{◌≡◌, ◌⊎◌, ◌+◌, ◌<◌, ◌≤◌, ◌%◌, ◌^◌, List, ℕ, [], ◌∷◌, length, take, true, Some, IfSome, IfNone};
     ghost use Rattle.std.specs.Char.{is_ascii_digit, is_ascii_alphabetic};
     ghost use Rattle.scan_core.specs.Blanks.{is_blank};
     ghost use Rattle.scan_core.specs.Fronts.{leading, behind, front_digits, after_digits};
-    ghost use Rattle.scan_core.specs.Runs.{IsRun, IsWord, digits_of, letters_of};
+    ghost use Rattle.std.specs.List.{list_all};
+    ghost use Rattle.scan_core.specs.Digits.{number_of};
+    ghost use Rattle.scan_core.specs.Runs.{IsRun, IsWord, Knows, digits_of, letters_of, packed};
     ghost use Rattle.scan_core.specs.Scanning.{Passes, ahead, front_byte, unseen};
 
-    /// The digits in front, perhaps none, which are passed.
+    /// Some of the digits in front, at most this many, which are passed. Behind them the text goes on.
+    #[inline(always)]
+    fn digits_inside<L: Ledger>(&mut self, most: usize, steps: &mut Steps<L>) -> u64
+        requires room { most < length (ahead self.old) }
+        ensures passed { (bytes : List ℕ) × (length bytes ≤ most)
+            × (list_all is_ascii_digit bytes ≡ true) × Passes bytes self.old self.new
+            × Knows (10 ^ 18) result (number_of bytes) }
+        ensures ticks { steps.new + unseen (ahead self.new) ≡ steps.old + unseen (ahead self.old) }
+    {
+        let mut value = 0;
+        let mut left = most;
+        while let Some(digit) = self.peek_few(Class::Digit, left) {
+            value = with_digit(value, digit);
+            left -= 1;
+            self.next_inside(steps);
+        }
+        value
+    }
+
+    /// The number of some of the digits in front, at most this many, which are passed with one test of the text's end; of
+    /// none of them where the text ends there.
+    #[inline(always)]
+    fn first_digits<L: Ledger>(&mut self, most: usize, steps: &mut Steps<L>) -> u64
+        ensures passed { (bytes : List ℕ) × (length bytes ≤ most)
+            × (list_all is_ascii_digit bytes ≡ true) × Passes bytes self.old self.new
+            × Knows (10 ^ 18) result (number_of bytes) }
+        ensures ticks { steps.new + unseen (ahead self.new) ≡ steps.old + unseen (ahead self.old) }
+    {
+        if most < self.left() {
+            self.digits_inside(most, steps)
+        } else {
+            0
+        }
+    }
+
+    /// The digits in front, perhaps none, which are passed; of a whole number four at most are likely.
     #[inline(always)]
     pub fn digits<L: Ledger>(&mut self, steps: &mut Steps<L>) -> Run
         ensures run { IsRun self.new.text result }
@@ -75,8 +112,36 @@ impl<'a> Scan<'a> {
         ensures end { result.end ≡ self.new.at }
         ensures ticks { steps.new + unseen (ahead self.new) ≡ steps.old + unseen (ahead self.old) }
     {
+        self.likely_digits(4, steps)
+    }
+
+    /// The digits in front, as `digits` passes them; of a fraction six at most are likely.
+    #[inline(always)]
+    pub fn fraction_digits<L: Ledger>(&mut self, steps: &mut Steps<L>) -> Run
+        ensures run { IsRun self.new.text result }
+        ensures front { digits_of self.new.text result ≡ front_digits (ahead self.old) }
+        ensures rest { ahead self.new ≡ after_digits (ahead self.old) }
+        ensures passed { Passes (front_digits (ahead self.old)) self.old self.new }
+        ensures start { result.start ≡ self.old.at }
+        ensures end { result.end ≡ self.new.at }
+        ensures ticks { steps.new + unseen (ahead self.new) ≡ steps.old + unseen (ahead self.old) }
+    {
+        self.likely_digits(6, steps)
+    }
+
+    /// The digits in front, perhaps none, which are passed; the text's end is looked for once for the likely number of them.
+    #[inline(always)]
+    fn likely_digits<L: Ledger>(&mut self, likely: usize, steps: &mut Steps<L>) -> Run
+        ensures run { IsRun self.new.text result }
+        ensures front { digits_of self.new.text result ≡ front_digits (ahead self.old) }
+        ensures rest { ahead self.new ≡ after_digits (ahead self.old) }
+        ensures passed { Passes (front_digits (ahead self.old)) self.old self.new }
+        ensures start { result.start ≡ self.old.at }
+        ensures end { result.end ≡ self.new.at }
+        ensures ticks { steps.new + unseen (ahead self.new) ≡ steps.old + unseen (ahead self.old) }
+    {
         let start = self.at();
-        let mut value = 0;
+        let mut value = self.first_digits(likely, steps);
         while let Some(digit) = self.peek_in(Class::Digit) {
             value = with_digit(value, digit);
             self.next(steps);
@@ -86,20 +151,6 @@ impl<'a> Scan<'a> {
             end: self.at(),
             value,
         }
-    }
-
-    /// The digit in front, unless no more are to be.
-    #[inline(always)]
-    fn peek_of_digits(&self, left: usize) -> Option<u8>
-        ensures some { IfSome result
-            (λ digit. (0 < left) × (is_ascii_digit digit ≡ true)
-            × (front_byte (ahead self.now) ≡ Some digit)) }
-        ensures none { IfNone result ((left ≡ 0) ⊎ (front_digits (ahead self.now) ≡ [])) }
-    {
-        if left == 0 {
-            return None;
-        }
-        self.peek_in(Class::Digit)
     }
 
     /// At most this many of the digits in front, perhaps none, which are passed.
@@ -113,18 +164,15 @@ impl<'a> Scan<'a> {
         ensures ticks { steps.new + unseen (ahead self.new) ≡ steps.old + unseen (ahead self.old) }
     {
         let start = self.at();
-        let mut value = 0;
-        let mut left = most;
-        while let Some(digit) = self.peek_of_digits(left) {
+        let mut value = self.first_digits(most, steps);
+        let mut left = most - (self.at() - start);
+        while let Some(digit) = self.peek_few(Class::Digit, left) {
             value = with_digit(value, digit);
             left -= 1;
             self.next(steps);
         }
-        Run {
-            start,
-            end: self.at(),
-            value,
-        }
+        let end = self.at();
+        Run { start, end, value }
     }
 
     /// Passes the blanks in front.
@@ -136,6 +184,41 @@ impl<'a> Scan<'a> {
     {
         while let Some(_) = self.peek_in(Class::Blank) {
             self.next(steps);
+        }
+    }
+
+    /// Some of the letters in front, at most this many, which are passed. Behind them the text goes on.
+    #[inline(always)]
+    fn letters_inside<L: Ledger>(&mut self, most: usize, steps: &mut Steps<L>) -> u64
+        requires room { most < length (ahead self.old) }
+        ensures passed { (bytes : List ℕ) × (length bytes ≤ most)
+            × (list_all is_ascii_alphabetic bytes ≡ true) × Passes bytes self.old self.new
+            × (result ≡ packed bytes % 2 ^ 64) }
+        ensures ticks { steps.new + unseen (ahead self.new) ≡ steps.old + unseen (ahead self.old) }
+    {
+        let mut value = 0;
+        let mut left = most;
+        while let Some(letter) = self.peek_few(Class::Letter, left) {
+            value = with_letter(value, letter);
+            left -= 1;
+            self.next_inside(steps);
+        }
+        value
+    }
+
+    /// Some of the letters in front, at most this many, which are passed with one test of the text's end, and packed; none
+    /// of them where the text ends there.
+    #[inline(always)]
+    fn first_letters<L: Ledger>(&mut self, most: usize, steps: &mut Steps<L>) -> u64
+        ensures passed { (bytes : List ℕ) × (length bytes ≤ most)
+            × (list_all is_ascii_alphabetic bytes ≡ true) × Passes bytes self.old self.new
+            × (result ≡ packed bytes % 2 ^ 64) }
+        ensures ticks { steps.new + unseen (ahead self.new) ≡ steps.old + unseen (ahead self.old) }
+    {
+        if most < self.left() {
+            self.letters_inside(most, steps)
+        } else {
+            0
         }
     }
 
@@ -152,7 +235,7 @@ impl<'a> Scan<'a> {
         ensures ticks { steps.new + unseen (ahead self.new) ≡ steps.old + unseen (ahead self.old) }
     {
         let start = self.at();
-        let mut value = 0;
+        let mut value = self.first_letters(7, steps);
         while let Some(letter) = self.peek_in(Class::Letter) {
             value = with_letter(value, letter);
             self.next(steps);

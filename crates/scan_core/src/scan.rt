@@ -68,7 +68,7 @@ fn byte_at<L: Ledger>(text: &Looked<'_>, at: usize, steps: &mut Steps<L>) -> Opt
 }
 
 impl<'a> Scan<'a> {
-    ghost use Rattle.std.specs.Prelude.{◌≡◌, ◌≢◌, ◌+◌, ◌↔◌, ◌<◌, ◌≤◌, ◌^◌, [], ◌∷◌};
+    ghost use Rattle.std.specs.Prelude.{◌≡◌, ◌≢◌, ◌⊎◌, ◌+◌, ◌↔◌, ◌<◌, ◌≤◌, ◌^◌, [], ◌∷◌};
     ghost use Rattle.std.specs.Prelude.{IfSome, IfNone, IsTrue, length, Some, true, false};
     ghost use Rattle.scan_core.specs.Fronts.{leading};
     ghost use Rattle.scan_core.specs.Scanning.{Passes, ahead, front_byte, unseen};
@@ -115,6 +115,14 @@ impl<'a> Scan<'a> {
         self.at
     }
 
+    /// How many bytes are ahead.
+    #[inline(always)]
+    pub(crate) fn left(&self) -> usize
+        ensures { result ≡ length (ahead self.now) }
+    {
+        self.text.len() - self.at
+    }
+
     /// The byte in front, or None at the end. It was looked at before.
     #[inline(always)]
     pub fn peek(&self) -> Option<u8>
@@ -143,6 +151,19 @@ impl<'a> Scan<'a> {
         self.at += 1;
         self.front = byte_at(self.text, self.at, steps);
         Some(byte)
+    }
+
+    /// Passes the byte in front, behind which another stands: the end of the text isn't looked for.
+    #[inline(always)]
+    pub(crate) fn next_inside<L: Ledger>(&mut self, steps: &mut Steps<L>)
+        requires { 1 < length (ahead self.old) }
+        ensures passed { IfSome (front_byte (ahead self.old))
+            (λ byte. Passes (byte ∷ []) self.old self.new) }
+        ensures left { length (ahead self.new) + 1 ≡ length (ahead self.old) }
+        ensures ticks { steps.new + unseen (ahead self.new) ≡ steps.old + unseen (ahead self.old) }
+    {
+        self.at += 1;
+        self.front = Some(self.text.look(self.at, steps));
     }
 
     /// Passes the byte in front where it is this one, and answers whether it was.
@@ -174,5 +195,20 @@ impl<'a> Scan<'a> {
             Some(first) if class.has(first) => Some(first),
             _ => None,
         }
+    }
+
+    /// The byte in front where it is of the class, unless no more are to be.
+    #[inline(always)]
+    pub(crate) fn peek_few(&self, class: Class, left: usize) -> Option<u8>
+        ensures some { IfSome result
+            (λ byte. (0 < left) × (has_byte class byte ≡ true)
+            × (front_byte (ahead self.now) ≡ Some byte)) }
+        ensures none { IfNone result
+            ((left ≡ 0) ⊎ (leading (has_byte class) (ahead self.now) ≡ [])) }
+    {
+        if left == 0 {
+            return None;
+        }
+        self.peek_in(class)
     }
 }

@@ -1,13 +1,20 @@
 -- Answers to the goals of `scan::Scan::digits_up_to`.
-use Rattle.std.proofs.Common.{ℕ, ◌+◌, ◌++◌, [], ◌∷◌, ◌^◌, arith, inl, refl, subst, sym, length-append, length, ◌≡◌, ◌⊎◌, ◌≤◌, List, inr, ◌∙◌}
+use Rattle.std.proofs.Common.{ℕ, ◌+◌, ◌++◌, [], ◌∷◌, ◌^◌, arith, inl, subst, sym, length-append, length, ◌≡◌, ◌⊎◌, ◌≤◌, List, inr, ◌∙◌}
 use Rattle.std.specs.Char.{is_ascii_digit}
 use Rattle.scan_core.specs.Runs.{Knows}
 use Rattle.scan_core.proofs.RunFacts.{number_of_push, run_passed}
-use Rattle.scan_core.proofs.Scans.{among_more, among_none, between_passed, front_passed, some_passed}
+use Rattle.scan_core.proofs.Scans.{among_more, among_of, between_passed, front_passed, some_passed}
 use Rattle.scan_core.proofs.scan.Scan.digits_up_to.Goals as goal
 
 pub loop-digit-init : goal.loop-digit-init
-loop-digit-init g c = record { among = ([], among_none is_ascii_digit c.args.self.now, inl refl, omega arith); ticks = refl }
+loop-digit-init g c =
+    let some = c.first_digits-value.ensures.passed in
+    let start = c.at-start.ensures.place in
+    let here = c.at.ensures.place in
+    record {
+      among = (some.0, among_of is_ascii_digit some.0 c.args.self.now c.first_digits-value.new.self some.2 some.3, some.4, omega (arith, some.1, some.3.at, start, here));
+      ticks = c.first_digits-value.ensures.ticks;
+    }
 
 pub loop-digit-preserved : goal.loop-digit-preserved
 loop-digit-preserved g c =
@@ -31,15 +38,15 @@ pub returns-clause-run : goal.returns-clause-run
 returns-clause-run g c =
     let some = c.loop-digit.invariant.among in
     let start = c.at-start.ensures.place in
-    let end = c.at.ensures.place in
-    let within : c.loop-digit.self.at ≤ length c.loop-digit.self.text = omega (arith, c.at.ensures.within) in
+    let end = c.at-end.ensures.place in
+    let within : c.loop-digit.self.at ≤ length c.loop-digit.self.text = omega (arith, c.at-end.ensures.within) in
     rw (start, end) (run_passed some.0 c.args.self.now c.loop-digit.self c.loop-digit.value some.1.passed within some.1.all some.2)
 
 pub returns-clause-front : goal.returns-clause-front
 returns-clause-front g c =
     let some = c.loop-digit.invariant.among in
     let start = c.at-start.ensures.place in
-    let end = c.at.ensures.place in
+    let end = c.at-end.ensures.place in
     let front = some_passed is_ascii_digit some.0 c.args.self.now c.loop-digit.self c.args.most some.1 (stops some.0 _ c.args.most c.loop-digit.left some.3 c.in_default.ensures.none) in
     rw (start, end) (between_passed some.0 c.args.self.now c.loop-digit.self some.1.passed ∙ sym front)
 

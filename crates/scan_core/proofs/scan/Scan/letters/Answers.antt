@@ -1,14 +1,16 @@
 -- Answers to the goals of `scan::Scan::letters`.
-use Rattle.std.proofs.Common.{ℕ, ◌++◌, [], ◌∷◌, ◌%◌, ◌^◌, arith, refl, ap, sym, ◌∙◌}
+use Rattle.std.proofs.Common.{ℕ, ◌++◌, [], ◌∷◌, ◌%◌, ◌^◌, arith, ap, sym, ◌∙◌}
 use Rattle.std.specs.Char.{is_ascii_alphabetic}
 use Rattle.scan_core.specs.Runs.{Knows, packed}
 use Rattle.scan_core.proofs.PackedFacts.{packed_known}
 use Rattle.scan_core.proofs.RunFacts.{packed_push, word_passed}
-use Rattle.scan_core.proofs.Scans.{all_passed, among_more, among_none, between_passed, front_passed}
+use Rattle.scan_core.proofs.Scans.{all_passed, among_more, among_of, between_passed, front_passed}
 use Rattle.scan_core.proofs.scan.Scan.letters.Goals as goal
 
 pub loop-letter-init : goal.loop-letter-init
-loop-letter-init g c = record { among = ([], among_none is_ascii_alphabetic c.args.self.now, refl); ticks = refl }
+loop-letter-init g c =
+    let some = c.first_letters-value.ensures.passed in
+    record { among = (some.0, among_of is_ascii_alphabetic some.0 c.args.self.now c.first_letters-value.new.self some.2 some.3, some.4); ticks = c.first_letters-value.ensures.ticks }
 
 pub loop-letter-preserved : goal.loop-letter-preserved
 loop-letter-preserved g c =

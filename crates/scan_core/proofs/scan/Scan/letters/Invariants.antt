@@ -9,8 +9,8 @@ use Rattle.scan_core.proofs.scan.Scan.letters.Given as goal
 -- some of the letters were passed, and they are known
 abbrev pub invariant-loop-letter : goal.invariant-loop-letter
 invariant-loop-letter g l = record {
-  among : (bytes : List ℕ) × IsAmong is_ascii_alphabetic bytes l.initial.self l.self × (l.value ≡ packed bytes % 2 ^ 64);
-  ticks : l.steps + unseen (ahead l.self) ≡ l.initial.steps + unseen (ahead l.initial.self);
+  among : (bytes : List ℕ) × IsAmong is_ascii_alphabetic bytes l.fn.self l.self × (l.value ≡ packed bytes % 2 ^ 64);
+  ticks : l.steps + unseen (ahead l.self) ≡ l.fn.steps + unseen (ahead l.fn.self);
 }
 
 abbrev pub decreases-loop-letter : goal.decreases-loop-letter

@@ -1,13 +1,15 @@
--- Answers to the goals of `scan::Scan::digits`.
-use Rattle.std.proofs.Common.{ℕ, ◌++◌, [], ◌∷◌, ◌^◌, arith, inl, refl, subst, sym, ◌∙◌}
+-- Answers to the goals of `scan::Scan::likely_digits`.
+use Rattle.std.proofs.Common.{ℕ, ◌++◌, [], ◌∷◌, ◌^◌, arith, subst, sym, ◌∙◌}
 use Rattle.std.specs.Char.{is_ascii_digit}
 use Rattle.scan_core.specs.Runs.{Knows}
 use Rattle.scan_core.proofs.RunFacts.{number_of_push, run_passed}
-use Rattle.scan_core.proofs.Scans.{all_passed, among_more, among_none, between_passed, front_passed}
-use Rattle.scan_core.proofs.scan.Scan.digits.Goals as goal
+use Rattle.scan_core.proofs.Scans.{all_passed, among_more, among_of, between_passed, front_passed}
+use Rattle.scan_core.proofs.scan.Scan.likely_digits.Goals as goal
 
 pub loop-digit-init : goal.loop-digit-init
-loop-digit-init g c = record { among = ([], among_none is_ascii_digit c.args.self.now, inl refl); ticks = refl }
+loop-digit-init g c =
+    let some = c.first_digits-value.ensures.passed in
+    record { among = (some.0, among_of is_ascii_digit some.0 c.args.self.now c.first_digits-value.new.self some.2 some.3, some.4); ticks = c.first_digits-value.ensures.ticks }
 
 pub loop-digit-preserved : goal.loop-digit-preserved
 loop-digit-preserved g c =
