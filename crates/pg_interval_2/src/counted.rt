@@ -130,7 +130,8 @@ impl Counted {
     }
 
     /// Counts a clock's fields that aren't 0, and answers false where the unit of one was counted before.
-    #[inline(always)]
+    // out of line for the same reason as `count_decimal`
+    #[inline(never)]
     fn count_clock<L: Ledger>(
         &mut self,
         text: &Looked<'_>,
@@ -163,70 +164,9 @@ impl Counted {
         self.count_nonzero(text, seconds, Unit::Second, steps)
     }
 
-    /// Counts a number of a unit, and answers whether the unit wasn't counted before.
+    /// Counts a number of the unit that letters name.
     #[inline(always)]
-    fn count_by_unit<L: Ledger>(
-        &mut self,
-        text: &Looked<'_>,
-        number: Decimal,
-        unit: Unit,
-        steps: &mut Steps<L>,
-    ) -> bool
-        requires number { IsDecimal text.now number }
-        requires room { self.old.tally.totals.adds < 2 ^ 63 }
-        ensures adds { self.new.tally.totals.adds ≤ self.old.tally.totals.adds + 1 }
-        ensures counted { (counts : List Count) → IsCounted self.old counts
-            → CountsOne counts (count_with (numeral_in text.now number) unit) self.new result }
-        ensures least { steps.old ≤ steps.new }
-        ensures most { steps.new ≤ steps.old + (number.fraction.end - number.fraction.start) }
-    {
-        // an arm a unit, so that the compiler knows it where the share is added
-        match unit {
-            Unit::Year => self.count(text, number, Unit::Year, steps),
-            Unit::Month => self.count(text, number, Unit::Month, steps),
-            Unit::Week => self.count(text, number, Unit::Week, steps),
-            Unit::Day => self.count(text, number, Unit::Day, steps),
-            Unit::Hour => self.count(text, number, Unit::Hour, steps),
-            Unit::Minute => self.count(text, number, Unit::Minute, steps),
-            Unit::Second => self.count(text, number, Unit::Second, steps),
-        }
-    }
-
-    /// Counts whole digits of the unit that letters name.
-    #[inline(always)]
-    fn count_whole<L: Ledger>(
-        &mut self,
-        names: NameSet,
-        text: &Looked<'_>,
-        number: Decimal,
-        letters: Word,
-        steps: &mut Steps<L>,
-    ) -> Step
-        requires number { IsDecimal text.now number }
-        requires letters { IsWord text.now letters }
-        requires room { self.old.tally.totals.adds < 2 ^ 63 }
-        ensures adds { self.new.tally.totals.adds ≤ self.old.tally.totals.adds + 1 }
-        ensures counted { (counts : List Count) → IsCounted self.old counts
-            → CountsNamed (unit_named (names_in names) (letters_of text.now letters)) counts
-            (numeral_in text.now number) letters self.new result }
-        ensures least { steps.old ≤ steps.new }
-        ensures most { steps.new ≤ steps.old + (number.fraction.end - number.fraction.start) }
-    {
-        match unit_named(names, letters) {
-            Some(unit) => {
-                if self.count_by_unit(text, number, unit, steps) {
-                    Step::Taken
-                } else {
-                    Step::BadName(letters)
-                }
-            }
-            None => Step::BadName(letters),
-        }
-    }
-
-    /// Counts a decimal of the unit that letters name.
-    #[inline(always)]
-    fn count_decimal<L: Ledger>(
+    fn count_named<L: Ledger>(
         &mut self,
         names: NameSet,
         text: &Looked<'_>,
@@ -256,6 +196,30 @@ impl Counted {
         }
     }
 
+    /// The same of a decimal.
+    // out of line, as few numbers are one: a caller that grows very large is not inlined into its loop
+    #[inline(never)]
+    fn count_decimal<L: Ledger>(
+        &mut self,
+        names: NameSet,
+        text: &Looked<'_>,
+        number: Decimal,
+        letters: Word,
+        steps: &mut Steps<L>,
+    ) -> Step
+        requires number { IsDecimal text.now number }
+        requires letters { IsWord text.now letters }
+        requires room { self.old.tally.totals.adds < 2 ^ 63 }
+        ensures adds { self.new.tally.totals.adds ≤ self.old.tally.totals.adds + 1 }
+        ensures counted { (counts : List Count) → IsCounted self.old counts
+            → CountsNamed (unit_named (names_in names) (letters_of text.now letters)) counts
+            (numeral_in text.now number) letters self.new result }
+        ensures least { steps.old ≤ steps.new }
+        ensures most { steps.new ≤ steps.old + (number.fraction.end - number.fraction.start) }
+    {
+        self.count_named(names, text, number, letters, steps)
+    }
+
     /// Counts the number whose whole digits the scan has passed, without a point behind them, and passes its letters.
     #[inline(always)]
     fn take_whole<L: Ledger>(
@@ -283,7 +247,7 @@ impl Counted {
         match name(scan, steps) {
             Some(letters) => {
                 let number = whole_number(turn(turned, negative), whole);
-                self.count_whole(names, scan.text(), number, letters, steps)
+                self.count_named(names, scan.text(), number, letters, steps)
             }
             None => Step::NoItem,
         }
@@ -393,8 +357,7 @@ impl Counted {
     }
 
     /// Counts the item in front, which is passed, with the style's names; each count is turned first where `turned`.
-    // too large to be inlined: one call of `take_ahead`, so that the copy below is in registers there
-    #[inline(never)]
+    #[inline(always)]
     pub(crate) fn take_item<L: Ledger>(
         &mut self,
         names: NameSet,

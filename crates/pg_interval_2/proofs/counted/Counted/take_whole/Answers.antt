@@ -21,8 +21,8 @@ returns-in-Some-clause-step g c =
     let is = is_turned c.args.turned c.args.negative code.result.negative whole (digits_of seen code.result.whole) [] (digits_of seen code.result.fraction) (code.ensures.number ∙ c.turn.ensures)
     (ap (digits_of seen) code.ensures.whole ∙ ap (λ (l : List ℕ). digits_of l c.args.whole) (c.text.ensures ∙ c.name.ensures.same))
     (ap (digits_of seen) code.ensures.fraction ∙ between_none seen c.args.whole.end) in
-    named_step c.args.names c.args.turned text seen _ (ahead c.name.new.scan) counts number _ c.in-Some.letters c.count_whole.new.self c.count_whole.result c.text.ensures read is c.in-Some.ensures.word c.in-Some.ensures.end
-    (c.count_whole.ensures.counted _ h)
+    named_step c.args.names c.args.turned text seen _ (ahead c.name.new.scan) counts number _ c.in-Some.letters c.count_named.new.self c.count_named.result c.text.ensures read is c.in-Some.ensures.word c.in-Some.ensures.end
+    (c.count_named.ensures.counted _ h)
 
 pub returns-in-None-clause-step : goal.returns-in-None-clause-step
 returns-in-None-clause-step g c =
