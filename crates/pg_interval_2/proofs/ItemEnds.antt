@@ -19,7 +19,7 @@ use Rattle.pg_interval_2.proofs.ItemSteps.{ItemsTaken, closed_now}
 -- ---- no item
 
 rest_unspelled : (names : Names) (counts : List Count) (total : ℕ) (rest : List ℕ)
-    → ((b : ℕ) (bs : List ℕ) → rest ≡ b ∷ bs → is_blank b ≡ false) → rest ≢ [] → IsNoItem rest counts
+    → ((b : ℕ) (bs : List ℕ) → rest ≡ b ∷ bs → is_blank b ≡ false) → rest ≢ [] → IsNoItem (read_item rest) counts
     → verdict names counts total (words rest) ≡ Unspelled
 rest_unspelled names counts total [] solid some none = absurd (some refl)
 rest_unspelled names counts total (b ∷ bs) solid some (inl none) = no_item_verdict names counts total b bs (solid b bs refl) none
@@ -28,7 +28,7 @@ rest_unspelled names counts total (b ∷ bs) solid some (inr (fields, rest, read
 
 pub text_unspelled : (names : Names) → AreNames names
     → (turned : Bool) (text rest : List ℕ) (state : Counted) (taken : ItemsTaken names turned text rest state) → rest ≢ []
-    → IsNoItem rest taken.counts
+    → IsNoItem (read_item rest) taken.counts
     → verdict names [] 0 (words text) ≡ Unspelled
 text_unspelled names letters_names turned text rest state taken some none =
     ap (λ (l : List ℕ). verdict names [] 0 (words l)) taken.split ∙ behind_items names letters_names taken.consumed rest taken.counts taken.items (closed_now names turned text rest state taken some)

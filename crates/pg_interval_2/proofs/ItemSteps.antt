@@ -9,7 +9,7 @@ use Rattle.scan_core.proofs.Joins.{join_push}
 use Rattle.scan_core.proofs.WordFacts.{words-closed}
 use Rattle.pg_interval_2.specs.declared.counted.Counted.{Counted}
 use Rattle.pg_interval_2.specs.inside.CountedItems.{IsCounted, TakesItem}
-use Rattle.pg_interval_2.specs.inside.ItemReading.{ClockFields, clock_of, after_blanks}
+use Rattle.pg_interval_2.specs.inside.ItemReading.{ClockFields, clock_of, after_blanks, read_item}
 use Rattle.pg_interval_2.specs.Postgres.{IsItem, AreItems, all_counts}
 use Rattle.pg_interval_2.specs.inside.UnitPlaces.{has_distinct_units}
 use Rattle.pg_interval_2.specs.inside.Reading.{Numeral, count_with}
@@ -158,7 +158,7 @@ front_taken names turned text rest after cs old new taken some item counted =
 
 pub one_taken :
     (names : Names) (turned : Bool) (text rest after : List ℕ) (old new : Counted) (taken : ItemsTaken names turned text rest old)
-    → rest ≢ [] → TakesItem names turned rest after taken.counts new
+    → rest ≢ [] → TakesItem names turned (read_item rest) after taken.counts new
     → ItemsTaken names turned text (after_blanks after) new
 one_taken names turned text rest after old new taken some (inl (fields, read, counted)) =
     front_taken names turned text rest after (clock_of fields) old new taken some (clock_front names rest fields after (subst (Stands rest) read (item_stands rest))) counted
@@ -167,7 +167,7 @@ one_taken names turned text rest after old new taken some (inr (n, letters, unit
 
 -- what is left of a rest after an item is shorter
 pub taken_shorter : (names : Names) (turned : Bool) (rest after : List ℕ) (counts : List Count) (new : Counted)
-    → TakesItem names turned rest after counts new
+    → TakesItem names turned (read_item rest) after counts new
     → length (after_blanks after) < length rest
 taken_shorter names turned rest after counts new (inl (fields, read, counted)) =
     let skip = ap (λ (l : List ℕ). length l) (are_skipped after).2 ∙ length-append (are_skipped after).0 (after_blanks after) in omega (arith, clock_long rest fields after read, skip)

@@ -30,6 +30,7 @@ pub mod ItemWords
 pub mod Verdicts
 pub mod IsoWeeks
 pub mod BadNames
+pub mod NamedSteps
 pub mod NoItems
 pub mod PostgresCounts
 pub mod ItemSteps

@@ -1,23 +1,24 @@
 //! The tally of items in which no unit may be counted twice.
-ghost use Rattle.std.specs.Prelude.{◌≡◌, ◌+◌, ◌-◌, ◌<◌, ◌≤◌, ◌^◌, ◌==◌, ◌&&◌, [], List, ℕ, length};
+ghost use Rattle.std.specs.Prelude.{◌≡◌, ◌≢◌, ◌+◌, ◌-◌, ◌<◌, ◌≤◌, ◌^◌, ◌==◌, ◌&&◌, [], List, ℕ, Some, length};
 ghost use Rattle.scan_core.specs.Count.{Count};
 ghost use Rattle.scan_core.specs.Digits.{number_of};
-ghost use Rattle.scan_core.specs.Runs.{digits_of};
-ghost use Rattle.scan_core.specs.Scanning.{Spends, ahead};
-ghost use Rattle.pg_interval_2.specs.inside.CountedItems.{CountsOne, CountsPerhaps, CountsAll, IsCounted, LeavesRoom, IsStep};
-ghost use Rattle.pg_interval_2.specs.inside.ItemReading.{ClockFields, clock_of};
+ghost use Rattle.scan_core.specs.Runs.{IsRun, IsWord, digits_of, letters_of};
+ghost use Rattle.scan_core.specs.Scanning.{Spends, ahead, front_byte};
+ghost use Rattle.pg_interval_2.specs.inside.CountedItems.{CountsAll, CountsNamed, CountsOne, CountsPerhaps, IsCounted, IsItemStep, IsStep, LeavesRoom};
+ghost use Rattle.pg_interval_2.specs.inside.ItemReading.{ClockFields, clock_of, read_named};
 ghost use Rattle.pg_interval_2.specs.inside.ItemViews.{AreClockRuns, HasFields};
+ghost use Rattle.pg_interval_2.specs.inside.NamedUnits.{unit_named};
 ghost use Rattle.pg_interval_2.specs.inside.NameSets.{names_in};
 ghost use Rattle.pg_interval_2.specs.inside.Reading.{IsDecimal, count_with, numeral_in};
 ghost use Rattle.pg_interval_2.specs.Turned.{turned_counts};
 
-use crate::clock::Clock;
-use crate::items::{Item, next_item};
-use crate::number::Decimal;
+use crate::clock::{Clock, clock_behind};
+use crate::number::{Decimal, fraction, sign};
 use crate::parts::turn;
 use crate::tally::Tally;
 use crate::unit_names::{NameSet, unit_named};
 use crate::units::Units;
+use crate::words::name;
 use scan_core::{Looked, Run, Scan, Steps, Unit, Word};
 use std::sync::ledger::Ledger;
 
@@ -129,7 +130,8 @@ impl Counted {
     }
 
     /// Counts a clock's fields that aren't 0, and answers false where the unit of one was counted before.
-    #[inline(always)]
+    // out of line for the same reason as `count_decimal`
+    #[inline(never)]
     fn count_clock<L: Ledger>(
         &mut self,
         text: &Looked<'_>,
@@ -162,6 +164,198 @@ impl Counted {
         self.count_nonzero(text, seconds, Unit::Second, steps)
     }
 
+    /// Counts a number of the unit that letters name.
+    #[inline(always)]
+    fn count_named<L: Ledger>(
+        &mut self,
+        names: NameSet,
+        text: &Looked<'_>,
+        number: Decimal,
+        letters: Word,
+        steps: &mut Steps<L>,
+    ) -> Step
+        requires number { IsDecimal text.now number }
+        requires letters { IsWord text.now letters }
+        requires room { self.old.tally.totals.adds < 2 ^ 63 }
+        ensures adds { self.new.tally.totals.adds ≤ self.old.tally.totals.adds + 1 }
+        ensures counted { (counts : List Count) → IsCounted self.old counts
+            → CountsNamed (unit_named (names_in names) (letters_of text.now letters)) counts
+            (numeral_in text.now number) letters self.new result }
+        ensures least { steps.old ≤ steps.new }
+        ensures most { steps.new ≤ steps.old + (number.fraction.end - number.fraction.start) }
+    {
+        match unit_named(names, letters) {
+            Some(unit) => {
+                if self.count(text, number, unit, steps) {
+                    Step::Taken
+                } else {
+                    Step::BadName(letters)
+                }
+            }
+            None => Step::BadName(letters),
+        }
+    }
+
+    /// The same of a decimal.
+    // out of line, as few numbers are one: a caller that grows very large is not inlined into its loop
+    #[inline(never)]
+    fn count_decimal<L: Ledger>(
+        &mut self,
+        names: NameSet,
+        text: &Looked<'_>,
+        number: Decimal,
+        letters: Word,
+        steps: &mut Steps<L>,
+    ) -> Step
+        requires number { IsDecimal text.now number }
+        requires letters { IsWord text.now letters }
+        requires room { self.old.tally.totals.adds < 2 ^ 63 }
+        ensures adds { self.new.tally.totals.adds ≤ self.old.tally.totals.adds + 1 }
+        ensures counted { (counts : List Count) → IsCounted self.old counts
+            → CountsNamed (unit_named (names_in names) (letters_of text.now letters)) counts
+            (numeral_in text.now number) letters self.new result }
+        ensures least { steps.old ≤ steps.new }
+        ensures most { steps.new ≤ steps.old + (number.fraction.end - number.fraction.start) }
+    {
+        self.count_named(names, text, number, letters, steps)
+    }
+
+    /// Counts the number whose whole digits the scan has passed, without a point behind them, and passes its letters.
+    #[inline(always)]
+    fn take_whole<L: Ledger>(
+        &mut self,
+        names: NameSet,
+        turned: bool,
+        negative: bool,
+        whole: Run,
+        scan: &mut Scan<'_>,
+        steps: &mut Steps<L>,
+    ) -> Step
+        requires whole { IsRun scan.old.text whole }
+        requires some { whole.start ≢ whole.end }
+        requires point { front_byte (ahead scan.old) ≢ Some 46 }
+        requires room { self.old.tally.totals.adds < 2 ^ 63 }
+        ensures room { LeavesRoom (self.old.tally.totals.adds + length (ahead scan.old))
+            (self.new.tally.totals.adds + length (ahead scan.new)) result }
+        ensures step { (counts : List Count) → IsCounted self.old (turned_counts turned counts)
+            → IsItemStep (names_in names) turned scan.new.text
+            (read_named negative (digits_of scan.old.text whole) (ahead scan.old))
+            (ahead scan.new) counts self.new result }
+        ensures same { scan.new.text ≡ scan.old.text }
+        ensures spends { Spends steps.old (ahead scan.old) steps.new (ahead scan.new) }
+    {
+        match name(scan, steps) {
+            Some(letters) => {
+                let number = whole_number(turn(turned, negative), whole);
+                self.count_named(names, scan.text(), number, letters, steps)
+            }
+            None => Step::NoItem,
+        }
+    }
+
+    /// Counts the number whose whole digits, perhaps none, the scan has passed, and passes its fraction and letters.
+    #[inline(always)]
+    fn take_decimal<L: Ledger>(
+        &mut self,
+        names: NameSet,
+        turned: bool,
+        negative: bool,
+        whole: Run,
+        scan: &mut Scan<'_>,
+        steps: &mut Steps<L>,
+    ) -> Step
+        requires whole { IsRun scan.old.text whole }
+        requires room { self.old.tally.totals.adds < 2 ^ 63 }
+        ensures room { LeavesRoom (self.old.tally.totals.adds + length (ahead scan.old))
+            (self.new.tally.totals.adds + length (ahead scan.new)) result }
+        ensures step { (counts : List Count) → IsCounted self.old (turned_counts turned counts)
+            → IsItemStep (names_in names) turned scan.new.text
+            (read_named negative (digits_of scan.old.text whole) (ahead scan.old))
+            (ahead scan.new) counts self.new result }
+        ensures same { scan.new.text ≡ scan.old.text }
+        ensures spends { Spends steps.old (ahead scan.old) steps.new (ahead scan.new) }
+    {
+        let fraction = fraction(scan, steps);
+        if whole.is_empty() && fraction.is_empty() {
+            return Step::NoItem;
+        }
+        match name(scan, steps) {
+            Some(letters) => {
+                let number = Decimal {
+                    negative: turn(turned, negative),
+                    whole,
+                    fraction,
+                };
+                self.count_decimal(names, scan.text(), number, letters, steps)
+            }
+            None => Step::NoItem,
+        }
+    }
+
+    /// Counts the number whose whole digits the scan has passed: nearly all have some, and no point behind them.
+    #[inline(always)]
+    fn take_named<L: Ledger>(
+        &mut self,
+        names: NameSet,
+        turned: bool,
+        negative: bool,
+        whole: Run,
+        scan: &mut Scan<'_>,
+        steps: &mut Steps<L>,
+    ) -> Step
+        requires whole { IsRun scan.old.text whole }
+        requires room { self.old.tally.totals.adds < 2 ^ 63 }
+        ensures room { LeavesRoom (self.old.tally.totals.adds + length (ahead scan.old))
+            (self.new.tally.totals.adds + length (ahead scan.new)) result }
+        ensures step { (counts : List Count) → IsCounted self.old (turned_counts turned counts)
+            → IsItemStep (names_in names) turned scan.new.text
+            (read_named negative (digits_of scan.old.text whole) (ahead scan.old))
+            (ahead scan.new) counts self.new result }
+        ensures same { scan.new.text ≡ scan.old.text }
+        ensures spends { Spends steps.old (ahead scan.old) steps.new (ahead scan.new) }
+    {
+        if whole.is_empty() || scan.peek() == Some(b'.') {
+            return self.take_decimal(names, turned, negative, whole, scan, steps);
+        }
+        self.take_whole(names, turned, negative, whole, scan, steps)
+    }
+
+    /// Counts the item in front: a sign and digits begin both kinds, and a colon behind them tells a clock.
+    #[inline(always)]
+    fn take_ahead<L: Ledger>(
+        &mut self,
+        names: NameSet,
+        turned: bool,
+        scan: &mut Scan<'_>,
+        steps: &mut Steps<L>,
+    ) -> Step
+        requires room { self.old.tally.totals.adds + length (ahead scan.old) < 2 ^ 63 }
+        ensures room { LeavesRoom (self.old.tally.totals.adds + length (ahead scan.old))
+            (self.new.tally.totals.adds + length (ahead scan.new)) result }
+        ensures step { (counts : List Count) → IsCounted self.old (turned_counts turned counts)
+            → IsStep (names_in names) turned scan.new.text (ahead scan.old) (ahead scan.new)
+            counts self.new result }
+        ensures same { scan.new.text ≡ scan.old.text }
+        ensures spends { Spends steps.old (ahead scan.old) steps.new (ahead scan.new) }
+    {
+        let negative = sign(true, scan, steps);
+        let whole = scan.digits(steps);
+        if !scan.next_if(b':', steps) {
+            return self.take_named(names, turned, negative, whole, scan, steps);
+        }
+        match clock_behind(negative, whole, scan, steps) {
+            Some(clock) => {
+                let negative = turn(turned, clock.negative);
+                if self.count_clock(scan.text(), Clock { negative, ..clock }, steps) {
+                    Step::Taken
+                } else {
+                    Step::NoItem
+                }
+            }
+            None => Step::NoItem,
+        }
+    }
+
     /// Counts the item in front, which is passed, with the style's names; each count is turned first where `turned`.
     #[inline(always)]
     pub(crate) fn take_item<L: Ledger>(
@@ -180,27 +374,10 @@ impl Counted {
         ensures same { scan.new.text ≡ scan.old.text }
         ensures spends { Spends steps.old (ahead scan.old) steps.new (ahead scan.new) }
     {
-        match next_item(scan, steps) {
-            Item::Clock(clock) => {
-                let negative = turn(turned, clock.negative);
-                if self.count_clock(scan.text(), Clock { negative, ..clock }, steps) {
-                    Step::Taken
-                } else {
-                    Step::NoItem
-                }
-            }
-            Item::Named(number, letters) => match unit_named(names, letters) {
-                Some(unit) => {
-                    let negative = turn(turned, number.negative);
-                    if self.count(scan.text(), Decimal { negative, ..number }, unit, steps) {
-                        Step::Taken
-                    } else {
-                        Step::BadName(letters)
-                    }
-                }
-                None => Step::BadName(letters),
-            },
-            Item::Neither => Step::NoItem,
-        }
+        // scanned on a copy, whose place stays in registers from byte to byte
+        let mut here = scan.here();
+        let step = self.take_ahead(names, turned, &mut here, steps);
+        *scan = here;
+        step
     }
 }

@@ -157,6 +157,8 @@ pub(crate) fn spelled<L: Ledger>(text: &Looked<'_>, steps: &mut Steps<L>) -> Opt
 }
 
 /// What `Interval::from_iso` answers, with at most two looks a byte, and with one at least where it is Ok.
+// a function of its own: where the style is named, `read_counted` is this call alone
+#[inline(never)]
 pub(crate) fn read_iso<L: Ledger>(
     text: &Looked<'_>,
     steps: &mut Steps<L>,

@@ -39,6 +39,8 @@ fn tally_of<L: Ledger>(text: &Looked<'_>, steps: &mut Steps<L>) -> Option<Tally>
 }
 
 /// What `Interval::from_iso_strict` answers, with at most two looks a byte, and with one at least where it is Ok.
+// a function of its own: where the style is named, `read_counted` is this call alone
+#[inline(never)]
 pub(crate) fn read_iso_strict<L: Ledger>(
     text: &Looked<'_>,
     steps: &mut Steps<L>,

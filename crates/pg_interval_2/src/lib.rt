@@ -17,7 +17,6 @@ mod interval;
 mod iso;
 mod iso_strict;
 mod iso_text;
-mod items;
 pub mod laws;
 mod number;
 mod order;

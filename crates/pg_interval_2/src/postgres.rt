@@ -18,6 +18,8 @@ use std::marker::Brand;
 use std::sync::ledger::{Blank, Ledger};
 
 /// What `Interval::from_postgres` answers, with at most two looks a byte, and with one at least where it is Ok.
+// a function of its own: where the style is named, `read_counted` is this call alone
+#[inline(never)]
 pub(crate) fn read_postgres<L: Ledger>(
     text: &Looked<'_>,
     steps: &mut Steps<L>,

@@ -19,6 +19,8 @@ use std::sync::ledger::{Blank, Ledger};
 ///
 /// Of a text of n bytes it looks at most 2n + 4 times: once at each byte, once more at the digits of a fraction of more than
 /// twelve, and four times at the end. Where it answers an interval, it has looked at each byte.
+// inlined, so that no switch is left where the caller names the style
+#[inline(always)]
 pub fn read_counted<L: Ledger>(
     style: Style,
     text: &Looked<'_>,

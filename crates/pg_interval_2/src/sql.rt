@@ -147,6 +147,8 @@ fn tally_of<L: Ledger>(text: &Looked<'_>, steps: &mut Steps<L>) -> Option<Tally>
 }
 
 /// What `Interval::from_sql` answers, with at most two looks a byte, and with one at least where it is Ok.
+// a function of its own: where the style is named, `read_counted` is this call alone
+#[inline(never)]
 pub(crate) fn read_sql<L: Ledger>(
     text: &Looked<'_>,
     steps: &mut Steps<L>,

@@ -11,6 +11,7 @@ use arrayvec::ArrayString;
 use scan_core::push_text;
 
 /// Appends the sign of a number, a plus also of 0.
+#[inline(always)]
 fn push_sign<const CAP: usize>(out: &mut ArrayString<CAP>, negative: bool)
     requires { array_string_len out.old + 1 ≤ CAP }
     ensures bytes { out.new.bytes ≡ out.old.bytes ++ sign_text negative }
@@ -25,6 +26,7 @@ fn push_sign<const CAP: usize>(out: &mut ArrayString<CAP>, negative: bool)
 
 /// Appends years, a minus and months, by magnitude.
 #[tactic(auto, unfolding(crate::specs::inside::SqlSteps::year_month_text))]
+#[inline(always)]
 fn push_year_month<const CAP: usize>(out: &mut ArrayString<CAP>, months: i32)
     requires { array_string_len out.old + 21 ≤ CAP }
     ensures bytes { out.new.bytes ≡ out.old.bytes ++ year_month_text months }
@@ -55,6 +57,7 @@ fn has_all_signs(months: i32, days: i32, micros: i64) -> bool
 }
 
 /// Appends each of the three numbers with its sign.
+#[inline(always)]
 fn push_signed<const CAP: usize>(out: &mut ArrayString<CAP>, months: i32, days: i32, micros: i64)
     requires { array_string_len out.old + 96 ≤ CAP }
     ensures bytes { out.new.bytes ≡ out.old.bytes ++ signed_text months days micros }
@@ -72,6 +75,7 @@ fn push_signed<const CAP: usize>(out: &mut ArrayString<CAP>, months: i32, days: 
 
 /// Appends months alone.
 #[tactic(auto, unfolding(crate::specs::inside::SqlSteps::months_text))]
+#[inline(always)]
 fn push_months<const CAP: usize>(out: &mut ArrayString<CAP>, months: i32)
     requires { array_string_len out.old + 96 ≤ CAP }
     ensures bytes { out.new.bytes ≡ out.old.bytes ++ months_text months }
@@ -83,6 +87,7 @@ fn push_months<const CAP: usize>(out: &mut ArrayString<CAP>, months: i32)
 
 /// Appends days and the time, whose sign is that of the days.
 #[tactic(auto, unfolding(crate::specs::inside::SqlSteps::days_text))]
+#[inline(always)]
 fn push_days<const CAP: usize>(out: &mut ArrayString<CAP>, days: i32, micros: i64)
     requires { array_string_len out.old + 96 ≤ CAP }
     ensures bytes { out.new.bytes ≡ out.old.bytes ++ days_text days micros }
@@ -96,6 +101,7 @@ fn push_days<const CAP: usize>(out: &mut ArrayString<CAP>, days: i32, micros: i6
 
 /// Appends the time alone.
 #[tactic(auto, unfolding(crate::specs::inside::SqlSteps::time_text))]
+#[inline(always)]
 fn push_time<const CAP: usize>(out: &mut ArrayString<CAP>, micros: i64)
     requires { array_string_len out.old + 96 ≤ CAP }
     ensures bytes { out.new.bytes ≡ out.old.bytes ++ time_text micros }
@@ -107,6 +113,7 @@ fn push_time<const CAP: usize>(out: &mut ArrayString<CAP>, micros: i64)
 
 /// Appends the text in which one sign serves all.
 #[tactic(auto, unfolding(crate::specs::inside::SqlSteps::plain_text))]
+#[inline(always)]
 fn push_plain<const CAP: usize>(out: &mut ArrayString<CAP>, months: i32, days: i32, micros: i64)
     requires { array_string_len out.old + 96 ≤ CAP }
     ensures bytes { out.new.bytes ≡ out.old.bytes ++ plain_text months days micros }

@@ -18,40 +18,47 @@ pub(crate) enum NameSet {
     Verbose,
 }
 
-// The names, packed as a scan packs the letters of a word: a byte each, the last the lowest.
-const YEARS: u64 = 0x79_65_61_72_73;
+/// A number, and letters behind it, packed as a scan packs those of a word: a byte each, the last the lowest.
+macro_rules! packed {
+    ($before:expr;) => { $before };
+    ($before:expr; $letter:literal $($more:literal)*) => {
+        packed!($before << 8 | $letter as u64; $($more)*)
+    };
+}
 
-const YEAR: u64 = 0x79_65_61_72;
+const YEARS: u64 = packed!(0; b'y' b'e' b'a' b'r' b's');
 
-const MONTHS: u64 = 0x6D_6F_6E_74_68_73;
+const YEAR: u64 = packed!(0; b'y' b'e' b'a' b'r');
 
-const MONS: u64 = 0x6D_6F_6E_73;
+const MONTHS: u64 = packed!(0; b'm' b'o' b'n' b't' b'h' b's');
 
-const MON: u64 = 0x6D_6F_6E;
+const MONS: u64 = packed!(0; b'm' b'o' b'n' b's');
 
-const DAYS: u64 = 0x64_61_79_73;
+const MON: u64 = packed!(0; b'm' b'o' b'n');
 
-const DAY: u64 = 0x64_61_79;
+const DAYS: u64 = packed!(0; b'd' b'a' b'y' b's');
 
-const HOURS: u64 = 0x68_6F_75_72_73;
+const DAY: u64 = packed!(0; b'd' b'a' b'y');
 
-const HOUR: u64 = 0x68_6F_75_72;
+const HOURS: u64 = packed!(0; b'h' b'o' b'u' b'r' b's');
 
-const MINUTES: u64 = 0x6D_69_6E_75_74_65_73;
+const HOUR: u64 = packed!(0; b'h' b'o' b'u' b'r');
 
-const MINUTE: u64 = 0x6D_69_6E_75_74_65;
+const MINUTES: u64 = packed!(0; b'm' b'i' b'n' b'u' b't' b'e' b's');
 
-const MINS: u64 = 0x6D_69_6E_73;
+const MINUTE: u64 = packed!(0; b'm' b'i' b'n' b'u' b't' b'e');
 
-const MIN: u64 = 0x6D_69_6E;
+const MINS: u64 = packed!(0; b'm' b'i' b'n' b's');
 
-const SECONDS: u64 = 0x73_65_63_6F_6E_64_73;
+const MIN: u64 = packed!(0; b'm' b'i' b'n');
 
-const SECOND: u64 = 0x73_65_63_6F_6E_64;
+const SECONDS: u64 = packed!(0; b's' b'e' b'c' b'o' b'n' b'd' b's');
 
-const SECS: u64 = 0x73_65_63_73;
+const SECOND: u64 = packed!(0; b's' b'e' b'c' b'o' b'n' b'd');
 
-const SEC: u64 = 0x73_65_63;
+const SECS: u64 = packed!(0; b's' b'e' b'c' b's');
+
+const SEC: u64 = packed!(0; b's' b'e' b'c');
 
 /// The unit that a word names.
 #[inline(always)]

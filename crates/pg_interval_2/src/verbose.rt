@@ -55,6 +55,8 @@ fn tally_behind_at<L: Ledger>(
 
 /// What `Interval::from_postgres_verbose` answers, with at most two looks a byte and four more, and with one a byte at least
 /// where it is Ok.
+// a function of its own: where the style is named, `read_counted` is this call alone
+#[inline(never)]
 pub(crate) fn read_verbose<L: Ledger>(
     text: &Looked<'_>,
     steps: &mut Steps<L>,

@@ -21,6 +21,7 @@ fn has_ago(months: i32, days: i32, micros: i64) -> bool
 
 /// Appends a part's number and its name, each behind a space, or nothing where it is 0.
 #[tactic(auto, unfolding(crate::specs::inside::PostgresSteps::number_words))]
+#[inline(always)]
 fn push_unit<const CAP: usize>(out: &mut ArrayString<CAP>, negative: bool, value: u32, name: &str)
     requires name { length name.now ≤ 4 }
     requires room { array_string_len out.old + 18 ≤ CAP }
@@ -40,6 +41,7 @@ fn push_unit<const CAP: usize>(out: &mut ArrayString<CAP>, negative: bool, value
 
 /// Appends seconds with microseconds as one exact decimal.
 #[tactic(auto, using(crate::proofs::Widths::length_decimal_micros), unfolding(crate::specs::inside::VerboseSteps::second_digits))]
+#[inline(always)]
 fn push_decimal<const CAP: usize>(out: &mut ArrayString<CAP>, seconds: u32, micros: u32)
     requires seconds { seconds < 60 }
     requires micros { micros < 1_000_000 }
@@ -54,6 +56,7 @@ fn push_decimal<const CAP: usize>(out: &mut ArrayString<CAP>, seconds: u32, micr
 
 /// Appends the seconds with their microseconds, or nothing where they are 0.
 #[tactic(auto, unfolding(crate::specs::inside::VerboseSteps::second_words))]
+#[inline(always)]
 fn push_seconds<const CAP: usize>(
     out: &mut ArrayString<CAP>,
     negative: bool,
@@ -78,6 +81,7 @@ fn push_seconds<const CAP: usize>(
 }
 
 /// Appends the years, months and days, each with its sign, turned or not.
+#[inline(always)]
 fn push_date<const CAP: usize>(out: &mut ArrayString<CAP>, ago: bool, months: i32, days: i32)
     requires { array_string_len out.old + 46 ≤ CAP }
     ensures bytes { out.new.bytes ≡ out.old.bytes ++ verbose_date ago months days }
@@ -96,6 +100,7 @@ fn push_date<const CAP: usize>(out: &mut ArrayString<CAP>, ago: bool, months: i3
 
 /// Appends the hours, minutes and seconds, with their sign, turned or not.
 #[tactic(auto, unfolding(crate::specs::inside::VerboseSteps::verbose_time))]
+#[inline(always)]
 fn push_time<const CAP: usize>(out: &mut ArrayString<CAP>, ago: bool, micros: i64)
     requires { array_string_len out.old + 47 ≤ CAP }
     ensures bytes { out.new.bytes ≡ out.old.bytes ++ verbose_time ago micros }
@@ -109,6 +114,7 @@ fn push_time<const CAP: usize>(out: &mut ArrayString<CAP>, ago: bool, micros: i6
 
 /// Appends the text of an interval that isn't zero.
 #[tactic(auto, unfolding(crate::specs::inside::VerboseSteps::parts_text))]
+#[inline(always)]
 fn push_parts<const CAP: usize>(
     out: &mut ArrayString<CAP>,
     ago: bool,

@@ -1,5 +1,5 @@
 -- Items counted, no unit twice: cited by private contracts alone.
-use Rattle.std.specs.Prelude.{◌≡◌, ◌⊎◌, ℕ, ◌+◌, ◌≤◌, length, Bool, true, false, List, [], ◌∷◌, ◌++◌, Some, filter}
+use Rattle.std.specs.Prelude.{◌≡◌, ◌⊎◌, ℕ, ◌+◌, ◌≤◌, length, Bool, true, false, List, [], ◌∷◌, ◌++◌, Option, Some, None, filter}
 use Rattle.scan_core.specs.Count.{Count}
 use Rattle.scan_core.specs.declared.share.Unit.{Unit as TimeUnit}
 use Rattle.pg_interval_2.specs.declared.counted.Counted.{Counted}
@@ -7,7 +7,7 @@ use Rattle.pg_interval_2.specs.declared.counted.Step.{Step}
 use Rattle.pg_interval_2.specs.declared.counted.Step.TheVariants as step
 use Rattle.scan_core.specs.declared.runs.Word.{Word}
 use Rattle.pg_interval_2.specs.inside.Reading.{is_nonzero}
-use Rattle.pg_interval_2.specs.inside.ItemReading.{ClockFields, ClockItem, NamedItem, NoItem, clock_of, read_item}
+use Rattle.pg_interval_2.specs.inside.ItemReading.{ClockFields, NextItem, ClockItem, NamedItem, NoItem, clock_of, read_item}
 use Rattle.pg_interval_2.specs.Postgres.{IsFreshName}
 use Rattle.pg_interval_2.specs.inside.UnitPlaces.{counts_unit, has_distinct_units}
 use Rattle.pg_interval_2.specs.inside.Reading.{Numeral, count_with}
@@ -37,41 +37,58 @@ abbrev pub CountsAll : List Count → List Count → Counted → Bool → Type 0
 CountsAll counts more new true = IsCounted new (counts ++ more)
 CountsAll counts more new false = has_distinct_units (counts ++ more) ≡ false
 
--- an item in front of the bytes was counted, its counts turned or not as those before
-abbrev pub TakesItem : (TimeUnit → List (List ℕ)) → Bool → List ℕ → List ℕ → List Count → Counted
+-- a number of letters' unit was counted, or its unit before it, or the letters name none
+abbrev pub CountsNamed : Option TimeUnit → List Count → Numeral → Word → Counted → Step → Type 0
+CountsNamed (Some unit) counts n word new step.Taken =
+    IsCounted new (counts ++ count_with n unit ∷ [])
+CountsNamed (Some unit) counts n word new (step.BadName bad) =
+    (bad ≡ word) × (counts_unit unit counts ≡ true)
+CountsNamed (Some unit) counts n word new step.NoItem = ⊥
+CountsNamed None counts n word new step.Taken = ⊥
+CountsNamed None counts n word new (step.BadName bad) = bad ≡ word
+CountsNamed None counts n word new step.NoItem = ⊥
+
+-- an item that was read was counted, its counts turned or not as those before
+abbrev pub TakesItem : (TimeUnit → List (List ℕ)) → Bool → NextItem → List ℕ → List Count → Counted
     → Type 0
-TakesItem names turned bytes rest counts new =
-    ((fields : ClockFields) × (read_item bytes ≡ ClockItem fields rest)
+TakesItem names turned item rest counts new =
+    ((fields : ClockFields) × (item ≡ ClockItem fields rest)
     × IsCounted new (turned_counts turned (counts ++ clock_of fields)))
     ⊎ ((n : Numeral) × (letters : List ℕ) × (unit : TimeUnit)
-    × (read_item bytes ≡ NamedItem n letters rest) × (unit_named names letters ≡ Some unit)
+    × (item ≡ NamedItem n letters rest) × (unit_named names letters ≡ Some unit)
     × IsCounted new (turned_counts turned (counts ++ count_with n unit ∷ [])))
 
--- a number stands in front of the bytes, and a word of the text behind it that is no fresh name
-pub record IsBadStep (names : TimeUnit → List (List ℕ)) (text bytes rest : List ℕ)
-    (counts : List Count) (word : Word) : Type 0 where
+-- a number was read, and a word of the text behind it that is no fresh name
+pub record IsBadStep (names : TimeUnit → List (List ℕ)) (text : List ℕ) (item : NextItem)
+    (rest : List ℕ) (counts : List Count) (word : Word) : Type 0 where
   pub number : Numeral
   pub letters : List ℕ
-  pub read : read_item bytes ≡ NamedItem number letters rest
+  pub read : item ≡ NamedItem number letters rest
   pub bad : ¬ (IsFreshName names counts letters)
   pub starts : word.start + length letters ≡ word.end
   pub ends : word.end + length rest ≡ length text
 
--- no item stands in front, or a clock with a unit that was counted before
-abbrev pub IsNoItem : List ℕ → List Count → Type 0
-IsNoItem bytes counts =
-    (read_item bytes ≡ NoItem)
-    ⊎ ((fields : ClockFields) × (rest : List ℕ) × (read_item bytes ≡ ClockItem fields rest)
+-- no item was read, or a clock with a unit that was counted before
+abbrev pub IsNoItem : NextItem → List Count → Type 0
+IsNoItem item counts =
+    (item ≡ NoItem)
+    ⊎ ((fields : ClockFields) × (rest : List ℕ) × (item ≡ ClockItem fields rest)
     × (has_distinct_units (counts ++ clock_of fields) ≡ false))
+
+-- what a step says of the item that was read and the rest behind it, behind these counts
+abbrev pub IsItemStep : (TimeUnit → List (List ℕ)) → Bool → List ℕ → NextItem → List ℕ
+    → List Count → Counted → Step → Type 0
+IsItemStep names turned text item rest counts new step.Taken =
+    TakesItem names turned item rest counts new
+IsItemStep names turned text item rest counts new (step.BadName word) =
+    IsBadStep names text item rest counts word
+IsItemStep names turned text item rest counts new step.NoItem = IsNoItem item counts
 
 -- what a step says of the bytes, behind these counts
 abbrev pub IsStep : (TimeUnit → List (List ℕ)) → Bool → List ℕ → List ℕ → List ℕ → List Count
     → Counted → Step → Type 0
-IsStep names turned text bytes rest counts new step.Taken =
-    TakesItem names turned bytes rest counts new
-IsStep names turned text bytes rest counts new (step.BadName word) =
-    IsBadStep names text bytes rest counts word
-IsStep names turned text bytes rest counts new step.NoItem = IsNoItem bytes counts
+IsStep names turned text bytes rest counts new result =
+    IsItemStep names turned text (read_item bytes) rest counts new result
 
 -- an item has no more counts than bytes
 abbrev pub LeavesRoom : ℕ → ℕ → Step → Type 0

@@ -72,10 +72,14 @@ unfoldable pub read_clock : Bool → List ℕ → List ℕ → NextItem
 read_clock negative hours rest =
     read_seconds negative hours (front_digits rest) (read_byte 58 (after_digits rest))
 
+-- letters stand in front, and a word ends behind them
+abbrev pub has_name : List ℕ → Bool
+has_name name = nat_lt 0 (length (front_letters name)) && ends_word (after_letters name)
+
 -- a number's letters, behind blanks or none
 abbrev pub named_item : Numeral → List ℕ → NextItem
 named_item n name =
-    if nat_lt 0 (length (front_letters name)) && ends_word (after_letters name)
+    if has_name name
     then NamedItem n (front_letters name) (after_letters name)
     else NoItem
 
