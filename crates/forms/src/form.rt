@@ -1,7 +1,7 @@
 //! The written forms and their names. Each has a module of its own, which reads and writes it.
 ghost use Rattle.std.specs.Prelude.{◌≡◌, ◌≢◌, ◌↔◌, ℕ, List, ◌++◌, Option, Some, IfSome, IfNone};
 ghost use Rattle.std.specs.Option.{option_copied};
-ghost use Rattle.forms.specs.Names.{is_counted, name_of};
+ghost use Rattle.forms.specs.Names.{is_counted, name_of, style_of};
 ghost use Rattle.forms.specs.inside.Reading.{behind, IsNamed};
 ghost use Rattle.forms.specs.declared.form.Form.{Form as AnyForm};
 
@@ -12,6 +12,8 @@ pub mod iso_date;
 pub mod iso_date_time;
 pub mod iso_duration;
 pub mod toml;
+
+use pg_interval_2::Style;
 
 /// A written form of moments, days, times of day, intervals or lengths.
 #[derive(Clone, Copy, Debug, PartialEq, Eq)]
@@ -122,6 +124,26 @@ impl Form {
             Form::PgVerbose => "PgVerbose",
             Form::PgSql => "PgSql",
             Form::IsoStrict => "IsoStrict",
+        }
+    }
+
+    /// The style of an interval form, or None exactly of the other forms.
+    #[inline(always)]
+    pub(crate) fn style(self) -> Option<Style>
+        ensures { result ≡ style_of self }
+    {
+        match self {
+            Form::PgIso => Some(Style::Iso),
+            Form::Postgres => Some(Style::Postgres),
+            Form::PgVerbose => Some(Style::Verbose),
+            Form::PgSql => Some(Style::Sql),
+            Form::IsoStrict => Some(Style::IsoStrict),
+            Form::FileTime
+            | Form::IsoDateTime
+            | Form::IsoDate
+            | Form::IsoDuration
+            | Form::Toml
+            | Form::Fancy => None,
         }
     }
 
