@@ -55,7 +55,8 @@ behind_tail text None h = inl (h, refl)
 behind_tail text (Some rest) h = inr (ap (λ (l : List ℕ). codes " " ++ l) (sym h))
 
 -- two names, and behind them the end or a text
-pub names_of : (line rest text : List ℕ) (from to : Form) (end : Option (List ℕ)) → IsNamed line from (Some rest) → IsNamed rest to end → text ≡ unwrap_or end [] → HasNames line from to text
+pub names_of : (line rest text : List ℕ) (from to : Form) (end : Option (List ℕ)) → IsNamed line from (Some rest) → IsNamed rest to end
+    → text ≡ unwrap_or end [] → HasNames line from to text
 names_of line rest text from to end first second told = record {
   tail = behind end;
   rest = behind_tail text end told;
@@ -83,7 +84,8 @@ utf8_of_line line from to text h utf8 =
     text_utf8 text h.tail h.rest (utf8_past (name_of to) h.tail (small_name to) (utf8_past (codes " ") (name_of to ++ h.tail) refl rest))
 
 -- the reply to the text of a line is the reply to the line
-pub reply_of_names : (line : List ℕ) (from to : Form) (text reply : List ℕ) (refused : Bool) → HasNames line from to text → IsTextReply from to text reply refused → IsReply line reply
+pub reply_of_names : (line : List ℕ) (from to : Form) (text reply : List ℕ) (refused : Bool)
+    → HasNames line from to text → IsTextReply from to text reply refused → IsReply line reply
 reply_of_names line from to text reply refused h (inl (bad, told, is)) = inl (λ f t other asked. bad (utf8_of_line line from to text h asked.0), told)
 reply_of_names line from to text reply refused h (inr (answer, utf8, is, told, refuses)) =
     let parts : HasRequest line from to text = record { tail = h.tail; utf8 = line_utf8 line from to text h utf8; rest = h.rest; joined = h.joined } in

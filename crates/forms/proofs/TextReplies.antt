@@ -32,7 +32,8 @@ refused_utf8 alphabet s text Syntax h other = absurd (other refl)
 refused_utf8 alphabet s text Range h other = spelled_utf8 alphabet s text h.0 h.1
 refused_utf8 alphabet s text _ h other = absurd h
 
-answers : (s u : Style) (f t : Form) (text : List ℕ) (answer : Result (List ℕ) Cause) → style_of f ≡ Some s → style_of t ≡ Some u → IsIntervalAnswer s u text answer → IsAnswer f t text answer
+answers : (s u : Style) (f t : Form) (text : List ℕ) (answer : Result (List ℕ) Cause)
+    → style_of f ≡ Some s → style_of t ≡ Some u → IsIntervalAnswer s u text answer → IsAnswer f t text answer
 unfolding IsAnswer
 answers s u f t text answer from to h = inl (s, u, from, to, h)
 
@@ -42,7 +43,8 @@ no_answer s u text Range h = h
 no_answer s u text _ h = absurd h
 
 -- the text of the interval that a text denotes is its reply
-pub interval_reply : AreOfAlphabet → (s u : Style) (text : List ℕ) (i : Interval) → Denotes (Shape s) text i → (f t : Form) → style_of f ≡ Some s → style_of t ≡ Some u
+pub interval_reply : AreOfAlphabet → (s u : Style) (text : List ℕ) (i : Interval) → Denotes (Shape s) text i
+    → (f t : Form) → style_of f ≡ Some s → style_of t ≡ Some u
     → IsTextReply f t text (style_text u i) false
 interval_reply alphabet s u text i h f t from to =
     inr (Ok (style_text u i), spelled_utf8 alphabet s text h.0 h.1, answers s u f t text (Ok (style_text u i)) from to (i, h, refl), refl, refl)
@@ -51,7 +53,8 @@ interval_reply alphabet s u text i h f t from to =
 abbrev pub IsWord : List ℕ → Cause → List ℕ → Type 0
 IsWord text cause word = ((IsUtf8 text → ⊥) × (word ≡ codes "Line")) ⊎ (IsUtf8 text × (word ≡ cause_name cause))
 
-pub no_interval_reply : (s u : Style) (text : List ℕ) (cause : Cause) (word : List ℕ) → IsNoInterval s text cause → IsWord text cause word → (f t : Form) → style_of f ≡ Some s → style_of t ≡ Some u
+pub no_interval_reply : (s u : Style) (text : List ℕ) (cause : Cause) (word : List ℕ) → IsNoInterval s text cause → IsWord text cause word
+    → (f t : Form) → style_of f ≡ Some s → style_of t ≡ Some u
     → IsTextReply f t text (codes "refused " ++ word) true
 no_interval_reply s u text cause word h (inl bad) f t from to = inl (bad.0, ap (λ (l : List ℕ). codes "refused " ++ l) bad.1, refl)
 no_interval_reply s u text cause word h (inr well) f t from to =
