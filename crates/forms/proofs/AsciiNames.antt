@@ -8,8 +8,10 @@ use Rattle.std.proofs.lemmas.Str.{IsUtf8-append, IsUtf8-from_ascii, IsUtf8-past_
 use Rattle.forms.specs.declared.form.Form.{Form}
 use Rattle.forms.specs.declared.form.Form.TheVariants.{FileTime, IsoDateTime, IsoDate, IsoDuration, Toml, Fancy, PgIso, Postgres, PgVerbose, PgSql, IsoStrict}
 use Rattle.forms.specs.Names.{name_of}
-use Rattle.forms.specs.Replies.{IsRequest}
-use Rattle.forms.specs.inside.Requests.{HasRequest, IsTail}
+use Rattle.forms.specs.Replies.{IsReply, IsRequest}
+use Rattle.forms.specs.TextReplies.{IsTextReply}
+use Rattle.forms.specs.inside.Requests.{HasNames, HasRequest, IsTail}
+use Rattle.forms.proofs.Requests.{whole}
 use Rattle.forms.specs.inside.Reading.{behind, IsNamed}
 
 abbrev pub is_small : ℕ → Bool
@@ -48,26 +50,46 @@ utf8_past (b ∷ bs) bytes h utf8 =
     let spelled = ap (λ (l : List ℕ). l ++ (bs ++ bytes)) (sym (encode_ascii b (small_below b parts.0))) in
     utf8_past bs bytes parts.1 (IsUtf8-past_char (b ∷ (bs ++ bytes)) (bs ++ bytes) b utf8 spelled)
 
-utf8_named : (text : List ℕ) (form : Form) (rest : Option (List ℕ)) → IsNamed text form rest → IsUtf8 (unwrap_or rest []) → IsUtf8 text
-utf8_named text form None named utf8 = subst IsUtf8 (sym named) (utf8_with (name_of form) [] (small_name form) utf8)
-utf8_named text form (Some rest) named utf8 = subst IsUtf8 (sym named) (utf8_with (name_of form) (codes " " ++ rest) (small_name form) (utf8_with (codes " ") rest refl utf8))
-
-pub utf8_behind : (text : List ℕ) (form : Form) (rest : Option (List ℕ)) → IsNamed text form rest → IsUtf8 text → IsUtf8 (unwrap_or rest [])
-utf8_behind text form None named utf8 = utf8_past (name_of form) [] (small_name form) (subst IsUtf8 named utf8)
-utf8_behind text form (Some rest) named utf8 = utf8_past (codes " ") rest refl (utf8_past (name_of form) (codes " " ++ rest) (small_name form) (subst IsUtf8 named utf8))
-
 behind_tail : (text : List ℕ) (end : Option (List ℕ)) → text ≡ unwrap_or end [] → IsTail text (behind end)
 behind_tail text None h = inl (h, refl)
 behind_tail text (Some rest) h = inr (ap (λ (l : List ℕ). codes " " ++ l) (sym h))
 
--- two names, and behind them the end or a text in UTF-8
-pub request_of : (line rest text : List ℕ) (from to : Form) (end : Option (List ℕ)) → IsNamed line from (Some rest) → IsNamed rest to end → text ≡ unwrap_or end [] → IsUtf8 text → HasRequest line from to text
-request_of line rest text from to end first second told utf8 = record {
+-- two names, and behind them the end or a text
+pub names_of : (line rest text : List ℕ) (from to : Form) (end : Option (List ℕ)) → IsNamed line from (Some rest) → IsNamed rest to end
+    → text ≡ unwrap_or end [] → HasNames line from to text
+names_of line rest text from to end first second told = record {
   tail = behind end;
-  utf8 = utf8_named line from (Some rest) first (utf8_named rest to end second (subst IsUtf8 told utf8));
   rest = behind_tail text end told;
   joined = first ∙ ap (λ (l : List ℕ). name_of from ++ (codes " " ++ l)) second;
 }
+
+-- a line of two names is UTF-8 exactly where its text is
+
+tail_utf8 : (text tail : List ℕ) → IsTail text tail → IsUtf8 text → IsUtf8 tail
+tail_utf8 text tail (inl none) utf8 = subst IsUtf8 (none.0 ∙ sym none.1) utf8
+tail_utf8 text tail (inr more) utf8 = subst IsUtf8 (sym more) (utf8_with (codes " ") text refl utf8)
+
+text_utf8 : (text tail : List ℕ) → IsTail text tail → IsUtf8 tail → IsUtf8 text
+text_utf8 text tail (inl none) utf8 = subst IsUtf8 (none.1 ∙ sym none.0) utf8
+text_utf8 text tail (inr more) utf8 = utf8_past (codes " ") text refl (subst IsUtf8 more utf8)
+
+line_utf8 : (line : List ℕ) (from to : Form) (text : List ℕ) → HasNames line from to text → IsUtf8 text → IsUtf8 line
+line_utf8 line from to text h utf8 =
+    let rest : IsUtf8 (name_of to ++ h.tail) = utf8_with (name_of to) h.tail (small_name to) (tail_utf8 text h.tail h.rest utf8) in
+    subst IsUtf8 (sym h.joined) (utf8_with (name_of from) (codes " " ++ (name_of to ++ h.tail)) (small_name from) (utf8_with (codes " ") (name_of to ++ h.tail) refl rest))
+
+utf8_of_line : (line : List ℕ) (from to : Form) (text : List ℕ) → HasNames line from to text → IsUtf8 line → IsUtf8 text
+utf8_of_line line from to text h utf8 =
+    let rest = utf8_past (name_of from) (codes " " ++ (name_of to ++ h.tail)) (small_name from) (subst IsUtf8 h.joined utf8) in
+    text_utf8 text h.tail h.rest (utf8_past (name_of to) h.tail (small_name to) (utf8_past (codes " ") (name_of to ++ h.tail) refl rest))
+
+-- the reply to the text of a line is the reply to the line
+pub reply_of_names : (line : List ℕ) (from to : Form) (text reply : List ℕ) (refused : Bool)
+    → HasNames line from to text → IsTextReply from to text reply refused → IsReply line reply
+reply_of_names line from to text reply refused h (inl (bad, told, is)) = inl (λ f t other asked. bad (utf8_of_line line from to text h asked.0), told)
+reply_of_names line from to text reply refused h (inr (answer, utf8, is, told, refuses)) =
+    let parts : HasRequest line from to text = record { tail = h.tail; utf8 = line_utf8 line from to text h utf8; rest = h.rest; joined = h.joined } in
+    inr (from, to, text, answer, whole line from to text parts, is, told)
 
 -- ---- a line of two names and a text
 

@@ -17,6 +17,7 @@ use Rattle.pg_interval_2.specs.declared.style.Style.{Style}
 use Rattle.pg_interval_2.specs.Denotes.{Denotes, HasNoShape, Misfits, Refuses}
 use Rattle.pg_interval_2.specs.Ranges.{IsInRange}
 use Rattle.pg_interval_2.specs.Styles.{Shape, style_text}
+use Rattle.forms.specs.declared.cause.Cause.{Cause}
 use Rattle.forms.specs.declared.cause.Cause.TheVariants.{Syntax, Range, Kind, Precision}
 use Rattle.forms.specs.declared.form.Form.{Form}
 use Rattle.forms.specs.declared.value.Value.{Value}
@@ -25,7 +26,7 @@ use Rattle.forms.specs.Answers.{Is, ReadsBy}
 use Rattle.forms.specs.Values.{IsWithinBounds, Same, IsLength}
 use Rattle.forms.specs.form.Intervals.{worth, interval_of, interval_of_length, held}
 use Rattle.forms.specs.inside.Lawful.{Lawful}
-use Rattle.forms.specs.inside.Readers.{IsRefusedBy}
+use Rattle.forms.specs.inside.Readers.{IsNoInterval, IsRefusedBy}
 use Rattle.scan_core.proofs.FitFacts.{within_32, within_64, fits_32, fits_64}
 use Rattle.forms.proofs.Fitting.{widen}
 use Rattle.forms.proofs.Lawful.{then_ok, same_ok, one_image, IsHeldBack, HasRows, lawful_by}
@@ -60,7 +61,7 @@ pub worth_misfits : (counts : List Count) → fits counts ≡ false → worth co
 unfolding worth
 worth_misfits counts h = rw h refl
 
-not_fitting : (counts : List Count) (part : Part) → misfit counts ≡ Some part → fits counts ≡ false
+pub not_fitting : (counts : List Count) (part : Part) → misfit counts ≡ Some part → fits counts ≡ false
 not_fitting counts part h = false_from_ne_true (fits counts) (λ all. let none : None ≡ Some part = sym ((misfit-none counts).1 all) ∙ h in cc)
 
 pub reads_interval : (s : Style) (text : List ℕ) (t : Interval) → Denotes (Shape s) text t
@@ -72,13 +73,14 @@ pub reads_as : (s : Style) (text : List ℕ) (t : Interval) (months days micros 
     → ReadsBy (Shape s) (Is worth) text (Ok (Triple months days micros))
 reads_as s text t months days micros h m d u = rw (m, d, u) (reads_interval s text t h)
 
-pub reads_misfit : (s : Style) (text : List ℕ) (part : Part) → Misfits (Shape s) text part
-    → ReadsBy (Shape s) (Is worth) text (Err Range)
-reads_misfit s text part h = inl (h.0, h.1, sym (worth_misfits h.0 (not_fitting h.0 part h.2)))
-
 pub reads_no_shape : (s : Style) (text : List ℕ) → HasNoShape (Shape s) text
     → ReadsBy (Shape s) (Is worth) text (Err Syntax)
 reads_no_shape s text h = inr (h, refl)
+
+pub reads_refused : (s : Style) (text : List ℕ) (cause : Cause) → IsNoInterval s text cause → ReadsBy (Shape s) (Is worth) text (Err cause)
+reads_refused s text Syntax h = reads_no_shape s text h
+reads_refused s text Range h = inl (h.0, h.1, sym (worth_misfits h.0 h.2))
+reads_refused s text _ h = absurd h
 
 -- ---- what a reader's error says
 

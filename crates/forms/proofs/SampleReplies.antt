@@ -59,7 +59,7 @@ in_small b h =
     either (is_blank b) _ h (λ blank. grind (arith, nat_tests)) (λ h.
     either (is_ascii_digit b) _ h (λ digit. grind (arith, nat_tests)) (λ h. one_small (codes "+-.:@PTYMWDHSacdeghimnorstuy") b refl h))
 
-all_small : (bytes : List ℕ) → list_all is_in_alphabet bytes ≡ true → list_all is_small bytes ≡ true
+pub all_small : (bytes : List ℕ) → list_all is_in_alphabet bytes ≡ true → list_all is_small bytes ≡ true
 all_small [] h = refl
 all_small (b ∷ bs) h =
     let parts = and_parts (is_in_alphabet b) (list_all is_in_alphabet bs) h in

@@ -10,6 +10,7 @@ pub mod Names
 pub mod Forms
 pub mod ReadBack
 pub mod Replies
+pub mod TextReplies
 pub mod Ends
 pub mod Outputs
 pub mod Sample

@@ -12,7 +12,8 @@ ghost use Rattle.forms.specs.inside.Putting.{Gains, Puts};
 use crate::cause::Cause;
 use crate::form::Form;
 use crate::laws::{all_lawful, answers_are_readings_written};
-use crate::line::request;
+use crate::line::named_text;
+use crate::text_reply::push_text_reply;
 use crate::value::{push_value, read_counted, read_value};
 use arrayvec::ArrayString;
 use scan_core::{Looked, Short, Steps};
@@ -194,9 +195,9 @@ pub(crate) fn push_line_reply<const CAP: usize>(line: &[u8], out: &mut ArrayStri
     ensures reply { Gains (IsReply line.now) out.old.bytes out.new.bytes }
     ensures len { array_string_len out.new ≤ array_string_len out.old + 96 }
 {
-    match request(line) {
+    match named_text(line) {
         Some((from, to, text)) => {
-            push_answer(from, to, text, out);
+            push_text_reply(from, to, text, out);
         }
         None => push_refusal("Line", out),
     }

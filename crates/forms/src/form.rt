@@ -1,8 +1,8 @@
 //! The written forms and their names. Each has a module of its own, which reads and writes it.
-ghost use Rattle.std.specs.Prelude.{◌≡◌, ◌≢◌, ◌↔◌, ℕ, List, ◌++◌, Option, Some, IfSome, IfNone};
+ghost use Rattle.std.specs.Prelude.{◌≡◌, ◌≢◌, ◌↔◌, ℕ, List, ◌++◌, Option, Some, IfSome, IfNone, IsTrue};
 ghost use Rattle.std.specs.Option.{option_copied};
-ghost use Rattle.forms.specs.Names.{is_counted, name_of};
-ghost use Rattle.forms.specs.inside.Reading.{behind, IsNamed};
+ghost use Rattle.forms.specs.Names.{is_counted, name_of, style_of};
+ghost use Rattle.forms.specs.inside.Reading.{behind, by_another, by_i, by_p, Begins, HasNoneOf, IsNamed};
 ghost use Rattle.forms.specs.declared.form.Form.{Form as AnyForm};
 
 pub mod fancy;
@@ -12,6 +12,8 @@ pub mod iso_date;
 pub mod iso_date_time;
 pub mod iso_duration;
 pub mod toml;
+
+use pg_interval_2::Style;
 
 /// A written form of moments, days, times of day, intervals or lengths.
 #[derive(Clone, Copy, Debug, PartialEq, Eq)]
@@ -59,7 +61,23 @@ impl Form {
         ensures none { IfNone result
             ((form : AnyForm) (rest : Option (List ℕ)) → ¬ (IsNamed text.now form rest)) }
     {
-        // The first word is one name at most, so any order would do. The interval forms are found soonest.
+        // The first letter leaves four names at most.
+        if begins(text, b'P') {
+            return Form::named_by_p(text);
+        }
+        if begins(text, b'I') {
+            return Form::named_by_i(text);
+        }
+        Form::named_by_another(text)
+    }
+
+    /// The same of the names that begin with a `P`.
+    #[inline(always)]
+    fn named_by_p(text: &[u8]) -> Option<(Form, Option<&[u8]>)>
+        ensures found { IfSome result (λ r. IsNamed text.now r.0 (option_copied r.1)) }
+        ensures none { IfNone result (HasNoneOf by_p text.now) }
+    {
+        // A word is one name at most, so any order would do.
         if let Some(rest) = Form::PgIso.after_name(text) {
             return Some((Form::PgIso, rest));
         }
@@ -72,26 +90,44 @@ impl Form {
         if let Some(rest) = Form::PgSql.after_name(text) {
             return Some((Form::PgSql, rest));
         }
-        if let Some(rest) = Form::IsoStrict.after_name(text) {
-            return Some((Form::IsoStrict, rest));
+        None
+    }
+
+    /// The same of the names that begin with an `I`.
+    #[inline(always)]
+    fn named_by_i(text: &[u8]) -> Option<(Form, Option<&[u8]>)>
+        ensures found { IfSome result (λ r. IsNamed text.now r.0 (option_copied r.1)) }
+        ensures none { IfNone result (HasNoneOf by_i text.now) }
+    {
+        if let Some(rest) = Form::IsoDateTime.after_name(text) {
+            return Some((Form::IsoDateTime, rest));
         }
         if let Some(rest) = Form::IsoDuration.after_name(text) {
             return Some((Form::IsoDuration, rest));
         }
-        if let Some(rest) = Form::IsoDateTime.after_name(text) {
-            return Some((Form::IsoDateTime, rest));
-        }
         if let Some(rest) = Form::IsoDate.after_name(text) {
             return Some((Form::IsoDate, rest));
         }
+        if let Some(rest) = Form::IsoStrict.after_name(text) {
+            return Some((Form::IsoStrict, rest));
+        }
+        None
+    }
+
+    /// The same of the names that begin with another letter.
+    #[inline(always)]
+    fn named_by_another(text: &[u8]) -> Option<(Form, Option<&[u8]>)>
+        ensures found { IfSome result (λ r. IsNamed text.now r.0 (option_copied r.1)) }
+        ensures none { IfNone result (HasNoneOf by_another text.now) }
+    {
         if let Some(rest) = Form::FileTime.after_name(text) {
             return Some((Form::FileTime, rest));
         }
-        if let Some(rest) = Form::Toml.after_name(text) {
-            return Some((Form::Toml, rest));
-        }
         if let Some(rest) = Form::Fancy.after_name(text) {
             return Some((Form::Fancy, rest));
+        }
+        if let Some(rest) = Form::Toml.after_name(text) {
+            return Some((Form::Toml, rest));
         }
         None
     }
@@ -125,6 +161,26 @@ impl Form {
         }
     }
 
+    /// The style of an interval form, or None exactly of the other forms.
+    #[inline(always)]
+    pub(crate) fn style(self) -> Option<Style>
+        ensures { result ≡ style_of self }
+    {
+        match self {
+            Form::PgIso => Some(Style::Iso),
+            Form::Postgres => Some(Style::Postgres),
+            Form::PgVerbose => Some(Style::Verbose),
+            Form::PgSql => Some(Style::Sql),
+            Form::IsoStrict => Some(Style::IsoStrict),
+            Form::FileTime
+            | Form::IsoDateTime
+            | Form::IsoDate
+            | Form::IsoDuration
+            | Form::Toml
+            | Form::Fancy => None,
+        }
+    }
+
     /// Whether the form's texts can be read by counted looks alone: those of the interval forms and ISO durations.
     pub fn is_counted(self) -> bool
         ensures { result ≡ is_counted self }
@@ -138,6 +194,17 @@ impl Form {
             | Form::IsoStrict => true,
             Form::FileTime | Form::IsoDateTime | Form::IsoDate | Form::Toml | Form::Fancy => false,
         }
+    }
+}
+
+/// Whether a text begins with this byte.
+#[inline(always)]
+fn begins(text: &[u8], byte: u8) -> bool
+    ensures { IsTrue result ↔ Begins byte text.now }
+{
+    match text {
+        [first, ..] => *first == byte,
+        [] => false,
     }
 }
 

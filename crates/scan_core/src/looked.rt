@@ -29,6 +29,13 @@ impl<'a> Looked<'a> {
         }
     }
 
+    /// A text by its bytes, which may be no UTF-8.
+    pub fn of_bytes(bytes: &'a [u8]) -> Looked<'a>
+        ensures { result ≡ bytes.now }
+    {
+        Looked { bytes }
+    }
+
     /// How many bytes it has.
     pub fn len(&self) -> usize
         ensures length { result ≡ length self.now }

@@ -7,7 +7,8 @@ use Rattle.text_lines.specs.declared.place.Place.TheVariants.{Whole, Field, Word
 use Rattle.text_lines.specs.Fields.{IsField}
 use Rattle.text_lines.specs.Spaced.{IsFirstWord, IsWord}
 use Rattle.text_lines.specs.Places.{IsPlace, HasNoPlace}
-use Rattle.text_lines.specs.Outputs.{line_limit, IsTextReply, mark, IsBehindMark, IsBeforeEnd, IsOutput}
+use Rattle.forms.specs.TextReplies.{IsTextReply}
+use Rattle.text_lines.specs.Outputs.{line_limit, mark, IsBehindMark, IsBeforeEnd, IsOutput}
 
 pub marked : (first : Bool) (line rest : List ℕ) → first ≡ true → line ≡ mark ++ rest → IsBehindMark first line mark rest
 marked true line rest is h = inl (h, refl)

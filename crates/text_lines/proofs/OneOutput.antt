@@ -11,7 +11,8 @@ use Rattle.text_lines.specs.declared.place.Place.TheVariants.{Whole, Field, Word
 use Rattle.text_lines.specs.Fields.{AreTabbed, IsTabEnd, IsField}
 use Rattle.text_lines.specs.Spaced.{IsFirstWord, IsWord}
 use Rattle.text_lines.specs.Places.{IsPlace, HasNoPlace}
-use Rattle.text_lines.specs.Outputs.{line_limit, IsTextReply, mark, IsBehindMark, IsBeforeEnd, HasBody, RefusesLine, AnswersInPlace, AnswersLine, IsOutput}
+use Rattle.forms.specs.TextReplies.{IsTextReply}
+use Rattle.text_lines.specs.Outputs.{line_limit, mark, IsBehindMark, IsBeforeEnd, HasBody, RefusesLine, AnswersInPlace, AnswersLine, IsOutput}
 use Rattle.text_lines.specs.Ends.{AreJudged}
 use Rattle.text_lines.proofs.FieldPlaces.{no_split, split_same, split_front}
 use Rattle.text_lines.proofs.SpacedPlaces.{first_same}

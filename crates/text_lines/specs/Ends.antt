@@ -6,7 +6,7 @@ use Rattle.forms.specs.Lines.{lines, whole_lines}
 use Rattle.forms.specs.Outside.{Rose, Gives, AppendsFront}
 use Rattle.forms.specs.Ends.{Streams}
 use Rattle.forms.specs.declared.form.Form.{Form}
-use Rattle.text_lines.specs.Outputs.{IsTextReply}
+use Rattle.forms.specs.TextReplies.{IsTextReply}
 use Rattle.forms.specs.declared.run_end.RunEnd.{RunEnd}
 use Rattle.forms.specs.declared.run_end.RunEnd.TheVariants.{Done, ReadFault, WriteFault, TooLong, NoMemory}
 

@@ -1,22 +1,13 @@
 -- What is written for a line with a text at a place: the line with the reply to the text in the text's place.
-use Rattle.std.specs.Prelude.{◌≡◌, ◌⊎◌, ◌<◌, ◌≤◌, ℕ, Bool, true, false, List, [], ◌∷◌, ◌++◌, codes, length, Result, IsUtf8}
+use Rattle.std.specs.Prelude.{◌≡◌, ◌⊎◌, ◌<◌, ◌≤◌, ℕ, Bool, true, false, List, [], ◌∷◌, ◌++◌, codes, length}
 use Rattle.forms.specs.declared.form.Form.{Form}
-use Rattle.forms.specs.declared.cause.Cause.{Cause}
-use Rattle.forms.specs.Replies.{IsAnswer, answer_text, is_refusal}
+use Rattle.forms.specs.TextReplies.{IsTextReply}
 use Rattle.text_lines.specs.declared.place.Place.{Place}
 use Rattle.text_lines.specs.Places.{IsPlace, HasNoPlace}
 
 -- how many bytes a line may have
 abbrev pub line_limit : ℕ
 line_limit = 1_048_576
-
--- the reply to a text, and whether it is a refusal: the text isn't UTF-8, or this is the answer to it
-abbrev pub IsTextReply : Form → Form → List ℕ → List ℕ → Bool → Type 0
-IsTextReply from to text out refused =
-    ((IsUtf8 text → ⊥) × (out ≡ codes "refused Line") × (refused ≡ true))
-    ⊎ ((answer : Result (List ℕ) Cause) × IsUtf8 text × IsAnswer from to text answer
-    × (out ≡ answer_text answer)
-    × (refused ≡ is_refusal answer))
 
 -- the byte order mark of UTF-8
 abbrev pub mark : List ℕ

@@ -28,7 +28,7 @@ impl Model for ByteBatch {
 }
 
 impl ByteBatch {
-    ghost use Rattle.std.specs.Prelude.{◌≡◌, ◌+◌, ◌≤◌, [], ◌++◌, length, IfOk, OnOk, OnErr};
+    ghost use Rattle.std.specs.Prelude.{◌≡◌, ◌+◌, ◌≤◌, [], ◌++◌, codes, length, IfOk, OnOk, OnErr};
     ghost use Rattle.forms.specs.Outside.{HasCause, AppendsFront};
     ghost use Rattle.forms.specs.Waiting.{Moves};
 
@@ -63,6 +63,15 @@ impl ByteBatch {
         ensures { self.new ≡ self.old ++ bytes.now }
     {
         self.bytes.extend_from_slice(bytes).unwrap();
+    }
+
+    /// Puts a line feed behind what waits: one store, where a copy would be a call.
+    #[inline(always)]
+    pub fn push_feed(&mut self)
+        requires { length self.old + 1 ≤ 1_114_368 }
+        ensures { self.new ≡ self.old ++ codes "\n" }
+    {
+        self.bytes.push(b'\n').unwrap();
     }
 }
 

@@ -1,6 +1,6 @@
 //! Lines of which a field or a word is a text.
 ghost use Rattle.std.specs.Prelude.{◌≡◌, ◌+◌, ◌≤◌, ◌++◌, List, ℕ, length, drop};
-ghost use Rattle.text_lines.specs.Outputs.{IsTextReply};
+ghost use Rattle.forms.specs.TextReplies.{IsTextReply};
 ghost use Rattle.text_lines.specs.Answering.{SaysColumn};
 ghost use Rattle.text_lines.specs.inside.Answering.{PushesOutput};
 
@@ -72,7 +72,7 @@ fn push_line(
     batch.push(&line[..front.len() + before.len()]);
     let refused = push_reply_bytes(from, to, text, batch);
     batch.push(back);
-    batch.push(b"\n");
+    batch.push_feed();
     refused
 }
 

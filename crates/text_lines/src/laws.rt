@@ -4,7 +4,8 @@ ghost use Rattle.forms.specs.declared.form.Form.{Form as AnyForm};
 ghost use Rattle.forms.specs.Replies.{IsReply};
 ghost use Rattle.text_lines.specs.declared.place.Place.{Place as AnyPlace};
 ghost use Rattle.text_lines.specs.Asked.{AskLines, AskText, BeginsCapital, names};
-ghost use Rattle.text_lines.specs.Outputs.{IsOutput, IsTextReply};
+ghost use Rattle.forms.specs.TextReplies.{IsTextReply};
+ghost use Rattle.text_lines.specs.Outputs.{IsOutput};
 ghost use Rattle.text_lines.specs.Ends.{AreJudged};
 
 use crate::asked::what_is_asked;

@@ -1,11 +1,11 @@
 //! The parts of a line, and the reply to its text.
 ghost use Rattle.std.specs.Prelude.{◌≡◌, ◌+◌, ◌≤◌, ◌++◌, List, ℕ, Bool, codes, IfSome, IfNone};
 ghost use Rattle.arrayvec.specs.ArrayString.{array_string_len};
-ghost use Rattle.text_lines.specs.Outputs.{IsBeforeEnd, IsBehindMark, IsTextReply, mark};
+ghost use Rattle.forms.specs.TextReplies.{IsTextReply};
+ghost use Rattle.text_lines.specs.Outputs.{IsBeforeEnd, IsBehindMark, mark};
 
 use arrayvec::ArrayString;
-use forms::{Form, push_answer};
-use std::str;
+use forms::{Form, push_text_reply};
 
 /// How many bytes a line may have.
 pub const LINE: usize = 1_048_576;
@@ -58,8 +58,9 @@ pub fn before_cr(line: &[u8]) -> Option<&[u8]>
     }
 }
 
-/// Appends the reply to a text, and answers whether it is a refusal.
-#[inline(always)]
+/// Appends the reply to a text, and answers whether it is a refusal. It is a call of its own for all kinds of places: more copies of
+/// the readers would make requests dearer.
+#[inline(never)]
 pub fn push_reply<const CAP: usize>(
     from: Form,
     to: Form,
@@ -71,11 +72,5 @@ pub fn push_reply<const CAP: usize>(
         × (out.new.bytes ≡ out.old.bytes ++ reply) }
     ensures len { array_string_len out.new ≤ array_string_len out.old + 96 }
 {
-    match str::from_utf8(text) {
-        Ok(text) => push_answer(from, to, text, out),
-        Err(_) => {
-            out.push_str("refused Line");
-            true
-        }
-    }
+    push_text_reply(from, to, text, out)
 }

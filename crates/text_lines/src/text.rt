@@ -1,7 +1,7 @@
 //! One text, answered on a line.
 ghost use Rattle.std.specs.Prelude.{◌≡◌, ◌+◌, ◌≤◌, ◌++◌, List, ℕ, codes};
 ghost use Rattle.arrayvec.specs.ArrayString.{array_string_len};
-ghost use Rattle.text_lines.specs.Outputs.{IsTextReply};
+ghost use Rattle.forms.specs.TextReplies.{IsTextReply};
 ghost use Rattle.text_lines.specs.Ends.{TextEnded};
 
 use crate::line::push_reply;

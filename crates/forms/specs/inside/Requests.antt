@@ -15,6 +15,12 @@ pub record HasRequest (line : List ℕ) (from to : Form) (text : List ℕ) : Typ
   pub rest : IsTail text tail
   pub joined : line ≡ name_of from ++ (codes " " ++ (name_of to ++ tail))
 
+-- the line is two names and a text, which may be no UTF-8
+pub record HasNames (line : List ℕ) (from to : Form) (text : List ℕ) : Type 0 where
+  pub tail : List ℕ
+  pub rest : IsTail text tail
+  pub joined : line ≡ name_of from ++ (codes " " ++ (name_of to ++ tail))
+
 -- the line is no request
 abbrev pub IsNoRequest : List ℕ → Type 0
 IsNoRequest line = (from to : Form) (text : List ℕ) → IsRequest line from to text → ⊥

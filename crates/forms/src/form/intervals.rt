@@ -1,12 +1,14 @@
 //! The interval forms, each a style of intervals.
-ghost use Rattle.std.specs.Prelude.{◌≡◌, ◌+◌, ◌*◌, ◌<◌, ◌≤◌, IfOk, length};
+ghost use Rattle.std.specs.Prelude.{◌≡◌, ◌+◌, ◌*◌, ◌<◌, ◌≤◌, IfOk, IfErr, length};
 ghost use Rattle.arrayvec.specs.ArrayString.{array_string_len};
+ghost use Rattle.pg_interval_2.specs.Denotes.{Denotes};
 ghost use Rattle.pg_interval_2.specs.Styles.{Shape, style_text};
 ghost use Rattle.forms.specs.Answers.{Is, ReadsBy, WritesBy, bytes_of};
 ghost use Rattle.forms.specs.Values.{IsWithinBounds};
 ghost use Rattle.forms.specs.form.Intervals.{worth, held, interval_of, interval_of_length};
 ghost use Rattle.forms.specs.inside.Lawful.{Lawful};
 ghost use Rattle.forms.specs.inside.Putting.{Puts};
+ghost use Rattle.forms.specs.inside.Readers.{IsNoInterval};
 ghost use Rattle.forms.specs.declared.form.Form.{Form as AnyForm};
 
 use crate::cause::Cause;
@@ -50,12 +52,55 @@ pub fn read_counted<L: Ledger>(
     ensures least { IfOk result (λ _. steps.old + length text.now ≤ steps.new) }
 {
     denoted_interval_is_in_range();
-    match pg_interval_2::read_counted(style, text, steps) {
+    match interval_counted(style, text, steps) {
         Ok(interval) => Ok(Value::Triple {
             months: interval.months as i64,
             days: interval.days as i64,
             micros: interval.microseconds,
         }),
+        Err(cause) => Err(cause),
+    }
+}
+
+/// The interval that a text, which may be no UTF-8, denotes in the style.
+#[inline(always)]
+pub fn read_interval(style: Style, text: &[u8]) -> Result<Interval, Cause>
+    ensures ok { IfOk result (λ t. Denotes (Shape style) text.now t) }
+    ensures err { IfErr result (λ cause. IsNoInterval style text.now cause) }
+{
+    interval_alone::<Brand>(style, &Looked::of_bytes(text), Blank::new(1))
+}
+
+/// The same of a counted text, with a counter of its own.
+#[inline(always)]
+fn interval_alone<L: Ledger>(
+    style: Style,
+    text: &Looked<'_>,
+    blank: Blank,
+) -> Result<Interval, Cause>
+    requires name { blank.name ≡ L.name }
+    requires parts { blank.parts ≡ L.parts }
+    requires some { 0 < L.parts }
+    ensures ok { IfOk result (λ t. Denotes (Shape style) text.now t) }
+    ensures err { IfErr result (λ cause. IsNoInterval style text.now cause) }
+{
+    interval_counted(style, text, &mut Steps::<L>::new(blank))
+}
+
+/// The interval that a counted text denotes in the style: of n bytes with at most 2n + 4 looks, and with n at least where it is Ok.
+#[inline(always)]
+fn interval_counted<L: Ledger>(
+    style: Style,
+    text: &Looked<'_>,
+    steps: &mut Steps<L>,
+) -> Result<Interval, Cause>
+    ensures ok { IfOk result (λ t. Denotes (Shape style) text.now t) }
+    ensures err { IfErr result (λ cause. IsNoInterval style text.now cause) }
+    ensures most { steps.new ≤ steps.old + (2 * length text.now + 4) }
+    ensures least { IfOk result (λ _. steps.old + length text.now ≤ steps.new) }
+{
+    match pg_interval_2::read_counted(style, text, steps) {
+        Ok(interval) => Ok(interval),
         Err(error) if error.is_range() => Err(Cause::Range),
         Err(_) => Err(Cause::Syntax),
     }

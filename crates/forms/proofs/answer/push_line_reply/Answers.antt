@@ -1,6 +1,6 @@
 -- Answers to the goals of `answer::push_line_reply`.
-use Rattle.std.proofs.Common.{◌++◌, codes, inl, inr, refl}
-use Rattle.forms.specs.Replies.{answer_text}
+use Rattle.std.proofs.Common.{codes, inl, refl}
+use Rattle.forms.proofs.AsciiNames.{reply_of_names}
 use Rattle.forms.proofs.answer.push_line_reply.Goals as goal
 
 pub returns-in-None-clause-reply : goal.returns-in-None-clause-reply
@@ -12,9 +12,9 @@ returns-in-None-clause-reply g c = record {
 
 pub returns-in-Some-clause-reply : goal.returns-in-Some-clause-reply
 returns-in-Some-clause-reply g c =
-    let answered = c.push_answer.ensures.answer in
+    let replied = c.push_text_reply.ensures.reply in
     record {
-      text = answer_text answered.0;
-      is = inr (c.in-Some.from, c.in-Some.to, c.in-Some.text.now, answered.0, c.in-Some.ensures.found, answered.1, refl);
-      gained = answered.2;
+      text = replied.0;
+      is = reply_of_names c.args.line.now c.in-Some.from c.in-Some.to c.in-Some.text.now replied.0 c.push_text_reply.result c.in-Some.ensures.found replied.1;
+      gained = replied.2;
     }

@@ -36,5 +36,5 @@ returns c =
     let third = c.push-3.ensures ∙ ap (λ (l : List ℕ). c.push_reply_bytes-refused.new.batch ++ l) back in (
       front ++ (before ++ (replied.0 ++ (c.in-Some.field-0-2.now ++ c.split_end.result.1.now))),
       answered_there c.args.from c.args.to c.args.place c.args.first c.args.line.now front c.split_mark.result.1.now c.split_end.result.0.now c.split_end.result.1.now before c.in-Some.text.now c.in-Some.field-0-2.now replied.0 c.push_reply_bytes-refused.result (search rules) c.split_mark.ensures c.split_end.ensures c.in-Some.ensures.found replied.1,
-      put_around c.args.line.now c.split_mark.result.0.now c.split_mark.result.1.now c.in-Some.before.now c.in-Some.text.now c.in-Some.field-0-2.now parts.0 c.split_end.result.1.now replied.0 c.args.batch.now c.push-2.new.self c.push_reply_bytes-refused.new.batch c.push-3.new.self c.push-4.new.self parts.1 first replied.3 third c.push-4.ensures,
+      put_around c.args.line.now c.split_mark.result.0.now c.split_mark.result.1.now c.in-Some.before.now c.in-Some.text.now c.in-Some.field-0-2.now parts.0 c.split_end.result.1.now replied.0 c.args.batch.now c.push-2.new.self c.push_reply_bytes-refused.new.batch c.push-3.new.self c.push_feed.new.self parts.1 first replied.3 third c.push_feed.ensures,
     )

@@ -1,21 +1,16 @@
 -- Answers to the goals of `form::intervals::read_counted`.
 use Rattle.std.proofs.Common.{arith}
 use Rattle.std.proofs.lemmas.Int.{ints}
-use Rattle.pg_interval_2.specs.Styles.{IsBadPlace, not_in}
-use Rattle.forms.proofs.Intervals.{reads_as, reads_misfit, error_says}
+use Rattle.forms.proofs.Intervals.{reads_as, reads_refused}
 use Rattle.forms.proofs.form.intervals.read_counted.Goals as goal
 
 pub returns-in-Ok-clause-read : goal.returns-in-Ok-clause-read
 returns-in-Ok-clause-read g c =
-    let range = c.denoted_interval_is_in_range.ensures c.args.style c.args.text.now c.in-Ok.interval c.in-Ok.ensures.answers.ok in
+    let range = c.denoted_interval_is_in_range.ensures c.args.style c.args.text.now c.in-Ok.interval c.in-Ok.ensures.ok in
     let months = range.months in
     let days = range.days in
     let micros = range.microseconds in
-    reads_as c.args.style c.args.text.now c.in-Ok.interval _ _ _ c.in-Ok.ensures.answers.ok (omega (arith, ints)) (omega (arith, ints)) (omega (arith, ints))
+    reads_as c.args.style c.args.text.now c.in-Ok.interval _ _ _ c.in-Ok.ensures.ok (omega (arith, ints)) (omega (arith, ints)) (omega (arith, ints))
 
 pub returns-in-Err-clause-read : goal.returns-in-Err-clause-read
-returns-in-Err-clause-read g c =
-    let style = c.args.style in
-    let says = error_says style (IsBadPlace style) (not_in style) c.args.text.now c.in-Err.error c.in-Err.ensures.answers.err in
-    let misfit = says.range (c.is_range.ensures.0 c.if-is_range.true) in
-    reads_misfit style c.args.text.now misfit.0 misfit.1
+returns-in-Err-clause-read g c = reads_refused c.args.style c.args.text.now c.in-Err.cause c.in-Err.ensures.err

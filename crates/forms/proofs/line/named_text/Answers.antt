@@ -1,11 +1,11 @@
--- Answers to the goals of `line::request`.
+-- Answers to the goals of `line::named_text`.
 use Rattle.std.proofs.Common.{◌≡◌, ◌++◌, List, ℕ, Some, ap, ◌∙◌}
 use Rattle.forms.specs.Names.{name_of}
 use Rattle.forms.specs.inside.Reading.{IsNamed}
-use Rattle.forms.proofs.Requests.{by_tail, whole}
-use Rattle.forms.proofs.AsciiNames.{utf8_behind, request_of}
+use Rattle.forms.proofs.Requests.{by_tail}
+use Rattle.forms.proofs.AsciiNames.{names_of}
 use Rattle.forms.proofs.Words.{tail_behind, one_name}
-use Rattle.forms.proofs.line.request.Goals as goal
+use Rattle.forms.proofs.line.named_text.Goals as goal
 
 pub returns-in_err-from-clause-none : goal.returns-in_err-from-clause-none
 returns-in_err-from-clause-none c =
@@ -23,15 +23,7 @@ returns-in_err-to-clause-none c =
     let rest : c.in_ok-rest.field-0.now ≡ name_of to ++ asked.tail = cc in
     c.in_err-to.ensures.none to tail.0 (rest ∙ ap (λ (l : List ℕ). name_of to ++ l) tail.1))
 
-pub returns-in_err-text-clause-none : goal.returns-in_err-text-clause-none
-returns-in_err-text-clause-none c =
-    rw c.from_residual-in_err-text.ensures (λ from to text request.
-    let asked = by_tail c.args.line.now from to text request in
-    let here : IsNamed c.args.line.now c.in_ok-from.from (Some c.in_ok-rest.field-0.now) = rw c.in_ok-rest.was at c.in_ok-from.ensures.found in
-    let rest = utf8_behind c.args.line.now c.in_ok-from.from (Some c.in_ok-rest.field-0.now) here asked.utf8 in
-    c.in_err-text.ensures.none (utf8_behind c.in_ok-rest.field-0.now c.in_ok-to.to _ c.in_ok-to.ensures.found rest))
-
 pub returns-clause-found : goal.returns-clause-found
 returns-clause-found c =
     let here : IsNamed c.args.line.now c.in_ok-from.from (Some c.in_ok-rest.field-0.now) = rw c.in_ok-rest.was at c.in_ok-from.ensures.found in
-    whole _ _ _ _ (request_of c.args.line.now c.in_ok-rest.field-0.now c.in_ok-text.text.now c.in_ok-from.from c.in_ok-to.to _ here c.in_ok-to.ensures.found c.in_ok-text.ensures.found.0 c.in_ok-text.ensures.found.1)
+    names_of c.args.line.now c.in_ok-rest.field-0.now c.text_behind.result.now c.in_ok-from.from c.in_ok-to.to _ here c.in_ok-to.ensures.found c.text_behind.ensures

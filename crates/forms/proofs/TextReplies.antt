@@ -1,0 +1,61 @@
+-- Replies to texts between two interval forms. A text with a shape is ASCII.
+use Rattle.std.proofs.Common.{◌≡◌, ◌≢◌, ◌⊎◌, ℕ, true, false, List, ◌++◌, codes, Some, Result, Ok, Err, refl, ap, inl, inr}
+use Rattle.std.specs.Prelude.{IsTrue, IsUtf8}
+use Rattle.std.specs.List.{list_all}
+use Rattle.std.proofs.lemmas.Str.{IsUtf8-from_ascii}
+use Rattle.scan_core.specs.Count.{Count}
+use Rattle.pg_interval_2.specs.Alphabet.{is_in_alphabet}
+use Rattle.pg_interval_2.specs.Denotes.{Denotes}
+use Rattle.pg_interval_2.specs.Styles.{Shape, style_text}
+use Rattle.pg_interval_2.specs.declared.interval.Interval.{Interval}
+use Rattle.pg_interval_2.specs.declared.style.Style.{Style}
+use Rattle.forms.specs.declared.cause.Cause.{Cause}
+use Rattle.forms.specs.declared.cause.Cause.TheVariants.{Syntax, Range}
+use Rattle.forms.specs.declared.form.Form.{Form}
+use Rattle.forms.specs.Names.{cause_name, style_of}
+use Rattle.forms.specs.Replies.{IsAnswer, IsIntervalAnswer}
+use Rattle.forms.specs.TextReplies.{IsTextReply}
+use Rattle.forms.specs.inside.Readers.{IsNoInterval}
+use Rattle.forms.proofs.AsciiNames.{ascii}
+use Rattle.forms.proofs.SampleReplies.{all_small}
+
+-- what the law of the crate below says of texts with a shape
+abbrev pub AreOfAlphabet : Type 0
+AreOfAlphabet = (s : Style) (text : List ℕ) (counts : List Count) → Shape s text counts → IsTrue (list_all is_in_alphabet text)
+
+spelled_utf8 : AreOfAlphabet → (s : Style) (text : List ℕ) (counts : List Count) → Shape s text counts → IsUtf8 text
+spelled_utf8 alphabet s text counts h = IsUtf8-from_ascii text (ascii text (all_small text (alphabet s text counts h)))
+
+-- a text that is refused for another cause than its shape
+pub refused_utf8 : AreOfAlphabet → (s : Style) (text : List ℕ) (cause : Cause) → IsNoInterval s text cause → cause ≢ Syntax → IsUtf8 text
+refused_utf8 alphabet s text Syntax h other = absurd (other refl)
+refused_utf8 alphabet s text Range h other = spelled_utf8 alphabet s text h.0 h.1
+refused_utf8 alphabet s text _ h other = absurd h
+
+answers : (s u : Style) (f t : Form) (text : List ℕ) (answer : Result (List ℕ) Cause)
+    → style_of f ≡ Some s → style_of t ≡ Some u → IsIntervalAnswer s u text answer → IsAnswer f t text answer
+unfolding IsAnswer
+answers s u f t text answer from to h = inl (s, u, from, to, h)
+
+no_answer : (s u : Style) (text : List ℕ) (cause : Cause) → IsNoInterval s text cause → IsIntervalAnswer s u text (Err cause)
+no_answer s u text Syntax h = h
+no_answer s u text Range h = h
+no_answer s u text _ h = absurd h
+
+-- the text of the interval that a text denotes is its reply
+pub interval_reply : AreOfAlphabet → (s u : Style) (text : List ℕ) (i : Interval) → Denotes (Shape s) text i
+    → (f t : Form) → style_of f ≡ Some s → style_of t ≡ Some u
+    → IsTextReply f t text (style_text u i) false
+interval_reply alphabet s u text i h f t from to =
+    inr (Ok (style_text u i), spelled_utf8 alphabet s text h.0 h.1, answers s u f t text (Ok (style_text u i)) from to (i, h, refl), refl, refl)
+
+-- the word behind `refused` where a text denotes no interval
+abbrev pub IsWord : List ℕ → Cause → List ℕ → Type 0
+IsWord text cause word = ((IsUtf8 text → ⊥) × (word ≡ codes "Line")) ⊎ (IsUtf8 text × (word ≡ cause_name cause))
+
+pub no_interval_reply : (s u : Style) (text : List ℕ) (cause : Cause) (word : List ℕ) → IsNoInterval s text cause → IsWord text cause word
+    → (f t : Form) → style_of f ≡ Some s → style_of t ≡ Some u
+    → IsTextReply f t text (codes "refused " ++ word) true
+no_interval_reply s u text cause word h (inl bad) f t from to = inl (bad.0, ap (λ (l : List ℕ). codes "refused " ++ l) bad.1, refl)
+no_interval_reply s u text cause word h (inr well) f t from to =
+    inr (Err cause, well.0, answers s u f t text (Err cause) from to (no_answer s u text cause h), ap (λ (l : List ℕ). codes "refused " ++ l) well.1, refl)
