@@ -14,9 +14,10 @@ clock_text hour minute second =
     padded_digits 2 hour ++ codes ":" ++ padded_digits 2 minute ++ codes ":"
     ++ padded_digits 2 second
 
--- the text of a date word and of a time word
+-- the text of a date word: its year from 1980 in bits 9 to 15, its month in bits 5 to 8, its day in bits 0 to 4
 abbrev pub date_text : ℕ → List ℕ
 date_text word = day_text (1980 + bits 9 7 word) (bits 5 4 word) (bits 0 5 word)
 
+-- the text of a time word: its hour in bits 11 to 15, its minute in bits 5 to 10, its seconds halved in bits 0 to 4
 abbrev pub time_text : ℕ → List ℕ
 time_text word = clock_text (bits 11 5 word) (bits 5 6 word) (2 * bits 0 5 word)

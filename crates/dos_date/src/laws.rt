@@ -10,7 +10,7 @@ ghost use Rattle.dos_date.specs.Order.{IsEarlierDay, IsEarlierTime};
 ghost use Rattle.dos_date.specs.Text.{date_text, time_text, day_text, clock_text};
 ghost use Rattle.dos_date.specs.Words.{Words};
 
-use crate::{Date, DateTime, Time};
+use crate::{Date, DateTime, DosRangeError, DosRangeErrorKind as Kind, Time};
 
 /// A word is a date word exactly where some civil date has it. It names one day, and a day has one
 /// date word.
@@ -84,4 +84,11 @@ pub fn first_and_last_moment()
         → IsAt 2107 12 31 23 59 58 civil }
     ensures within { (words : Words) (civil : CivilDateTime) → IsMomentOf words civil
         → (0x0021 ≤ words.date) × (words.date ≤ 0xFF9F) × (words.time ≤ 0xBF7D) }
+{}
+
+/// Refusals are equal where they are of one kind.
+pub fn equal_refusals_are_of_one_kind()
+    ensures kinds { (a b : DosRangeErrorKind) → IsTrue (⟦<Kind as PartialEq>⟧.eq a b) ↔ (a ≡ b) }
+    ensures errors { (a b : DosRangeErrorKind)
+        → IsTrue (⟦<DosRangeError as PartialEq>⟧.eq a b) ↔ (a ≡ b) }
 {}

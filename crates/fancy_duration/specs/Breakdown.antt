@@ -45,5 +45,6 @@ abbrev pub count_in : DurationPart → List PartCount → ℕ
 count_in part [] = 0
 count_in part (c ∷ counts) = if is_part c.part part then c.count else count_in part counts
 
+-- how many of a part a length of nanoseconds has, broken down from the greatest part to the least
 unfoldable pub count_of : DurationPart → ℕ → ℕ
 count_of part nanos = count_in part (breakdown nanos)

@@ -15,6 +15,7 @@ abbrev pub is_long : List ℕ → Bool
 is_long unit =
     list_any (bytes_eq unit) (codes "m" ∷ codes "h" ∷ codes "d" ∷ codes "w" ∷ codes "y" ∷ [])
 
+-- a long unit stands among the items that follow
 abbrev pub long_follows : List Item → Bool
 long_follows later = list_any (λ item. is_long item.unit) later
 

@@ -4,6 +4,7 @@ ghost use Rattle.std.specs.Prelude.{◌≡◌, ◌≢◌, ℕ, ◌*◌, ◌<◌,
 ghost use Rattle.std.specs.Duration.{as_nanos};
 ghost use Rattle.std.specs.Ordering.{nat_cmp};
 ghost use Rattle.std.specs.declared.time.Duration.{Duration};
+ghost use Rattle.fancy_duration.specs.declared.error.FancyError.{FancyError as AnyError};
 ghost use Rattle.fancy_duration.specs.declared.part.DurationPart.{DurationPart as AnyPart};
 ghost use Rattle.fancy_duration.specs.Parts.{rank_of};
 ghost use Rattle.fancy_duration.specs.Items.{Item, HasItems};
@@ -17,7 +18,7 @@ ghost use Rattle.fancy_duration.specs.Spelled.{SpellsLength};
 ghost use Rattle.fancy_duration.specs.Collisions.{MonthsStandAlone, Collide};
 ghost use Rattle.fancy_duration.specs.Durations.{duration_times};
 
-use crate::DurationPart;
+use crate::{DurationPart, FancyError};
 
 /// Parts are equal where they are one, and ordered from the greatest to the least: years come first.
 pub fn parts_are_ordered_from_the_greatest()
@@ -88,5 +89,11 @@ pub fn truncating_twice_is_truncating_once()
 /// What a strict text spells is the sum of its items: of a text of nothing but counts the original's rule, by which all else is
 /// passed over, and this grammar say the same.
 pub fn strict_texts_spell_their_sums()
-    ensures { (text : List ℕ) (nanos : ℕ) → SpellsLength text nanos ↔ IsStrict text × SumsTo text nanos }
+    ensures { (text : List ℕ) (nanos : ℕ)
+        → SpellsLength text nanos ↔ IsStrict text × SumsTo text nanos }
+{}
+
+/// Refusals are equal where they are one.
+pub fn equal_refusals_say_the_same()
+    ensures { (a b : AnyError) → IsTrue (⟦<FancyError as PartialEq>⟧.eq a b) ↔ (a ≡ b) }
 {}

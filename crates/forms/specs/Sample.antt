@@ -66,10 +66,11 @@ form_of style.Verbose = PgVerbose
 form_of style.Sql = PgSql
 form_of style.IsoStrict = IsoStrict
 
--- the styles that a line reads and writes: the first changes with each line, the second with each four
+-- the style that a line is read in, which changes with each line
 abbrev pub style_from : ℕ → Style
 style_from index = style_at (index % 4)
 
+-- the style that a line is answered in, which changes with each four lines
 abbrev pub style_to : ℕ → Style
 style_to index = style_at (index / 4 % 4)
 
@@ -95,11 +96,12 @@ sample_lines (suc index) = sample_lines index ++ line_of index (sample_interval 
 abbrev pub is_refusal : List ℕ → Bool
 is_refusal reply = starts_with nat_eq reply (codes "refused ")
 
--- how many of the replies are refusals, and how many aren't
+-- how many of the replies are refusals
 abbrev pub refusals : List (List ℕ) → ℕ
 refusals [] = 0
 refusals (reply ∷ more) = (if is_refusal reply then 1 else 0) + refusals more
 
+-- how many of the replies are no refusals
 abbrev pub answers : List (List ℕ) → ℕ
 answers [] = 0
 answers (reply ∷ more) = (if is_refusal reply then 0 else 1) + answers more

@@ -1,12 +1,14 @@
 //! Laws of forms, lines, replies and the ends of runs.
-ghost use Rattle.std.specs.Prelude.{pos, ◌≡◌, ◌⊎◌, ◌↔◌, ◌+◌, ◌-◌, ◌/◌, ◌^◌, ◌<◌, ◌++◌, List, ℕ, Option, Result as AnyResult, Ok, IfSome, IsUtf8, codes};
+ghost use Rattle.std.specs.Prelude.{pos, ◌≡◌, ◌⊎◌, ◌↔◌, ◌+◌, ◌-◌, ◌/◌, ◌^◌, ◌<◌, ◌++◌, List, ℕ, Option, Result as AnyResult, Ok, IfSome, IsTrue, IsUtf8, codes};
 ghost use Rattle.std.specs.Io.KnownBytes.{Appends};
 ghost use Rattle.pg_interval_2.specs.Denotes.{Denotes};
 ghost use Rattle.pg_interval_2.specs.Styles.{Shape};
 ghost use Rattle.pg_interval_2.specs.declared.interval.Interval.{Interval as AnyInterval};
 ghost use Rattle.pg_interval_2.specs.declared.style.Style.{Style as AnyStyle};
+ghost use Rattle.forms.specs.declared.answer.ConvertError.{ConvertError as AnyConvertError};
 ghost use Rattle.forms.specs.declared.cause.Cause.{Cause as AnyCause};
 ghost use Rattle.forms.specs.declared.form.Form.{Form as AnyForm};
+ghost use Rattle.forms.specs.declared.outside.Failed.{Failed as AnyFailed};
 ghost use Rattle.forms.specs.declared.run_end.RunEnd.{RunEnd as AnyEnd};
 ghost use Rattle.forms.specs.declared.run_end.RunEnd.TheVariants.{TooLong, WriteFault};
 ghost use Rattle.forms.specs.declared.value.Value.{Value as AnyValue};
@@ -22,8 +24,12 @@ ghost use Rattle.forms.specs.Values.{IsWithinBounds};
 ghost use Rattle.forms.specs.Waiting.{Moves};
 ghost use Rattle.forms.specs.inside.Lawful.{Lawful};
 
-use crate::answer::line_reply;
-use crate::form::{fancy, file_time, intervals, iso_date, iso_date_time, iso_duration, toml};
+use crate::answer::{ConvertError, line_reply};
+use crate::cause::Cause;
+use crate::form::{Form, fancy, file_time, intervals, iso_date, iso_date_time, iso_duration, toml};
+use crate::outside::Failed;
+use crate::run_end::RunEnd;
+use crate::value::Value;
 
 /// Each form is lawful.
 pub(crate) fn all_lawful()
@@ -198,4 +204,16 @@ pub fn too_long_is_past_the_limit()
 pub fn each_end_leaves_a_front()
     ensures { (limit : ℕ) (old new : Streams) (end : AnyEnd) → Ended limit old new end
         → IfSome old.left (λ bytes. GainsFront (lines bytes) old.held new.held) }
+{}
+
+/// Forms, causes and ends are equal where they are one, values and refusals where all their fields are: a day isn't the moment at which
+/// it begins.
+pub fn equality_is_that_of_the_fields()
+    ensures forms { (a b : AnyForm) → IsTrue (⟦<Form as PartialEq>⟧.eq a b) ↔ (a ≡ b) }
+    ensures values { (a b : AnyValue) → IsTrue (⟦<Value as PartialEq>⟧.eq a b) ↔ (a ≡ b) }
+    ensures causes { (a b : AnyCause) → IsTrue (⟦<Cause as PartialEq>⟧.eq a b) ↔ (a ≡ b) }
+    ensures refusals { (a b : AnyConvertError)
+        → IsTrue (⟦<ConvertError as PartialEq>⟧.eq a b) ↔ (a ≡ b) }
+    ensures failures { (a b : AnyFailed) → IsTrue (⟦<Failed as PartialEq>⟧.eq a b) ↔ (a ≡ b) }
+    ensures ends { (a b : AnyEnd) → IsTrue (⟦<RunEnd as PartialEq>⟧.eq a b) ↔ (a ≡ b) }
 {}

@@ -3,9 +3,11 @@ use Rattle.std.specs.Prelude.{ℕ, ◌+◌, ◌*◌}
 use Rattle.iso8601.specs.declared.types.Duration.{Duration}
 use Rattle.iso8601.specs.declared.types.Duration.TheVariants.{YMDHMS, Weeks}
 
+-- the days of years, months and days
 abbrev pub days_of : ℕ → ℕ → ℕ → ℕ
 days_of year month day = 365 * year + 30 * month + day
 
+-- the seconds of days, hours, minutes and seconds
 abbrev pub seconds_of : ℕ → ℕ → ℕ → ℕ → ℕ
 seconds_of days hour minute second = 86_400 * days + 3_600 * hour + 60 * minute + second
 

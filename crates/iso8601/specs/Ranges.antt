@@ -26,6 +26,7 @@ IsTimeInRange t =
     × (unsigned_abs t.tz_offset_hours ≤ 24) × (unsigned_abs t.tz_offset_minutes ≤ 59)
     × HaveOneSign t.tz_offset_hours t.tz_offset_minutes
 
+-- a date and a time, each in its range
 abbrev pub IsDateTimeInRange : DateTime → Type 0
 IsDateTimeInRange t = IsDateInRange t.date × IsTimeInRange t.time
 

@@ -1,11 +1,13 @@
 //! Laws of dates, times, date-times and durations, each for every value: functions that do nothing.
-ghost use Rattle.std.specs.Prelude.{◌≡◌, ℕ, List, [], ℤ, pos, neg_ℤ, ◌+ℤ◌, ◌≤ℤ◌, ◌↔◌};
+ghost use Rattle.std.specs.Prelude.{◌≡◌, ℕ, List, [], ℤ, pos, neg_ℤ, ◌+ℤ◌, ◌≤ℤ◌, ◌↔◌, IsTrue};
 ghost use Rattle.jiff_core.specs.Date.{epoch_day};
+ghost use Rattle.jiff_core.specs.DateTime.{civil_nanos};
 ghost use Rattle.jiff_core.specs.declared.civil.date.Date.{Date as CivilDate};
 ghost use Rattle.iso8601.specs.Calendar.{IsCivilDay, after_monday, day_of, Exists, new_year, week_one};
 ghost use Rattle.iso8601.specs.Calendar.{days_in_year};
 ghost use Rattle.iso8601.specs.Dates.{IsDate};
 ghost use Rattle.iso8601.specs.DateTimes.{IsDateTime};
+ghost use Rattle.iso8601.specs.Defaults.{zero_date, zero_duration};
 ghost use Rattle.iso8601.specs.Durations.{IsDuration};
 ghost use Rattle.iso8601.specs.Prefixes.{Begins, NoneLonger};
 ghost use Rattle.iso8601.specs.Ranges.{IsDateInRange, IsDateTimeInRange, IsDurationInRange, IsTimeInRange};
@@ -16,7 +18,11 @@ ghost use Rattle.iso8601.specs.declared.types.Date.{Date};
 ghost use Rattle.iso8601.specs.declared.types.Date.TheVariants.{YMD};
 ghost use Rattle.iso8601.specs.declared.types.DateTime.{DateTime};
 ghost use Rattle.iso8601.specs.declared.types.Duration.{Duration};
+ghost use Rattle.iso8601.specs.declared.types.FixedMoment.{FixedMoment};
+ghost use Rattle.iso8601.specs.declared.types.ParseFailed.{ParseFailed};
 ghost use Rattle.iso8601.specs.declared.types.Time.{Time};
+
+use crate::types;
 
 /// A text has one value at most.
 pub fn a_text_has_one_value()
@@ -71,4 +77,37 @@ pub fn years_and_weeks_follow_each_other()
 pub fn civil_dates_are_calendar_dates()
     ensures exists { (d : CivilDate) → Exists (YMD d.year d.month d.day) }
     ensures day { (d : CivilDate) → day_of (YMD d.year d.month d.day) ≡ epoch_day d }
+{}
+
+/// Values are equal where all fields are: `24:00` isn't `00:00`, and a week date isn't the calendar date of its day. The civil
+/// date-times of `jiff` are equal where their counts of nanoseconds are.
+pub fn equality_is_that_of_the_fields()
+    ensures date { (a b : Date) → IsTrue (⟦<types::Date as PartialEq>⟧.eq a b) ↔ (a ≡ b) }
+    ensures time { (a b : Time) → IsTrue (⟦<types::Time as PartialEq>⟧.eq a b) ↔ (a ≡ b) }
+    ensures date_time { (a b : DateTime)
+        → IsTrue (⟦<types::DateTime as PartialEq>⟧.eq a b) ↔ (a ≡ b) }
+    ensures duration { (a b : Duration)
+        → IsTrue (⟦<types::Duration as PartialEq>⟧.eq a b) ↔ (a ≡ b) }
+    ensures moment { (a b : FixedMoment)
+        → IsTrue (⟦<types::FixedMoment as PartialEq>⟧.eq a b)
+        ↔ ((civil_nanos a.local ≡ civil_nanos b.local)
+        × (a.offset_seconds ≡ b.offset_seconds)) }
+    ensures failed { (a b : ParseFailed)
+        → IsTrue (⟦<types::ParseFailed as PartialEq>⟧.eq a b) ↔ (a ≡ b) }
+{}
+
+/// The defaults are zero in each field: year, month and day 0, which is no day, midnight in UTC, and the duration of no time.
+pub fn defaults_are_zero()
+    ensures date { (date : Date) → ⟦<types::Date as Default>⟧.is_default date
+        ↔ (date ≡ zero_date) }
+    ensures hour { (time : Time) → ⟦<types::Time as Default>⟧.is_default time
+        → (time.hour ≡ 0) × (time.minute ≡ 0) × (time.second ≡ 0) × (time.millisecond ≡ 0) }
+    ensures shift { (time : Time) → ⟦<types::Time as Default>⟧.is_default time
+        → (time.tz_offset_hours ≡ pos 0) × (time.tz_offset_minutes ≡ pos 0) }
+    ensures day { (t : DateTime) → ⟦<types::DateTime as Default>⟧.is_default t
+        → t.date ≡ zero_date }
+    ensures time { (t : DateTime) → ⟦<types::DateTime as Default>⟧.is_default t
+        → ⟦<types::Time as Default>⟧.is_default t.time }
+    ensures duration { (d : Duration) → ⟦<types::Duration as Default>⟧.is_default d
+        ↔ (d ≡ zero_duration) }
 {}

@@ -6,12 +6,17 @@ ghost use Rattle.std.specs.Ordering.{nat_cmp, int_cmp};
 ghost use Rattle.jiff.specs.Types.{DateTime as CivilDateTime};
 ghost use Rattle.jiff.specs.Words.{civil_nanos};
 ghost use Rattle.nt_time.specs.declared.error.FileTimeRangeErrorKind.{FileTimeRangeErrorKind};
+ghost use Rattle.nt_time.specs.declared.error.OutOfCivil.{OutOfCivil as AnyOutOfCivil};
 ghost use Rattle.nt_time.specs.declared.error.ParseFileTimeCause.{ParseFileTimeCause};
 ghost use Rattle.nt_time.specs.FileTime.{IsFileTime, unix_nanos, HasParts};
 ghost use Rattle.nt_time.specs.Text.{IsTextOf, IsReadFrom};
 ghost use Rattle.nt_time.specs.Ticks.{IsWholeTicks, CanAddTicks, CanSubTicks};
 ghost use Rattle.nt_time.specs.UnixTime.{IsFromUnixNanos};
 
+use crate::error::{
+    FileTimeRangeError, FileTimeRangeErrorKind as Kind, OutOfCivil, ParseFileTimeCause as Cause,
+    ParseFileTimeError,
+};
 use crate::{FileTime, UtcDateTime};
 use std::hash::Hash;
 
@@ -96,4 +101,18 @@ pub fn civil_order_is_that_of_moments()
         ↔ (civil_nanos a ≡ civil_nanos b) }
     ensures order { (a b : CivilDateTime) → ⟦<UtcDateTime as Ord>⟧.cmp a b
         ≡ int_cmp (civil_nanos a) (civil_nanos b) }
+{}
+
+/// Refusals are equal where they are of one kind, and have one cause.
+pub fn equal_refusals_say_the_same()
+    ensures kinds { (a b : FileTimeRangeErrorKind)
+        → IsTrue (⟦<Kind as PartialEq>⟧.eq a b) ↔ (a ≡ b) }
+    ensures ranges { (a b : FileTimeRangeErrorKind)
+        → IsTrue (⟦<FileTimeRangeError as PartialEq>⟧.eq a b) ↔ (a ≡ b) }
+    ensures causes { (a b : ParseFileTimeCause)
+        → IsTrue (⟦<Cause as PartialEq>⟧.eq a b) ↔ (a ≡ b) }
+    ensures texts { (a b : ParseFileTimeCause)
+        → IsTrue (⟦<ParseFileTimeError as PartialEq>⟧.eq a b) ↔ (a ≡ b) }
+    ensures civil { (a b : AnyOutOfCivil)
+        → IsTrue (⟦<OutOfCivil as PartialEq>⟧.eq a b) ↔ (a ≡ b) }
 {}

@@ -65,5 +65,6 @@ pub record IsBadName (names : TimeUnit → List (List ℕ)) (text : List ℕ) (s
   pub starts : start ≡ length lead + (length number + length blanks)
   pub stops : end ≡ start + length letters
 
+-- the same for the names of the `postgres` style
 abbrev pub IsPostgresBadName : List ℕ → ℕ → ℕ → Type 0
 IsPostgresBadName = IsBadName postgres_names

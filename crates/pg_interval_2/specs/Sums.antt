@@ -2,6 +2,7 @@
 use Rattle.std.specs.Prelude.{ℤ, pos, ◌+ℤ◌, ◌-ℤ◌, ◌*ℤ◌, int_div}
 use Rattle.pg_interval_2.specs.declared.interval.Interval.{Interval}
 
+-- the sum of two intervals: each part is the sum of both
 abbrev pub plus : Interval → Interval → Interval
 plus a b = record {
   months = a.months +ℤ b.months;
@@ -9,6 +10,7 @@ plus a b = record {
   microseconds = a.microseconds +ℤ b.microseconds;
 }
 
+-- the difference of two intervals: each part of the first less that of the second
 abbrev pub less : Interval → Interval → Interval
 less a b = record {
   months = a.months -ℤ b.months;
@@ -33,6 +35,7 @@ day_time days hours minutes nanos = record {
 abbrev pub months_in : ℤ → ℤ → ℤ
 months_in years months = (years *ℤ pos 12) +ℤ months
 
+-- the interval of years and months
 abbrev pub year_month : ℤ → ℤ → Interval
 year_month years months = record {
   months = months_in years months;

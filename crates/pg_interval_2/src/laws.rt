@@ -2,16 +2,20 @@
 ghost use Rattle.std.specs.Prelude.{◌≡◌, ◌↔◌, true, false, ℕ, List, IsTrue};
 ghost use Rattle.std.specs.List.{list_all};
 ghost use Rattle.scan_core.specs.Count.{Count};
+ghost use Rattle.pg_interval_2.specs.declared.error.ParseError.{ParseError};
 ghost use Rattle.pg_interval_2.specs.declared.interval.Interval.{Interval};
 ghost use Rattle.pg_interval_2.specs.declared.style.Style.{Style};
 ghost use Rattle.pg_interval_2.specs.declared.style.Style.TheVariants.{Iso, IsoStrict};
 ghost use Rattle.pg_interval_2.specs.Alphabet.{is_in_alphabet, is_no_feed};
 ghost use Rattle.pg_interval_2.specs.Cell.{cell};
 ghost use Rattle.pg_interval_2.specs.Denotes.{Denotes, HasNoShape};
+ghost use Rattle.pg_interval_2.specs.ErrorText.{SayTheSame};
 ghost use Rattle.pg_interval_2.specs.IsoWithoutWeeks.{IsIsoWithoutWeeks, has_week};
 ghost use Rattle.pg_interval_2.specs.Ranges.{IsInRange};
 ghost use Rattle.pg_interval_2.specs.Styles.{Shape, style_text};
 ghost use Rattle.pg_interval_2.specs.Sums.{plus, less};
+
+use crate::{error, interval, style};
 
 /// No text spells two lists of counts in one style, so none denotes two intervals.
 pub fn text_has_one_list_of_counts()
@@ -79,4 +83,14 @@ pub fn sums_are_undone()
 /// one: `Interval::from_cell(t.to_cell())` is `t`, and `Interval::from_cell(bytes).to_cell()` is `bytes`.
 pub fn cells_are_one_to_one()
     ensures { (t u : Interval) → IsInRange t → IsInRange u → cell t ≡ cell u → t ≡ u }
+{}
+
+/// Styles are equal where they are one, intervals where all three numbers are: `1 mon` isn't `30 days`. Refusals are equal where they
+/// are of one part with one message, or of one word at one place.
+pub fn equality_is_that_of_the_fields()
+    ensures styles { (a b : Style) → IsTrue (⟦<style::Style as PartialEq>⟧.eq a b) ↔ (a ≡ b) }
+    ensures intervals { (a b : Interval)
+        → IsTrue (⟦<interval::Interval as PartialEq>⟧.eq a b) ↔ (a ≡ b) }
+    ensures refusals { (a b : ParseError)
+        → IsTrue (⟦<error::ParseError as PartialEq>⟧.eq a b) ↔ SayTheSame a b }
 {}

@@ -8,6 +8,7 @@ use Rattle.scan_core.specs.Calendar.{days_in_month}
 use Rattle.port_toml_datetime.specs.Faults.{Fault, fault, bare_fault}
 use Rattle.port_toml_datetime.specs.Tokens.{after, token, is_end, is_digits, is_of}
 
+-- a check: whether it holds of the text, and what is said where it doesn't
 pub record Row : Type 0 where
   pub holds : Bool
   pub fault : Fault
@@ -17,6 +18,7 @@ abbrev pub first_failing : List Row → Option Fault
 first_failing [] = None
 first_failing (row ∷ rows) = if row.holds then first_failing rows else Some row.fault
 
+-- a row that says which part is wrong, and what was expected there
 abbrev pub row : Bool → List ℕ → List ℕ → Row
 row holds what expected = record { holds = holds; fault = fault what expected }
 
@@ -26,9 +28,11 @@ bare_row holds expected = record { holds = holds; fault = bare_fault expected }
 
 -- ---- tests
 
+-- so many bytes
 abbrev pub has_length : ℕ → List ℕ → Bool
 has_length n text = length text == n
 
+-- no less than the first number, and no more than the second
 abbrev pub is_within : ℕ → ℕ → ℕ → Bool
 is_within lo hi n = nat_le lo n && nat_le n hi
 
@@ -47,6 +51,7 @@ day_words days =
     else if days == 30 then codes "day between 01 and 30"
     else codes "day between 01 and 31"
 
+-- a month and a day, with a `-` between, of four, two and two digits, and a real day of the year
 unfoldable pub date_rows : List ℕ → List ℕ → List Row
 date_rows year text =
     let month = token 0 text in
@@ -62,6 +67,7 @@ date_rows year text =
     ∷ row (is_within 1 days (number_of day)) (codes "date") (day_words days)
     ∷ []
 
+-- what follows the month, the `-` and the day
 abbrev pub after_date : List ℕ → List ℕ
 after_date text = after 3 text
 
@@ -71,6 +77,7 @@ after_date text = after 3 text
 abbrev pub marked : List ℕ → List ℕ → Option (List ℕ)
 marked mark text = if is_of mark (token 0 text) then Some (token 1 text) else None
 
+-- what follows the mark and the token behind it, or the text where the mark isn't there
 abbrev pub after_marked : List ℕ → List ℕ → List ℕ
 after_marked mark text = if is_of mark (token 0 text) then after 2 text else text
 
@@ -78,9 +85,11 @@ after_marked mark text = if is_of mark (token 0 text) then after 2 text else tex
 abbrev pub fraction : Bool → List ℕ → Option (List ℕ)
 fraction has_second text = if has_second then marked (codes ".") text else None
 
+-- what follows a fraction
 abbrev pub after_fraction : Bool → List ℕ → List ℕ
 after_fraction has_second text = if has_second then after_marked (codes ".") text else text
 
+-- a minute, perhaps a second, and perhaps a fraction: their digits, then their widths, then their ranges
 unfoldable pub time_rows : List ℕ → List ℕ → List Row
 time_rows hour text =
     let minute = token 0 text in
@@ -98,6 +107,7 @@ time_rows hour text =
     (codes "time") (codes "second between 00 and 60")
     ∷ []
 
+-- what follows the minute, the second and the fraction
 unfoldable pub after_time : List ℕ → List ℕ
 after_time text =
     after_fraction (is_some (marked (codes ":") (after 1 text)))
@@ -148,9 +158,11 @@ tail_rows text =
 
 -- ---- the whole table
 
+-- a date, and what may follow it
 unfoldable pub dated_rows : List ℕ → List ℕ → List Row
 dated_rows year text = date_rows year text ++ tail_rows (after_date text)
 
+-- a time, and nothing behind it
 unfoldable pub local_time_rows : List ℕ → List ℕ → List Row
 local_time_rows hour text = time_rows hour text ++ end_row (after_time text) ∷ []
 

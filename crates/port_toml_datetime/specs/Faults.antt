@@ -9,6 +9,7 @@ pub record Fault : Type 0 where
   pub what : Option (List ℕ)
   pub expected : Option (List ℕ)
 
+-- a fault of this part, where this was expected
 abbrev pub fault : List ℕ → List ℕ → Fault
 fault what expected = record { what = Some what; expected = Some expected }
 
@@ -53,6 +54,7 @@ words_of OffsetHourRange = fault (codes "offset") (codes "hours between 00 and 2
 words_of OffsetMinuteRange = fault (codes "offset") (codes "minutes between 00 and 59")
 words_of End = bare_fault None
 
+-- what an error says
 abbrev pub fault_of : DatetimeParseError → Fault
 fault_of error = words_of error.check
 
@@ -61,9 +63,11 @@ abbrev pub what_text : Option (List ℕ) → List ℕ
 what_text None = codes "datetime"
 what_text (Some what) = what
 
+-- what was expected, behind a comma, where that is said
 abbrev pub expected_text : Option (List ℕ) → List ℕ
 expected_text None = []
 expected_text (Some expected) = codes ", expected " ++ expected
 
+-- the text of an error: `invalid`, the part, and what was expected there
 abbrev pub fault_text : Fault → List ℕ
 fault_text f = codes "invalid " ++ (what_text f.what ++ expected_text f.expected)

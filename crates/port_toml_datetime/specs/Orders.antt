@@ -15,11 +15,13 @@ none_first cmp None (Some b) = Less
 none_first cmp (Some a) None = Greater
 none_first cmp (Some a) (Some b) = cmp a b
 
+-- by year, month and day
 abbrev pub date_cmp : Date → Date → Ordering
 date_cmp a b =
     ordering_then (nat_cmp a.year b.year)
     (ordering_then (nat_cmp a.month b.month) (nat_cmp a.day b.day))
 
+-- by hour, minute, second and nanosecond, where one that isn't written comes first
 abbrev pub time_cmp : Time → Time → Ordering
 time_cmp a b =
     ordering_then (nat_cmp a.hour b.hour)

@@ -6,6 +6,7 @@ use Rattle.port_toml_datetime.specs.Checks.{checks, first_failing}
 use Rattle.port_toml_datetime.specs.declared.datetime.Datetime.{Datetime}
 use Rattle.port_toml_datetime.specs.declared.error.DatetimeParseError.{DatetimeParseError}
 
+-- the answer for a text: the date-time exactly where there is one, and else the first check that fails
 pub record IsReadFrom (text : List ℕ) (result : Result Datetime DatetimeParseError) : Type 0 where
   pub ok : IfOk result (IsDatetime text)
   pub all : (value : Datetime) → IsDatetime text value → result ≡ Ok value

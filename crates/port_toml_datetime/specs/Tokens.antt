@@ -36,10 +36,12 @@ token n text = first_token (after n text)
 
 -- ---- what a token is
 
+-- nothing is left
 abbrev pub is_end : List ℕ → Bool
 is_end [] = true
 is_end (b ∷ bs) = false
 
+-- it begins with a digit, and so is a run of digits
 abbrev pub is_digits : List ℕ → Bool
 is_digits [] = false
 is_digits (b ∷ bs) = is_ascii_digit b

@@ -22,6 +22,7 @@ AreRealSeconds None (Some n) = ⊥
 AreRealSeconds (Some s) None = s ≤ 60
 AreRealSeconds (Some s) (Some n) = (s ≤ 60) × (n < 10 ^ 9)
 
+-- a time of day, in which 60 stands for a leap second
 pub record IsRealTime (t : Time) : Type 0 where
   pub hour : t.hour ≤ 23
   pub minute : t.minute ≤ 59
@@ -33,6 +34,7 @@ IsOffsetInRange Z = ⊤
 IsOffsetInRange (Custom (pos n)) = n ≤ 1439
 IsOffsetInRange (Custom (negsuc n)) = n < 1439
 
+-- the parts of an offset date-time, a local date-time, a local date or a local time (TOML v1.0.0), each in its range
 abbrev pub AreWellFormed : Option Date → Option Time → Option Offset → Type 0
 AreWellFormed (Some d) (Some t) (Some o) = IsRealDay d × IsRealTime t × IsOffsetInRange o
 AreWellFormed (Some d) (Some t) None = IsRealDay d × IsRealTime t
@@ -42,5 +44,6 @@ AreWellFormed (Some d) None (Some o) = ⊥
 AreWellFormed None None o = ⊥
 AreWellFormed None (Some t) (Some o) = ⊥
 
+-- a date-time of one of the four kinds, each part in its range
 abbrev pub IsWellFormed : Datetime → Type 0
 IsWellFormed d = AreWellFormed d.date d.time d.offset

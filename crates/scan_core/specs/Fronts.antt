@@ -2,11 +2,12 @@
 use Rattle.std.specs.Prelude.{◌≡◌, ℕ, Bool, false, List, [], ◌∷◌, if◌then◌else◌}
 use Rattle.std.specs.Char.{is_ascii_digit}
 
--- the longest front of bytes that pass the test, and what follows it
+-- the longest front of bytes that pass the test
 abbrev pub leading : (ℕ → Bool) → List ℕ → List ℕ
 leading test [] = []
 leading test (b ∷ bs) = if test b then (b ∷ leading test bs) else []
 
+-- what follows the longest front of bytes that pass the test
 abbrev pub behind : (ℕ → Bool) → List ℕ → List ℕ
 behind test [] = []
 behind test (b ∷ bs) = if test b then behind test bs else (b ∷ bs)
@@ -16,10 +17,11 @@ abbrev pub BeginsWithout : (ℕ → Bool) → List ℕ → Type 0
 BeginsWithout test [] = Unit {0}
 BeginsWithout test (b ∷ bs) = test b ≡ false
 
--- the digits at the front, and what follows them
+-- the digits at the front
 abbrev pub front_digits : List ℕ → List ℕ
 front_digits bytes = leading is_ascii_digit bytes
 
+-- what follows the digits at the front
 abbrev pub after_digits : List ℕ → List ℕ
 after_digits bytes = behind is_ascii_digit bytes
 

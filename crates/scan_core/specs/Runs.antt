@@ -34,6 +34,7 @@ abbrev pub packed_behind : ℕ → List ℕ → ℕ
 packed_behind n [] = n
 packed_behind n (letter ∷ letters) = packed_behind (n * 256 + letter) letters
 
+-- a word's letters packed into one number
 abbrev pub packed : List ℕ → ℕ
 packed letters = packed_behind 0 letters
 

@@ -1,6 +1,7 @@
 -- Words of a line, which have blanks between: runs of spaces and TABs.
 use Rattle.std.specs.Prelude.{◌≡◌, ◌==◌, ◌||◌, ◌<◌, ℕ, zero, suc, ⊤, Bool, true, false, List, [], ◌∷◌, ◌++◌, length}
 
+-- a space or a TAB, the characters of POSIX's class `blank`
 abbrev pub is_blank : ℕ → Bool
 is_blank byte = (byte == 32) || (byte == 9)
 

@@ -1,5 +1,5 @@
 //! Laws of texts, lines and words.
-ghost use Rattle.std.specs.Prelude.{◌≡◌, ◌++◌, List, ℕ, Bool, true, codes};
+ghost use Rattle.std.specs.Prelude.{◌≡◌, ◌++◌, List, ℕ, Bool, true, ◌↔◌, IsTrue, codes};
 ghost use Rattle.forms.specs.declared.form.Form.{Form as AnyForm};
 ghost use Rattle.forms.specs.Replies.{IsReply};
 ghost use Rattle.text_lines.specs.declared.place.Place.{Place as AnyPlace};
@@ -9,6 +9,7 @@ ghost use Rattle.text_lines.specs.Outputs.{IsOutput};
 ghost use Rattle.text_lines.specs.Ends.{AreJudged};
 
 use crate::asked::what_is_asked;
+use crate::place::Place;
 use forms::laws::{lines_of_two_names_ask_for_their_text, texts_have_one_answer};
 
 /// The reply to a text is that of a line with the two forms' names and the text.
@@ -67,4 +68,9 @@ pub fn asked_words_begin_with_a_capital()
         → AskLines words from to place → BeginsCapital words }
     ensures text { (words : List ℕ) (from to : AnyForm) (text : List ℕ)
         → AskText words from to text → BeginsCapital words }
+{}
+
+/// Places are equal where they are of one kind and number: the first field isn't the first word.
+pub fn equality_is_that_of_the_fields()
+    ensures { (a b : AnyPlace) → IsTrue (⟦<Place as PartialEq>⟧.eq a b) ↔ (a ≡ b) }
 {}

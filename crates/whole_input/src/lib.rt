@@ -4,6 +4,7 @@
 #![tactic(auto)]
 
 mod command;
+pub mod laws;
 mod lines;
 mod reading;
 mod split;
