@@ -1,5 +1,5 @@
 //! Laws of the order of intervals, of lines, and of what is written of an input.
-ghost use Rattle.std.specs.Prelude.{◌≡◌, ◌↔◌, ℕ, List, Result as AnyResult};
+ghost use Rattle.std.specs.Prelude.{◌≡◌, ◌↔◌, ℕ, List, Result as AnyResult, IsTrue};
 ghost use Rattle.std.specs.Cmp.{IsTotalOrder};
 ghost use Rattle.std.specs.declared.cmp.Ordering.TheVariants.{Equal};
 ghost use Rattle.pg_interval_2.specs.declared.interval.Interval.{Interval as AnyInterval};
@@ -12,6 +12,8 @@ ghost use Rattle.interval_column.specs.Lines.{HasFault, IsLineRead};
 ghost use Rattle.interval_column.specs.Order.{order_of};
 ghost use Rattle.interval_column.specs.Output.{Tells};
 ghost use Rattle.interval_column.specs.Readings.{IsColumnOf, ReadsColumn};
+
+use crate::fault::{ColumnError, LineFault};
 
 /// The order is total: turned intervals have the turned answer, what is before the next but one is before it, and intervals that tie
 /// stand alike to every other.
@@ -73,3 +75,9 @@ pub fn status_tells_of_faults()
 {
     faulty_input_has_no_column();
 }
+
+/// Faults are equal where they are one, refusals of a column where all their fields are.
+pub fn equality_is_that_of_the_fields()
+    ensures faults { (a b : AnyFault) → IsTrue (⟦<LineFault as PartialEq>⟧.eq a b) ↔ (a ≡ b) }
+    ensures refusals { (a b : AnyError) → IsTrue (⟦<ColumnError as PartialEq>⟧.eq a b) ↔ (a ≡ b) }
+{}

@@ -1,5 +1,5 @@
 //! Laws of schedules.
-ghost use Rattle.std.specs.Prelude.{◌≡◌, ◌<◌, ◌≤◌, ℕ, List, All, AllPairs, IsPermutation, Result as AnyResult, Ok};
+ghost use Rattle.std.specs.Prelude.{◌≡◌, ◌<◌, ◌≤◌, ℕ, List, All, AllPairs, IsPermutation, Result as AnyResult, Ok, ◌↔◌, IsTrue};
 ghost use Rattle.forms.specs.Lines.{lines};
 ghost use Rattle.whole_input.specs.Numbered.{AreRead};
 ghost use Rattle.schedule_check.specs.Checks.{Checks};
@@ -9,6 +9,10 @@ ghost use Rattle.schedule_check.specs.Slots.{IsSlot};
 ghost use Rattle.schedule_check.specs.declared.check_error.CheckError.{CheckError as AnyError};
 ghost use Rattle.schedule_check.specs.declared.fault.Fault.{Fault as AnyFault};
 ghost use Rattle.schedule_check.specs.declared.slot.Slot.{Slot as AnySlot};
+
+use crate::check_error::CheckError;
+use crate::fault::Fault;
+use crate::slot::Slot;
 
 /// A line has one slot or one fault at most.
 pub fn one_slot()
@@ -55,3 +59,10 @@ pub fn one_report()
 {
     one_answer();
 }
+
+/// Slots, faults and refusals are equal where all their fields are.
+pub fn equality_is_that_of_the_fields()
+    ensures slots { (a b : AnySlot) → IsTrue (⟦<Slot as PartialEq>⟧.eq a b) ↔ (a ≡ b) }
+    ensures faults { (a b : AnyFault) → IsTrue (⟦<Fault as PartialEq>⟧.eq a b) ↔ (a ≡ b) }
+    ensures refusals { (a b : AnyError) → IsTrue (⟦<CheckError as PartialEq>⟧.eq a b) ↔ (a ≡ b) }
+{}
