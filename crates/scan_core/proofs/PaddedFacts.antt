@@ -1,6 +1,7 @@
 -- Digits with leading zeros: how many they are, the number that they write, and their last digit.
-use Rattle.std.proofs.Common.{◌≡◌, ℕ, zero, suc, ◌+◌, ◌-◌, ◌/◌, ◌%◌, ◌^◌, ◌<◌, ◌≤◌, [], ◌∷◌, ◌++◌, length, decimal, replicate, max, append_assoc, length-append, arith, refl, sym, ap, ◌∙◌}
+use Rattle.std.proofs.Common.{◌≡◌, ℕ, zero, suc, ◌+◌, ◌-◌, ◌/◌, ◌%◌, ◌^◌, ◌<◌, ◌≤◌, inl, inr, List, [], ◌∷◌, ◌++◌, length, decimal, replicate, max, append_assoc, length-append, arith, refl, sym, ap, ap₂, ◌∙◌}
 use Rattle.std.proofs.lemmas.Fmt.{decimal_digit, decimal_step, decimal_nonempty, length-decimal-le}
+use Rattle.std.proofs.lemmas.Bool.{cases_lt}
 use Rattle.std.proofs.lemmas.List.{length_push}
 use Rattle.scan_core.specs.Digits.{AreDigits, number_of}
 use Rattle.scan_core.specs.Fields.{IsField}
@@ -48,3 +49,44 @@ padded_more width n ten fits =
 -- a digit alone stands behind zeros
 pub padded_digit : (width n : ℕ) → n < 10 → padded_digits width n ≡ replicate (width - 1) 48 ++ ((48 + n) ∷ [])
 padded_digit width n h = rw (decimal_digit n h) refl
+
+zeros_more : (k : ℕ) → replicate {A = ℕ} (suc k) 48 ≡ replicate k 48 ++ (48 ∷ [])
+zeros_more zero = refl
+zeros_more (suc k) = ap (λ (l : List ℕ). 48 ∷ l) (zeros_more k)
+
+zeros_last : (k : ℕ) → 0 < k → replicate {A = ℕ} k 48 ≡ replicate (k - 1) 48 ++ (48 ∷ [])
+zeros_last zero h = absurd (omega arith)
+zeros_last (suc k) h = let same : k ≡ suc k - 1 = omega arith in zeros_more k ∙ ap (λ (m : ℕ). replicate m 48 ++ (48 ∷ [])) same
+
+small_last : (width n : ℕ) → 1 < width → n < 10 → padded_digits width n ≡ padded_digits (width - 1) 0 ++ ((48 + n) ∷ [])
+small_last width n w h = padded_digit width n h ∙ ap (λ (l : List ℕ). l ++ ((48 + n) ∷ [])) (zeros_last (width - 1) (omega (arith, w)) ∙ sym (padded_digit (width - 1) 0 (omega arith)))
+
+-- in a width above one, the digits of a number are those of its tenth, and its last digit
+pub padded_last : (width n : ℕ) → 1 < width → n < 2 ^ 64 → padded_digits width n ≡ padded_digits (width - 1) (n / 10) ++ ((48 + n % 10) ∷ [])
+padded_last width n w fits =
+    elim (cases_lt n 10) [
+      | inr ten ↦ padded_more width n ten fits
+      | inl small ↦
+          let tenth : n / 10 ≡ 0 = omega (arith, small) in
+          let last : n % 10 ≡ n = omega (arith, small) in
+          small_last width n w small ∙ ap₂ (λ (t d : ℕ). padded_digits (width - 1) t ++ ((48 + d) ∷ [])) (sym tenth) (sym last)
+    ]
+
+pub padded_two : (n : ℕ) → n < 100 → padded_digits 2 n ≡ (48 + n / 10 % 10) ∷ ((48 + n % 10) ∷ [])
+padded_two n h =
+    let tens : n / 10 ≡ n / 10 % 10 = omega (arith, h) in
+    padded_last 2 n (omega arith) (omega (arith, h))
+    ∙ ap (λ (l : List ℕ). l ++ ((48 + n % 10) ∷ [])) (padded_digit 1 (n / 10) (omega (arith, h)) ∙ ap (λ (t : ℕ). (48 + t) ∷ []) tens)
+
+-- the last two of four digits are those of the number below a hundred
+pub padded_four : (n : ℕ) → n < 10_000 → padded_digits 4 n ≡ padded_digits 2 (n / 100) ++ padded_digits 2 (n % 100)
+padded_four n h =
+    let tens : n % 100 / 10 % 10 ≡ n / 10 % 10 = omega arith in
+    let ones : n % 100 % 10 ≡ n % 10 = omega arith in
+    let hundredth : n / 10 / 10 ≡ n / 100 = omega arith in
+    let pair : padded_digits 2 (n % 100) ≡ (48 + n / 10 % 10) ∷ ((48 + n % 10) ∷ []) = padded_two (n % 100) (omega arith) ∙ ap₂ (λ (t d : ℕ). (48 + t) ∷ ((48 + d) ∷ [])) tens ones in
+    let front : padded_digits 3 (n / 10) ≡ padded_digits 2 (n / 100) ++ ((48 + n / 10 % 10) ∷ []) = padded_last 3 (n / 10) (omega arith) (omega (arith, h)) ∙ ap (λ (t : ℕ). padded_digits 2 t ++ ((48 + n / 10 % 10) ∷ [])) hundredth in
+    padded_last 4 n (omega arith) (omega (arith, h))
+    ∙ ap (λ (l : List ℕ). l ++ ((48 + n % 10) ∷ [])) front
+    ∙ append_assoc (padded_digits 2 (n / 100)) ((48 + n / 10 % 10) ∷ []) ((48 + n % 10) ∷ [])
+    ∙ ap (λ (l : List ℕ). padded_digits 2 (n / 100) ++ l) (sym pair)

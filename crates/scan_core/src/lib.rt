@@ -30,5 +30,5 @@ pub use scan::Scan;
 pub use scanned::add_scanned;
 pub use share::{Part, Share, Unit, count_share};
 pub use steps::Steps;
-pub use text::{Short, push_num, push_padded, push_text, push_trimmed};
+pub use text::{Short, push_num, push_padded, push_text, push_trimmed, push_two};
 pub use totals::Totals;

@@ -1,5 +1,5 @@
 //! Short texts, and what is appended to them.
-ghost use Rattle.std.specs.Prelude.{◌≡◌, ◌⊎◌, ◌+◌, ◌-◌, ◌<◌, ◌≤◌, ◌++◌, length, decimal, replicate, max};
+ghost use Rattle.std.specs.Prelude.{◌≡◌, ◌⊎◌, ◌+◌, ◌-◌, ◌%◌, ◌<◌, ◌≤◌, [], ◌∷◌, ◌++◌, length, decimal, replicate, max};
 ghost use Rattle.arrayvec.specs.ArrayString.{array_string_len};
 ghost use Rattle.scan_core.specs.Padded.{padded_digits, trimmed_digits};
 
@@ -29,13 +29,80 @@ pub fn push_num<const CAP: usize>(out: &mut ArrayString<CAP>, value: u64)
     out.push_str(buffer.format(value));
 }
 
+/// Appends the last digit of the value.
+#[inline(always)]
+fn push_digit<const CAP: usize>(out: &mut ArrayString<CAP>, value: u64)
+    requires { array_string_len out.old + 1 ≤ CAP }
+    ensures bytes { out.new.bytes ≡ out.old.bytes ++ (48 + value % 10) ∷ [] }
+    ensures len { array_string_len out.new ≡ array_string_len out.old + 1 }
+{
+    out.push((b'0' + (value % 10) as u8) as char);
+}
+
+/// Appends a number below 100 in two digits: 7 is `07`.
+///
+/// Fields of dates and clocks are so narrow that `itoa`, which writes no leading zeros, costs several times as much as the digits.
+#[inline(always)]
+pub fn push_two<const CAP: usize>(out: &mut ArrayString<CAP>, value: u64)
+    requires value { value < 100 }
+    requires room { array_string_len out.old + 2 ≤ CAP }
+    ensures bytes { out.new.bytes ≡ out.old.bytes ++ padded_digits 2 value }
+    ensures len { array_string_len out.new ≡ array_string_len out.old + 2 }
+{
+    push_digit(out, value / 10);
+    push_digit(out, value);
+}
+
+/// Appends a number below 1000 in three digits.
+#[inline(always)]
+fn push_three<const CAP: usize>(out: &mut ArrayString<CAP>, value: u64)
+    requires value { value < 1000 }
+    requires room { array_string_len out.old + 3 ≤ CAP }
+    ensures bytes { out.new.bytes ≡ out.old.bytes ++ padded_digits 3 value }
+    ensures len { array_string_len out.new ≡ array_string_len out.old + 3 }
+{
+    push_two(out, value / 10);
+    push_digit(out, value);
+}
+
+/// Appends a number below 10,000 in four digits.
+#[inline(always)]
+fn push_four<const CAP: usize>(out: &mut ArrayString<CAP>, value: u64)
+    requires value { value < 10_000 }
+    requires room { array_string_len out.old + 4 ≤ CAP }
+    ensures bytes { out.new.bytes ≡ out.old.bytes ++ padded_digits 4 value }
+    ensures len { array_string_len out.new ≡ array_string_len out.old + 4 }
+{
+    push_two(out, value / 100);
+    push_two(out, value % 100);
+}
+
 /// Appends the decimal digits of the value with leading zeros to at least `width` digits, `width` at most 20: 7 in width 2 is `07`.
-#[inline(always)] // nearly all widths are constants, and nearly all numbers have at most four digits
+#[inline(always)] // nearly all widths are constants
 pub fn push_padded<const CAP: usize>(out: &mut ArrayString<CAP>, value: u64, width: usize)
     requires width { width ≤ 20 }
     requires room { array_string_len out.old + max width (length (decimal value)) ≤ CAP }
     ensures bytes { out.new.bytes
         ≡ out.old.bytes ++ (replicate (width - length (decimal value)) 48 ++ decimal value) }
+    ensures len { array_string_len out.new
+        ≡ array_string_len out.old + max width (length (decimal value)) }
+{
+    if width == 2 && value < 100 {
+        push_two(out, value);
+    } else if width == 3 && value < 1000 {
+        push_three(out, value);
+    } else if width == 4 && value < 10_000 {
+        push_four(out, value);
+    } else {
+        push_filled(out, value, width);
+    }
+}
+
+/// The same by way of `itoa`, for any width.
+fn push_filled<const CAP: usize>(out: &mut ArrayString<CAP>, value: u64, width: usize)
+    requires width { width ≤ 20 }
+    requires room { array_string_len out.old + max width (length (decimal value)) ≤ CAP }
+    ensures bytes { out.new.bytes ≡ out.old.bytes ++ padded_digits width value }
     ensures len { array_string_len out.new
         ≡ array_string_len out.old + max width (length (decimal value)) }
 {
@@ -74,6 +141,6 @@ pub fn push_trimmed<const CAP: usize>(out: &mut ArrayString<CAP>, value: u64, wi
 {
     if value != 0 {
         let (left, places) = without_zeros(value, width);
-        push_padded(out, left, places);
+        push_filled(out, left, places);
     }
 }

@@ -1,7 +1,7 @@
--- The invariant of the loop of `text::push_padded`.
+-- The invariant of the loop of `text::push_filled`.
 use Rattle.std.proofs.Common.{◌≡◌, ◌+◌, ◌-◌, ◌≤◌, ◌++◌, length, max, replicate}
 use Rattle.arrayvec.specs.ArrayString.{array_string_len}
-use Rattle.scan_core.proofs.text.push_padded.Given as goal
+use Rattle.scan_core.proofs.text.push_filled.Given as goal
 
 abbrev pub invariant-loop : goal.invariant-loop
 invariant-loop g l = record {

@@ -1,6 +1,6 @@
--- Answers to the goals of `text::push_padded`.
+-- Answers to the goals of `text::push_filled`.
 use Rattle.std.proofs.Common.{◌≡◌, ℕ, ◌-◌, ◌++◌, List, ap, ap₂, append_assoc, arith, decimal, length, replicate, ◌∙◌}
-use Rattle.scan_core.proofs.text.push_padded.Goals as goal
+use Rattle.scan_core.proofs.text.push_filled.Goals as goal
 
 pub push_str-requires : goal.push_str-requires
 push_str-requires g c = let digits = ap length c.format-digits.ensures.text in (omega arith, omega arith)
