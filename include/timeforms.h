@@ -21,6 +21,13 @@ extern "C" {
 /* The version of this header. `timeforms_version` tells that of the library. */
 #define TIMEFORMS_VERSION "1.0.0"
 
+/* The same as a number, for `#if`: 10000 times the first part, 100 times the second, and the third. */
+#define TIMEFORMS_VERSION_NUMBER 10000
+
+/* Programs that were built with a header of this number run with each library of it: the 1 of `libtimeforms.so.1`. It changes where a
+ * call or a type changes; further calls, codes and forms leave it. */
+#define TIMEFORMS_ABI 1
+
 /* No text that a call puts into a buffer has more bytes than this. */
 #define TIMEFORMS_TEXT_MAX 96
 

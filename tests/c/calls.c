@@ -243,6 +243,9 @@ static void test_version(void) {
     CHECK(timeforms_version(out, sizeof out) == (int32_t)strlen(TIMEFORMS_VERSION));
     CHECK(!memcmp(out, TIMEFORMS_VERSION, strlen(TIMEFORMS_VERSION)));
     CHECK(timeforms_version(NULL, 0) == TIMEFORMS_NO_ROOM);
+    int major = 0, minor = 0, patch = 0;
+    CHECK(sscanf(TIMEFORMS_VERSION, "%d.%d.%d", &major, &minor, &patch) == 3);
+    CHECK(TIMEFORMS_VERSION_NUMBER == 10000 * major + 100 * minor + patch && TIMEFORMS_ABI == major);
 }
 
 /* Writes the bytes that a field of a table spells over the field, where \x0A is one byte: how many they are. */
