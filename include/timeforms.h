@@ -21,6 +21,13 @@ extern "C" {
 /* The version of this header. `timeforms_version` tells that of the library. */
 #define TIMEFORMS_VERSION "1.0.0"
 
+/* The same as a number, for `#if`: 10000 times the first part, 100 times the second, and the third. */
+#define TIMEFORMS_VERSION_NUMBER 10000
+
+/* Programs that were built with a header of this number run with each library of it: the 1 of `libtimeforms.so.1`. It changes where a
+ * call or a type changes; further calls, codes and forms leave it. */
+#define TIMEFORMS_ABI 1
+
 /* No text that a call puts into a buffer has more bytes than this. */
 #define TIMEFORMS_TEXT_MAX 96
 
@@ -101,6 +108,24 @@ int32_t timeforms_interval_from_text(int32_t form, const char *text, size_t text
 /* Puts the text of an interval in an interval form into the buffer: how many bytes it has, 96 at most. Each interval has one.
  * NO_SUCH_FORM, NO_ROOM. */
 int32_t timeforms_interval_to_text(int32_t form, const timeforms_interval *interval, char *out, size_t out_len);
+
+/* The sum of two intervals, part by part: 0. RANGE exactly where a part leaves its type. */
+int32_t timeforms_interval_add(timeforms_interval a, timeforms_interval b, timeforms_interval *sum);
+
+/* The first interval less the second, part by part: 0. RANGE exactly where a part leaves its type. */
+int32_t timeforms_interval_subtract(timeforms_interval a, timeforms_interval b, timeforms_interval *difference);
+
+/* The interval with the sign of each part turned: 0. RANGE exactly where a part is the least of its type. */
+int32_t timeforms_interval_negate(timeforms_interval a, timeforms_interval *negated);
+
+/* How two intervals are ordered: -1 where the first is before the second, 0 where they are equal, 1 where it is behind. A month counts 30
+ * days and a day 24 hours; intervals that are as long as each other go by months, days and microseconds. There is no code. */
+int32_t timeforms_interval_compare(timeforms_interval a, timeforms_interval b);
+
+/* The interval of so many seconds and the nanoseconds beyond them, cut toward zero to microseconds: no months, as many days of 24 hours as
+ * there are, toward zero, and the rest: 0. Half a second before is -1 and 500,000,000. RANGE at 1,000,000,000 nanoseconds and more, and
+ * exactly where a part leaves its type. */
+int32_t timeforms_interval_from_seconds(int64_t seconds, uint32_t nanoseconds, timeforms_interval *interval);
 
 /* ---- File times: ticks of 100 nanoseconds since 1601-01-01 00:00:00 UTC ---- */
 

@@ -1,22 +1,49 @@
-"""Packs the package, with the shared library in it, into a wheel: what pip asks of a build backend.
+"""Packs the package, with the shared library in it, into a wheel or an sdist: what pip asks of a build backend.
 
 It needs nothing but Python, so that `pip install` asks no index and works on a machine without a network.
 """
 import base64
 import hashlib
+import io
 import os
+import platform
 import re
 import sysconfig
+import tarfile
 import zipfile
 
 TOP = os.path.dirname(os.path.abspath(__file__))
-FILES = ["timeforms/__init__.py", "timeforms/_library.py", "timeforms/py.typed", "timeforms/libtimeforms.so"]
+LIBRARY = "timeforms/libtimeforms.so"
+PACKAGE = ["__init__.py", "_columns.py", "_errors.py", "_forms.py", "_interval.py", "_library.py", "_moments.py", "_texts.py", "py.typed"]
+FILES = [f"timeforms/{name}" for name in PACKAGE] + [LIBRARY]
+
+
+def content_of(path):
+    if path == LIBRARY and not os.path.exists(os.path.join(TOP, path)):
+        raise SystemExit(f"{path} isn't there: build it first, by tools/check_c at the top of the checkout")
+    with open(os.path.join(TOP, path), "rb") as file:
+        return file.read()
 
 
 def field(name):
     """A text of the table `project`."""
-    with open(os.path.join(TOP, "pyproject.toml"), encoding="utf-8") as file:
-        return re.search(rf'^{name} = "(.*)"$', file.read(), re.M)[1]
+    return re.search(rf'^{name} = "(.*)"$', content_of("pyproject.toml").decode(), re.M)[1]
+
+
+def metadata():
+    return (
+        f"Metadata-Version: 2.1\nName: {field('name')}\nVersion: {field('version')}\nSummary: {field('description')}\n"
+        f"Requires-Python: {field('requires-python')}\nLicense: MIT\n"
+    ).encode()
+
+
+def tag():
+    """The wheel's tag: manylinux of the lowest glibc whose symbols the library asks for, at least 2.5, the first that has such a tag."""
+    asked = [tuple(map(int, version)) for version in re.findall(rb"GLIBC_(\d+)\.(\d+)", content_of(LIBRARY))]
+    if not asked:
+        return "py3-none-" + re.sub(r"[-.]", "_", sysconfig.get_platform())
+    major, minor = max([(2, 5), *asked])
+    return f"py3-none-manylinux_{major}_{minor}_{platform.machine()}"
 
 
 def record_line(path, content):
@@ -24,26 +51,39 @@ def record_line(path, content):
     return f"{path},sha256={digest},{len(content)}\n"
 
 
-def build_wheel(wheel_directory, config_settings=None, metadata_directory=None):
-    """Writes the wheel, which is one of this machine's kind, and answers its name."""
-    if not os.path.exists(os.path.join(TOP, "timeforms", "libtimeforms.so")):
-        raise SystemExit("timeforms/libtimeforms.so isn't there: build it first, by tools/check_c at the top of the checkout")
+def write_wheel(wheel_directory, contents):
+    """Writes a wheel of these files, and answers its name."""
     name, version = field("name"), field("version")
-    tag = "py3-none-" + re.sub(r"[-.]", "_", sysconfig.get_platform())
     info = f"{name}-{version}.dist-info"
-    contents = {}
-    for path in FILES:
-        with open(os.path.join(TOP, path), "rb") as file:
-            contents[path] = file.read()
-    contents[f"{info}/METADATA"] = (
-        f"Metadata-Version: 2.1\nName: {name}\nVersion: {version}\nSummary: {field('description')}\n"
-        f"Requires-Python: {field('requires-python')}\nLicense: MIT\n"
-    ).encode()
-    contents[f"{info}/WHEEL"] = f"Wheel-Version: 1.0\nGenerator: {__name__}\nRoot-Is-Purelib: false\nTag: {tag}\n".encode()
+    contents[f"{info}/METADATA"] = metadata()
+    contents[f"{info}/WHEEL"] = f"Wheel-Version: 1.0\nGenerator: {__name__}\nRoot-Is-Purelib: false\nTag: {tag()}\n".encode()
     record = "".join(record_line(path, content) for path, content in contents.items()) + f"{info}/RECORD,,\n"
     contents[f"{info}/RECORD"] = record.encode()
-    wheel = f"{name}-{version}-{tag}.whl"
+    wheel = f"{name}-{version}-{tag()}.whl"
     with zipfile.ZipFile(os.path.join(wheel_directory, wheel), "w", zipfile.ZIP_DEFLATED) as archive:
         for path, content in contents.items():
             archive.writestr(path, content)
     return wheel
+
+
+def build_wheel(wheel_directory, config_settings=None, metadata_directory=None):
+    """Writes the wheel, and answers its name."""
+    return write_wheel(wheel_directory, {path: content_of(path) for path in FILES})
+
+
+def build_editable(wheel_directory, config_settings=None, metadata_directory=None):
+    """Writes a wheel that leads to this folder, for `pip install -e`, and answers its name."""
+    content_of(LIBRARY)
+    return write_wheel(wheel_directory, {"timeforms.pth": f"{TOP}\n".encode()})
+
+
+def build_sdist(sdist_directory, config_settings=None):
+    """Writes the sources of the package, and the built library, since what builds it isn't Python; answers the name."""
+    base = f"{field('name')}-{field('version')}"
+    with tarfile.open(os.path.join(sdist_directory, f"{base}.tar.gz"), "w:gz", format=tarfile.PAX_FORMAT) as archive:
+        files = {path: content_of(path) for path in [*FILES, "pyproject.toml", "wheel_of_library.py"]}
+        for path, content in {**files, "PKG-INFO": metadata()}.items():
+            entry = tarfile.TarInfo(f"{base}/{path}")
+            entry.size = len(content)
+            archive.addfile(entry, io.BytesIO(content))
+    return f"{base}.tar.gz"

@@ -1,12 +1,18 @@
 """Tries the package, the rows of the conformance tables among all. The values are from README.md, from the tables and by hand."""
+import array
+import copy
 import datetime
 import doctest
+import importlib.util
 import os
+import pickle
 import re
+import sys
 import unittest
+from concurrent.futures import ThreadPoolExecutor
 
 import timeforms
-from timeforms import FORMS, ConversionError, Interval, convert, replies
+from timeforms import FORMS, ConversionError, Form, Interval, convert, replies, total
 
 TABLES = os.path.join(os.path.dirname(os.path.abspath(__file__)), "..", "..", "crates", "conformance", "data")
 
@@ -17,13 +23,13 @@ def spelled(field):
 
 
 def rows():
-    """The line and the reply of each row."""
+    """The line and the reply of each row of a table of lines, which has three fields."""
     for table in sorted(os.listdir(TABLES)):
         with open(os.path.join(TABLES, table), "rb") as file:
             for row in file.read().split(b"\n"):
-                if row and not row.startswith(b"#"):
-                    line, reply, _ = row.split(b"\t")
-                    yield spelled(line), spelled(reply)
+                fields = row.split(b"\t")
+                if len(fields) == 3 and not row.startswith(b"#"):
+                    yield spelled(fields[0]), spelled(fields[1])
 
 
 def reply_to(line):
@@ -83,10 +89,53 @@ class Texts(unittest.TestCase):
     def test_forms(self):
         forms = "FileTime IsoDateTime IsoDate IsoDuration Toml Fancy PgIso Postgres PgVerbose PgSql IsoStrict"
         self.assertEqual(FORMS, tuple(forms.split()))
-        self.assertEqual(timeforms.version(), "1.0.0")
+        self.assertEqual(tuple(form.value for form in Form), FORMS)
+        self.assertEqual(convert(Form.PgIso, Form.Postgres, "P1D"), "1 day")
+        self.assertEqual((f"{Form.PgIso}", str(Form.PgIso), f"{Form.PgIso:>6}"), ("PgIso", "PgIso", " PgIso"))
+        self.assertEqual((timeforms.version(), timeforms.__version__), ("1.0.0", "1.0.0"))
+
+    def test_what_is_no_text(self):
+        for words in [("PgIso", "PgIso", b"P1D"), ("PgIso", "PgIso", None), ("PgIso", "PgIso", 1), (6, "PgIso", "P1D"), (None, 7, "P1D")]:
+            with self.assertRaises(TypeError):
+                convert(*words)
+        for lines in ("PgIso PgIso P1D", 3, None, [1]):
+            with self.assertRaises(TypeError):
+                replies(lines)
+        line = b"PgIso PgIso P1D\n"
+        for lines in (bytearray(line), memoryview(line), array.array("B", line), memoryview(line[::-1])[::-1]):
+            self.assertEqual(replies(lines), b"P1D\n")
+
+    def test_messages(self):
+        for error, message in [
+            (("Postgres", "PgIso", "1 dya"), "'1 dya' is no Postgres: Syntax"),
+            (("Fancy", "Fancy", "30d"), "'30d' in Fancy would be read as another value: Ambiguous"),
+            (("PgIso", "PgIso", "P" * 50), f"'{'P' * 40}'... is no PgIso: Syntax"),
+            (("pgiso", "PgIso", "P"), "there is no such form for this call, 'pgiso' or 'PgIso': NoSuchForm"),
+        ]:
+            with self.assertRaises(ConversionError) as refused:
+                convert(*error)
+            self.assertEqual(str(refused.exception), message)
+            again = pickle.loads(pickle.dumps(refused.exception))
+            self.assertEqual((again.cause, str(again)), (refused.exception.cause, message))
+        with self.assertRaises(ConversionError) as refused:
+            convert("Toml", "FileTime", "12:00:00")
+        error = refused.exception
+        self.assertEqual((error.cause, error.from_, error.to, error.text), ("Kind", "Toml", "FileTime", "12:00:00"))
 
     def test_examples(self):
-        self.assertEqual(doctest.testmod(timeforms).failed, 0)
+        names = vars(timeforms)
+        for module in [timeforms] + [module for name, module in sys.modules.items() if name.startswith("timeforms._")]:
+            ran = doctest.testmod(module, extraglobs={**names, "datetime": datetime}, optionflags=doctest.IGNORE_EXCEPTION_DETAIL)
+            self.assertEqual(ran.failed, 0, module)
+
+    def test_threads(self):
+        def answers(number):
+            return [convert("Fancy", "PgIso", f"{number}h") for _ in range(2000)], replies(b"Fancy PgIso %dh\n" % number * 2000)
+
+        with ThreadPoolExecutor(8) as pool:
+            for number, (each, lines) in enumerate(pool.map(answers, range(1, 9)), 1):
+                self.assertEqual(each, [f"PT{number}H"] * 2000)
+                self.assertEqual(lines, b"PT%dH\n" % number * 2000)
 
 
 class Intervals(unittest.TestCase):
@@ -117,8 +166,50 @@ class Intervals(unittest.TestCase):
         self.refused("Syntax", Interval.parse, "P")
         self.refused("Range", Interval.parse, "P2147483648D")
         self.refused("NotUtf8", Interval.parse, "P1D\udfff")
-        self.refused("Range", Interval(2**31, 0, 0).text)
-        self.refused("Range", Interval(0, 0, -(2**63) - 1).text)
+        for parts in [(2**31,), (0, -(2**31) - 1), (0, 0, 2**63), (0, 0, -(2**63) - 1)]:
+            with self.assertRaises(OverflowError):
+                Interval(*parts)
+        for parts in [(1.0,), ("1",), (None,), (1, 2, 3, 4)]:
+            with self.assertRaises(TypeError):
+                Interval(*parts)
+        for text in (b"P1D", None, 1):
+            with self.assertRaises(TypeError):
+                Interval.parse(text)
+
+    def test_arithmetic(self):
+        a, b = Interval(1, 2, 3), Interval(4, 5, 6)
+        self.assertEqual(a + b, Interval(5, 7, 9))
+        self.assertEqual(a - b, Interval(-3, -3, -3))
+        self.assertEqual((-a, +a, 3 * a, a * -1), (Interval(-1, -2, -3), a, Interval(3, 6, 9), -a))
+        self.assertEqual((sum([]), sum([a, b, a])), (0, Interval(6, 9, 12)))
+        self.assertEqual(total([]), Interval())
+        for call in (lambda: a + 0, lambda: 1 + a, lambda: a + (1, 2, 3), lambda: a - 1, lambda: a * 1.5, lambda: a * a, lambda: a < 1):
+            self.assertRaises(TypeError, call)
+        most, least = Interval(2**31 - 1), Interval(0, 0, -(2**63))
+        for call in (lambda: most + Interval(1), lambda: -least, lambda: least - Interval(0, 0, 1), lambda: 2 * most, lambda: total([most, a])):
+            self.assertRaises(OverflowError, call)
+        self.assertEqual(total([most, most, -most]), most)
+
+    def test_values(self):
+        a = Interval(1, 2, 3)
+        self.assertEqual((a == (1, 2, 3), a != (1, 2, 3), isinstance(a, tuple)), (False, True, False))
+        self.assertEqual(len({a, Interval(1, 2, 3), Interval(1, 2, 4)}), 2)
+        self.assertEqual((bool(a), bool(Interval()), bool(Interval(0, 0, -1))), (True, False, True))
+        self.assertEqual((pickle.loads(pickle.dumps(a)), copy.copy(a), copy.deepcopy(a)), (a, a, a))
+        self.assertEqual((repr(a), repr(Interval()), str(Interval(1, 2, 3_000_000))),
+                         ("Interval(months=1, days=2, microseconds=3)", "Interval()", "P1M2DT3S"))
+        self.assertRaises(AttributeError, setattr, a, "months", 2)
+        self.assertRaises(AttributeError, setattr, a, "weeks", 2)
+        self.assertRaises(AttributeError, delattr, a, "months")
+
+    def test_order(self):
+        # a month counts 30 days and a day 24 hours; those that are as long as each other go by months, days and microseconds
+        day = 86_400_000_000
+        column = [Interval(-1), Interval(0, 0, 30 * day - 1), Interval(0, 0, 30 * day), Interval(0, 30), Interval(1), Interval(0, 31)]
+        self.assertEqual(sorted(reversed(column)), column)
+        self.assertEqual((min(column), max(column)), (column[0], column[-1]))
+        for before, behind in zip(column, column[1:]):
+            self.assertTrue(before < behind and behind > before and before <= behind and behind >= before and before != behind)
 
     def test_timedeltas(self):
         self.assertEqual(Interval(0, -3, 1).to_timedelta(), datetime.timedelta(days=-3, microseconds=1))
@@ -126,6 +217,125 @@ class Intervals(unittest.TestCase):
             self.SOME.to_timedelta()
         with self.assertRaises(OverflowError):
             Interval(0, 2**31 - 1, 0).to_timedelta()
+        for length, parts in [
+            (datetime.timedelta(hours=36), (0, 1, 43_200_000_000)),
+            (datetime.timedelta(hours=-36), (0, -1, -43_200_000_000)),
+            (datetime.timedelta(microseconds=-1), (0, 0, -1)),
+            (datetime.timedelta.max, (0, 999_999_999, 86_399_999_999)),
+        ]:
+            self.assertEqual(Interval.from_timedelta(length), Interval(*parts))
+            self.assertEqual(Interval.from_timedelta(length).to_timedelta(), length)
+        self.assertRaises(TypeError, Interval.from_timedelta, 3)
+
+
+class Columns(unittest.TestCase):
+    def test_rows(self):
+        asked = {}
+        for line, reply in rows():
+            try:
+                from_, to, text = line.decode().split(" ", 2)
+            except ValueError:
+                continue
+            if from_ in FORMS and to in FORMS:
+                asked.setdefault((from_, to), []).append((text, reply.decode()))
+        for (from_, to), column in asked.items():
+            texts, wanted = [text for text, _ in column], [reply[8:] if reply.startswith("refused ") else reply for _, reply in column]
+            self.assertEqual(timeforms.convert_all(from_, to, texts, errors="cause"), wanted)
+            self.assertEqual(timeforms.convert_all(from_, to, [*texts, None], errors="cause"), [*wanted, None])
+
+    def test_bad_cells(self):
+        column = ["P1D", None, b"P2D", "P1D\nPgIso PgIso P3D", "\n", "P\ud800", b"\xff", "", "P" + "0" * 1_000_000 + "1D", "1 dya"]
+        causes = ["P1D", None, "P2D", "Syntax", "Syntax", "NotUtf8", "NotUtf8", "Syntax", "P1D", "Syntax"]
+        self.assertEqual(timeforms.convert_all("PgIso", "PgIso", column, "cause"), causes)
+        nones = [None if cause in ("Syntax", "NotUtf8") else cause for cause in causes]
+        self.assertEqual(timeforms.convert_all("PgIso", "PgIso", iter(column), "none"), nones)
+        with self.assertRaises(ConversionError) as refused:
+            timeforms.convert_all("PgIso", "PgIso", column)
+        self.assertEqual((refused.exception.cause, refused.exception.text), ("Syntax", column[3]))
+        nan = timeforms.convert_all("PgIso", "PgIso", [float("nan"), "P1D"])
+        self.assertTrue(nan[0] != nan[0] and nan[1] == "P1D")
+        for cells in ([1], [1.5], [["P1D"]], "P1D", b"P1D", None, 3):
+            self.assertRaises(TypeError, timeforms.convert_all, "PgIso", "PgIso", cells)
+        self.assertEqual(timeforms.convert_all("PgIso", "PgIso", []), [])
+        self.assertRaises(ConversionError, timeforms.convert_all, "pgiso", "PgIso", [])
+        self.assertRaises(ValueError, timeforms.convert_all, "PgIso", "PgIso", [], "ignore")
+
+    def test_many_cells(self):
+        cells = [f"P{number}D" for number in range(1, 100_001)]
+        self.assertEqual(timeforms.convert_all("PgIso", "PgIso", cells), cells)
+        cells[50_000] = None
+        self.assertEqual(timeforms.convert_all("PgIso", "PgIso", cells), cells)
+
+    def test_intervals(self):
+        months, days, microseconds, valid = timeforms.intervals(["P1Y2M", None, "-", "PT1H"], errors="none")
+        self.assertEqual((list(months), list(days), list(microseconds), list(valid)), ([14, 0, 0, 0], [0] * 4, [0, 0, 0, 3_600_000_000], [1, 0, 0, 1]))
+        self.assertRaises(ConversionError, timeforms.intervals, ["-"])
+        self.assertRaises(ConversionError, timeforms.intervals, ["1h"], "Fancy", "none")
+        self.assertRaises(TypeError, timeforms.intervals, [3])
+
+    @unittest.skipUnless(importlib.util.find_spec("pandas"), "there is no pandas")
+    def test_pandas(self):
+        import numpy
+        import pandas
+
+        column = pandas.Series(["36h", None, float("nan"), "1h"], index=[3, 1, 2, 0], name="took")
+        answered = timeforms.convert_all("Fancy", "Postgres", column)
+        self.assertEqual((answered.name, list(answered.index)), ("took", [3, 1, 2, 0]))
+        self.assertEqual(list(answered.dropna()), ["1 day 12:00:00", "01:00:00"])
+        self.assertEqual(list(answered.isna()), [False, True, True, False])
+        typed = timeforms.convert_all("Fancy", "Postgres", column.astype("string"))
+        self.assertEqual((str(typed.dtype), typed[3], typed.isna().sum()), ("string", "1 day 12:00:00", 2))
+        table = timeforms.convert_all("Fancy", "PgIso", numpy.array([["1h", "2h"], ["3h", "4h"]]))
+        self.assertEqual(table.tolist(), [["PT1H", "PT2H"], ["PT3H", "PT4H"]])
+        spans = timeforms.to_timedelta64(pandas.Series(["P1DT1H", None]))
+        self.assertEqual((spans[0], numpy.isnat(spans[1])), (numpy.timedelta64(25, "h"), True))
+        self.assertRaises(ValueError, timeforms.to_timedelta64, ["P1M"])
+        self.assertEqual(timeforms.intervals(numpy.array(["P1D"])).days.dtype, numpy.dtype("int32"))
+
+
+class Moments(unittest.TestCase):
+    def test_moments(self):
+        utc = datetime.timezone.utc
+        for form, text, moment in [
+            ("FileTime", "116444736000000010", datetime.datetime(1970, 1, 1, 0, 0, 0, 1, utc)),
+            ("IsoDateTime", "2015-06-26T16:43:23.5+02:30", datetime.datetime(2015, 6, 26, 14, 13, 23, 500_000, utc)),
+            ("IsoDate", "2015-06-26", datetime.date(2015, 6, 26)),
+            ("Toml", "1979-05-27T00:32:00.999999-07:00", datetime.datetime(1979, 5, 27, 7, 32, 0, 999_999, utc)),
+            ("Toml", "1979-05-27 07:32:00", datetime.datetime(1979, 5, 27, 7, 32)),
+            ("Toml", "1979-05-27", datetime.date(1979, 5, 27)),
+            ("Toml", "07:32:00.100", datetime.time(7, 32, 0, 100_000)),
+            ("Toml", "9999-12-31T23:59:59.999999Z", datetime.datetime(9999, 12, 31, 23, 59, 59, 999_999, utc)),
+        ]:
+            found = timeforms.parse_datetime(text, form)
+            self.assertEqual((type(found), found), (type(moment), moment))
+        for form, text, cause in [
+            ("FileTime", "116444736000000001", "Precision"),
+            ("Toml", "0000-01-01", "Range"),
+            ("Toml", "0001-01-01T00:00:00+00:01", "Range"),
+            ("Toml", "9999-12-31T23:59:59-00:01", "Range"),
+            ("Toml", "2016-12-31T23:59:60Z", "NoSuchMoment"),
+            ("IsoDate", "2015-09-31", "NoSuchMoment"),
+            ("PgIso", "P1D", "Kind"),
+        ]:
+            with self.assertRaises(ConversionError) as refused:
+                timeforms.parse_datetime(text, form)
+            self.assertEqual(refused.exception.cause, cause, text)
+
+    def test_numbers(self):
+        for call in [
+            lambda: timeforms.file_time_to_nanoseconds(24_211_015_631_452_241),
+            lambda: timeforms.file_time_to_nanoseconds(2**64),
+            lambda: timeforms.file_time_from_nanoseconds(2**63),
+            lambda: timeforms.file_time_from_unix_time(-11_644_473_601),
+            lambda: timeforms.duration_to_text(0, 1_000_000_000),
+            lambda: timeforms.duration_to_text(-1),
+        ]:
+            self.assertRaises(OverflowError, call)
+        self.assertEqual(timeforms.file_time_to_unix_time(2**64 - 1), (1_833_029_933_770, 955_161_500))
+        self.assertEqual(timeforms.file_time_from_unix_time(1_833_029_933_770, 955_161_599), 2**64 - 1)
+        self.assertRaises(ConversionError, timeforms.duration_to_text, 30 * 86_400)
+        self.assertRaises(ConversionError, timeforms.duration_from_text, "1.5h")
+        self.assertRaises(TypeError, timeforms.duration_from_text, b"1h")
 
 
 if __name__ == "__main__":

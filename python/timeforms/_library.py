@@ -46,6 +46,30 @@ interval_to_text = _held.timeforms_interval_to_text
 interval_to_text.argtypes = [ctypes.c_int32, ctypes.POINTER(Interval), Text, ctypes.c_size_t]
 interval_to_text.restype = ctypes.c_int32
 
+file_time_to_nanoseconds = _held.timeforms_file_time_to_nanoseconds
+file_time_to_nanoseconds.argtypes = [ctypes.c_uint64, ctypes.POINTER(ctypes.c_int64)]
+file_time_to_nanoseconds.restype = ctypes.c_int32
+
+file_time_from_nanoseconds = _held.timeforms_file_time_from_nanoseconds
+file_time_from_nanoseconds.argtypes = [ctypes.c_int64, ctypes.POINTER(ctypes.c_uint64)]
+file_time_from_nanoseconds.restype = ctypes.c_int32
+
+file_time_to_unix_time = _held.timeforms_file_time_to_unix_time
+file_time_to_unix_time.argtypes = [ctypes.c_uint64, ctypes.POINTER(ctypes.c_int64), ctypes.POINTER(ctypes.c_uint32)]
+file_time_to_unix_time.restype = ctypes.c_int32
+
+file_time_from_unix_time = _held.timeforms_file_time_from_unix_time
+file_time_from_unix_time.argtypes = [ctypes.c_int64, ctypes.c_uint32, ctypes.POINTER(ctypes.c_uint64)]
+file_time_from_unix_time.restype = ctypes.c_int32
+
+duration_from_text = _held.timeforms_duration_from_text
+duration_from_text.argtypes = [ctypes.c_char_p, ctypes.c_size_t, ctypes.POINTER(ctypes.c_uint64), ctypes.POINTER(ctypes.c_uint32)]
+duration_from_text.restype = ctypes.c_int32
+
+duration_to_text = _held.timeforms_duration_to_text
+duration_to_text.argtypes = [ctypes.c_uint64, ctypes.c_uint32, Text, ctypes.c_size_t]
+duration_to_text.restype = ctypes.c_int32
+
 form_name = _held.timeforms_form_name
 form_name.argtypes = [ctypes.c_int32, Text, ctypes.c_size_t]
 form_name.restype = ctypes.c_int32

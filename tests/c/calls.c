@@ -193,6 +193,37 @@ static void test_intervals(void) {
     CHECK(timeforms_interval_to_text(TIMEFORMS_PG_SQL, &some, NULL, 0) == TIMEFORMS_NO_ROOM);
 }
 
+static int is_interval(timeforms_interval t, int32_t months, int32_t days, int64_t microseconds) {
+    return t.months == months && t.days == days && t.microseconds == microseconds;
+}
+
+static void test_arithmetic(void) {
+    timeforms_interval a = {1, -2, 3}, b = {4, 5, -6}, most = {INT32_MAX, INT32_MAX, INT64_MAX}, least = {INT32_MIN, INT32_MIN, INT64_MIN};
+    timeforms_interval out = {7, 8, 9}, month = {1, 0, 0}, days = {0, 30, 0}, hours = {0, 0, 30 * 86400000000};
+    CHECK(timeforms_interval_add(most, (timeforms_interval){1, 0, 0}, &out) == TIMEFORMS_RANGE && is_interval(out, 7, 8, 9));
+    CHECK(timeforms_interval_add(most, (timeforms_interval){0, 1, 0}, &out) == TIMEFORMS_RANGE && is_interval(out, 7, 8, 9));
+    CHECK(timeforms_interval_add(most, (timeforms_interval){0, 0, 1}, &out) == TIMEFORMS_RANGE && is_interval(out, 7, 8, 9));
+    CHECK(timeforms_interval_subtract(least, (timeforms_interval){0, 0, 1}, &out) == TIMEFORMS_RANGE && is_interval(out, 7, 8, 9));
+    CHECK(timeforms_interval_negate((timeforms_interval){0, 0, INT64_MIN}, &out) == TIMEFORMS_RANGE && is_interval(out, 7, 8, 9));
+    CHECK(timeforms_interval_negate((timeforms_interval){INT32_MIN, 0, 0}, &out) == TIMEFORMS_RANGE && is_interval(out, 7, 8, 9));
+    CHECK(timeforms_interval_add(most, least, &out) == 0 && is_interval(out, -1, -1, -1));
+    CHECK(timeforms_interval_add(a, b, &out) == 0 && is_interval(out, 5, 3, -3));
+    CHECK(timeforms_interval_subtract(a, b, &out) == 0 && is_interval(out, -3, -7, 9));
+    CHECK(timeforms_interval_negate(most, &out) == 0 && is_interval(out, -INT32_MAX, -INT32_MAX, -INT64_MAX));
+    CHECK(timeforms_interval_compare(a, a) == 0 && timeforms_interval_compare(least, most) == -1);
+    CHECK(timeforms_interval_compare(hours, days) == -1 && timeforms_interval_compare(days, month) == -1);
+    CHECK(timeforms_interval_compare(month, hours) == 1);
+    hours.microseconds++;
+    CHECK(timeforms_interval_compare(month, hours) == -1);
+    CHECK(timeforms_interval_from_seconds(129600, 1999, &out) == 0 && is_interval(out, 0, 1, 43200000001));
+    CHECK(timeforms_interval_from_seconds(-129600, 0, &out) == 0 && is_interval(out, 0, -1, -43200000000));
+    CHECK(timeforms_interval_from_seconds(-1, 500000000, &out) == 0 && is_interval(out, 0, 0, -500000));
+    CHECK(timeforms_interval_from_seconds(-1, 999999999, &out) == 0 && is_interval(out, 0, 0, 0));
+    CHECK(timeforms_interval_from_seconds(0, 1000000000, &out) == TIMEFORMS_RANGE && is_interval(out, 0, 0, 0));
+    CHECK(timeforms_interval_from_seconds(INT64_MAX, 0, &out) == TIMEFORMS_RANGE && is_interval(out, 0, 0, 0));
+    CHECK(timeforms_interval_from_seconds(INT64_MIN, 0, &out) == TIMEFORMS_RANGE && is_interval(out, 0, 0, 0));
+}
+
 static void test_file_times(void) {
     uint64_t ticks = 7;
     int64_t seconds = 7, nanos = 7;
@@ -243,6 +274,9 @@ static void test_version(void) {
     CHECK(timeforms_version(out, sizeof out) == (int32_t)strlen(TIMEFORMS_VERSION));
     CHECK(!memcmp(out, TIMEFORMS_VERSION, strlen(TIMEFORMS_VERSION)));
     CHECK(timeforms_version(NULL, 0) == TIMEFORMS_NO_ROOM);
+    int major = 0, minor = 0, patch = 0;
+    CHECK(sscanf(TIMEFORMS_VERSION, "%d.%d.%d", &major, &minor, &patch) == 3);
+    CHECK(TIMEFORMS_VERSION_NUMBER == 10000 * major + 100 * minor + patch && TIMEFORMS_ABI == major);
 }
 
 /* Writes the bytes that a field of a table spells over the field, where \x0A is one byte: how many they are. */
@@ -302,6 +336,7 @@ int main(int argc, char **argv) {
     test_replies_to_lines();
     test_long_texts();
     test_intervals();
+    test_arithmetic();
     test_file_times();
     test_durations();
     test_version();

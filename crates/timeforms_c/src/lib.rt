@@ -6,6 +6,7 @@
 //! A call answers 0 or more where it has an answer, and else a negative code (`code`).
 #![tactic(auto)]
 
+pub mod arithmetic;
 pub mod code;
 pub mod duration;
 pub mod file_time;

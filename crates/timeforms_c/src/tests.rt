@@ -1,5 +1,9 @@
 //! Each call by its numbers and codes as `include/timeforms.h` has them, at its bounds, and with rooms that are too small. The values are
 //! of README.md and of the documents of the crates below, and by hand.
+use crate::arithmetic::{
+    timeforms_interval_add, timeforms_interval_compare, timeforms_interval_from_seconds,
+    timeforms_interval_negate, timeforms_interval_subtract,
+};
 use crate::duration::{timeforms_duration_from_text, timeforms_duration_to_text};
 use crate::file_time::{
     timeforms_file_time_from_nanoseconds, timeforms_file_time_from_unix_time,
@@ -215,6 +219,67 @@ fn texts_of_intervals(rt: HostRuntime) -> Result<(), Fail> {
     let mut room = [b'#'; 21];
     assert_eq!(rt; timeforms_interval_to_text(6, &written, &mut room), -103);
     assert!(rt; is_left("", &room));
+    Ok(())
+}
+
+#[test]
+fn sums_and_differences(rt: HostRuntime) -> Result<(), Fail> {
+    let mut found = interval(7, 8, 9);
+    let most = interval(i32::MAX, i32::MAX, i64::MAX);
+    let least = interval(i32::MIN, i32::MIN, i64::MIN);
+    for more in [interval(1, 0, 0), interval(0, 1, 0), interval(0, 0, 1)] {
+        assert_eq!(rt; timeforms_interval_add(most, more, &mut found), -3);
+        assert_eq!(rt; timeforms_interval_subtract(least, more, &mut found), -3);
+    }
+    assert_eq!(rt; timeforms_interval_negate(least, &mut found), -3);
+    assert_eq!(rt; (found.months, found.days, found.microseconds), (7, 8, 9));
+    let answer = timeforms_interval_add(interval(1, -2, 3), interval(4, 5, -6), &mut found);
+    assert_eq!(rt;
+        (answer, found.months, found.days, found.microseconds),
+        (0, 5, 3, -3)
+    );
+    let answer = timeforms_interval_subtract(interval(1, -2, 3), interval(4, 5, -6), &mut found);
+    assert_eq!(rt;
+        (answer, found.months, found.days, found.microseconds),
+        (0, -3, -7, 9)
+    );
+    let answer = timeforms_interval_negate(interval(1, -2, 3), &mut found);
+    assert_eq!(rt;
+        (answer, found.months, found.days, found.microseconds),
+        (0, -1, 2, -3)
+    );
+    Ok(())
+}
+
+#[test]
+fn intervals_in_order(rt: HostRuntime) -> Result<(), Fail> {
+    let (hours, days) = (interval(0, 0, 2_592_000_000_000), interval(0, 30, 0));
+    let (month, more) = (interval(1, 0, 0), interval(0, 0, 2_592_000_000_001));
+    assert_eq!(rt; timeforms_interval_compare(hours, days), -1);
+    assert_eq!(rt; timeforms_interval_compare(days, month), -1);
+    assert_eq!(rt; timeforms_interval_compare(month, month), 0);
+    assert_eq!(rt; timeforms_interval_compare(more, month), 1);
+    Ok(())
+}
+
+#[test]
+fn intervals_of_seconds(rt: HostRuntime) -> Result<(), Fail> {
+    for (seconds, nanoseconds, answer, days, microseconds) in [
+        (129_600, 1_999, 0, 1, 43_200_000_001),
+        (-129_600, 0, 0, -1, -43_200_000_000),
+        (-1, 500_000_000, 0, 0, -500_000),
+        (-1, 999_999_999, 0, 0, 0),
+        (0, 1_000_000_000, -3, 8, 9),
+        (i64::MAX, 0, -3, 8, 9),
+        (i64::MIN, 0, -3, 8, 9),
+    ] {
+        let mut found = interval(0, 8, 9);
+        let said = timeforms_interval_from_seconds(seconds, nanoseconds, &mut found);
+        assert_eq!(rt;
+            (said, found.days, found.microseconds),
+            (answer, days, microseconds)
+        );
+    }
     Ok(())
 }
 
