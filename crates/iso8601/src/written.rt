@@ -8,16 +8,17 @@ ghost use Rattle.scan_core.specs.Number.{minus};
 ghost use Rattle.iso8601.specs.inside.WrittenParts.{governed_part};
 
 use crate::types::{Date, DateTime, Time};
-use scan_core::{Short, push_num, push_padded, push_text};
+use arrayvec::ArrayString;
+use scan_core::{Short, push_padded, push_text};
 use std::fmt;
 use std::fmt::Display;
 
 /// Appends a number of 32 bits with leading zeros to at least `width` digits.
 #[inline(always)] // the width is a constant at each call
 #[tactic(auto, using(scan_core::proofs::DigitFacts::length_decimal_u32))]
-pub(crate) fn push_digits(out: &mut Short, value: u32, width: usize)
+pub(crate) fn push_digits<const CAP: usize>(out: &mut ArrayString<CAP>, value: u32, width: usize)
     requires width { width ≤ 10 }
-    requires room { array_string_len out.old + 10 ≤ 128 }
+    requires room { array_string_len out.old + 10 ≤ CAP }
     ensures bytes { out.new.bytes ≡ out.old.bytes ++ padded_digits width value }
     ensures len { array_string_len out.new ≤ array_string_len out.old + 10 }
 {
@@ -25,8 +26,8 @@ pub(crate) fn push_digits(out: &mut Short, value: u32, width: usize)
 }
 
 /// Appends a minus, or nothing.
-fn push_minus(out: &mut Short, negative: bool)
-    requires { array_string_len out.old + 1 ≤ 128 }
+fn push_minus<const CAP: usize>(out: &mut ArrayString<CAP>, negative: bool)
+    requires { array_string_len out.old + 1 ≤ CAP }
     ensures bytes { out.new.bytes ≡ out.old.bytes ++ minus negative }
     ensures len { array_string_len out.new ≤ array_string_len out.old + 1 }
 {
@@ -37,10 +38,10 @@ fn push_minus(out: &mut Short, negative: bool)
 
 /// Appends a text and a number in at least `width` digits.
 #[inline(always)] // else the mark is a text of any length
-fn push_field(out: &mut Short, mark: &str, value: u32, width: usize)
+fn push_field<const CAP: usize>(out: &mut ArrayString<CAP>, mark: &str, value: u32, width: usize)
     requires mark { length mark.now ≤ 2 }
     requires width { width ≤ 10 }
-    requires room { array_string_len out.old + length mark.now + 10 ≤ 128 }
+    requires room { array_string_len out.old + length mark.now + 10 ≤ CAP }
     ensures bytes { out.new.bytes ≡ out.old.bytes ++ (mark.now ++ padded_digits width value) }
     ensures len { array_string_len out.new ≤ array_string_len out.old + length mark.now + 10 }
 {
@@ -50,8 +51,8 @@ fn push_field(out: &mut Short, mark: &str, value: u32, width: usize)
 
 /// Appends a year.
 #[tactic(auto, unfolding(crate::specs::Written::year_text))]
-fn push_year(out: &mut Short, year: i32)
-    requires { array_string_len out.old + 11 ≤ 128 }
+fn push_year<const CAP: usize>(out: &mut ArrayString<CAP>, year: i32)
+    requires { array_string_len out.old + 11 ≤ CAP }
     ensures bytes { out.new.bytes ≡ out.old.bytes ++ year_text year }
     ensures len { array_string_len out.new ≤ array_string_len out.old + 11 }
 {
@@ -61,8 +62,8 @@ fn push_year(out: &mut Short, year: i32)
 
 /// Appends a date.
 #[tactic(auto, unfolding(crate::specs::Written::date_text))]
-fn push_date(out: &mut Short, date: Date)
-    requires { array_string_len out.old + 34 ≤ 128 }
+fn push_date<const CAP: usize>(out: &mut ArrayString<CAP>, date: Date)
+    requires { array_string_len out.old + 34 ≤ CAP }
     ensures bytes { out.new.bytes ≡ out.old.bytes ++ date_text date }
     ensures len { array_string_len out.new ≤ array_string_len out.old + 34 }
 {
@@ -86,8 +87,8 @@ fn push_date(out: &mut Short, date: Date)
 
 /// Appends the hours, minutes, seconds and milliseconds of a time.
 #[tactic(auto, unfolding(crate::specs::Written::time_of_day_text))]
-fn push_clock(out: &mut Short, time: &Time)
-    requires { array_string_len out.old + 43 ≤ 128 }
+fn push_clock<const CAP: usize>(out: &mut ArrayString<CAP>, time: &Time)
+    requires { array_string_len out.old + 43 ≤ CAP }
     ensures bytes { out.new.bytes
         ≡ out.old.bytes
         ++ time_of_day_text time.now.hour time.now.minute time.now.second time.now.millisecond }
@@ -108,8 +109,8 @@ fn has_minus(governed: bool, part: i32) -> bool
 
 /// Appends a part of an offset, negated where a minus governs the parts.
 #[tactic(auto, unfolding(crate::specs::Written::two_wide))]
-fn push_part(out: &mut Short, governed: bool, part: i32)
-    requires { array_string_len out.old + 11 ≤ 128 }
+fn push_part<const CAP: usize>(out: &mut ArrayString<CAP>, governed: bool, part: i32)
+    requires { array_string_len out.old + 11 ≤ CAP }
     ensures bytes { out.new.bytes ≡ out.old.bytes ++ two_wide (governed_part governed part) }
     ensures len { array_string_len out.new ≤ array_string_len out.old + 11 }
 {
@@ -122,8 +123,8 @@ fn push_part(out: &mut Short, governed: bool, part: i32)
 
 /// Appends an offset.
 #[tactic(auto, unfolding(crate::specs::Written::offset_text))]
-fn push_offset(out: &mut Short, hours: i32, minutes: i32)
-    requires { array_string_len out.old + 24 ≤ 128 }
+fn push_offset<const CAP: usize>(out: &mut ArrayString<CAP>, hours: i32, minutes: i32)
+    requires { array_string_len out.old + 24 ≤ CAP }
     ensures bytes { out.new.bytes ≡ out.old.bytes ++ offset_text hours minutes }
     ensures len { array_string_len out.new ≤ array_string_len out.old + 24 }
 {
@@ -136,8 +137,8 @@ fn push_offset(out: &mut Short, hours: i32, minutes: i32)
 
 /// Appends a time with its offset.
 #[tactic(auto, unfolding(crate::specs::Written::time_text))]
-fn push_time(out: &mut Short, time: &Time)
-    requires { array_string_len out.old + 67 ≤ 128 }
+fn push_time<const CAP: usize>(out: &mut ArrayString<CAP>, time: &Time)
+    requires { array_string_len out.old + 67 ≤ CAP }
     ensures bytes { out.new.bytes ≡ out.old.bytes ++ time_text time.now }
     ensures len { array_string_len out.new ≤ array_string_len out.old + 66 }
 {
@@ -146,7 +147,7 @@ fn push_time(out: &mut Short, time: &Time)
 }
 
 impl Date {
-    ghost use Rattle.std.specs.Prelude.{◌≡◌, ◌≤◌};
+    ghost use Rattle.std.specs.Prelude.{◌≡◌, ◌+◌, ◌≤◌, ◌++◌};
     ghost use Rattle.arrayvec.specs.ArrayString.{array_string_len};
     ghost use Rattle.iso8601.specs.Written.{date_text};
 
@@ -157,13 +158,23 @@ impl Date {
         ensures len { array_string_len result ≤ 34 }
     {
         let mut out = Short::new();
-        push_date(&mut out, *self);
+        self.push_text(&mut out);
         out
+    }
+
+    /// Appends what [`Date::text`] answers to a text that has room for 34 bytes more: onto `due ` it makes `due 2015-06-26`.
+    #[inline]
+    pub fn push_text<const CAP: usize>(&self, out: &mut ArrayString<CAP>)
+        requires room { array_string_len out.old + 34 ≤ CAP }
+        ensures bytes { out.new.bytes ≡ out.old.bytes ++ date_text self.now }
+        ensures len { array_string_len out.new ≤ array_string_len out.old + 34 }
+    {
+        push_date(out, *self);
     }
 }
 
 impl Time {
-    ghost use Rattle.std.specs.Prelude.{◌≡◌, ◌≤◌};
+    ghost use Rattle.std.specs.Prelude.{◌≡◌, ◌+◌, ◌≤◌, ◌++◌};
     ghost use Rattle.arrayvec.specs.ArrayString.{array_string_len};
     ghost use Rattle.iso8601.specs.Written.{time_text};
 
@@ -174,28 +185,50 @@ impl Time {
         ensures len { array_string_len result ≤ 66 }
     {
         let mut out = Short::new();
-        push_time(&mut out, self);
+        self.push_text(&mut out);
         out
+    }
+
+    /// Appends what [`Time::text`] answers to a text that has room for 67 bytes more: onto `at ` it makes
+    /// `at 16:43:16.123+02:00`.
+    #[inline]
+    pub fn push_text<const CAP: usize>(&self, out: &mut ArrayString<CAP>)
+        requires room { array_string_len out.old + 67 ≤ CAP }
+        ensures bytes { out.new.bytes ≡ out.old.bytes ++ time_text self.now }
+        ensures len { array_string_len out.new ≤ array_string_len out.old + 66 }
+    {
+        push_time(out, self);
     }
 }
 
 impl DateTime {
-    ghost use Rattle.std.specs.Prelude.{◌≡◌, ◌≤◌};
+    ghost use Rattle.std.specs.Prelude.{◌≡◌, ◌+◌, ◌≤◌, ◌++◌};
     ghost use Rattle.arrayvec.specs.ArrayString.{array_string_len};
     ghost use Rattle.iso8601.specs.Written.{date_time_text};
 
     /// The written text, at most 101 bytes: `2015-06-26T16:43:16.123+02:00`. Every value has one, and it is read back as
     /// the date and the time are.
-    #[tactic(auto, unfolding(crate::specs::Written::date_time_text))]
     pub fn text(&self) -> Short
         ensures bytes { result.bytes ≡ date_time_text self.now }
         ensures len { array_string_len result ≤ 101 }
     {
         let mut out = Short::new();
-        push_date(&mut out, self.date);
-        push_text(&mut out, "T");
-        push_time(&mut out, &self.time);
+        self.push_text(&mut out);
         out
+    }
+
+    /// Appends what [`DateTime::text`] answers to a text that has room for 102 bytes more: onto `from ` it makes
+    /// `from 2015-06-26T16:43:16.123+02:00`.
+    #[inline]
+    #[tactic(auto, unfolding(crate::specs::Written::date_time_text))]
+    pub fn push_text<const CAP: usize>(&self, out: &mut ArrayString<CAP>)
+        requires room { array_string_len out.old + 102 ≤ CAP }
+        ensures bytes { out.new.bytes ≡ out.old.bytes ++ date_time_text self.now }
+        ensures len { array_string_len out.new ≤ array_string_len out.old + 101 }
+    {
+        push_date(out, self.date);
+        push_text(out, "T");
+        push_time(out, &self.time);
     }
 }
 
