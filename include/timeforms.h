@@ -19,10 +19,10 @@ extern "C" {
 #endif
 
 /* The version of this header. `timeforms_version` tells that of the library. */
-#define TIMEFORMS_VERSION "1.0.0"
+#define TIMEFORMS_VERSION "1.1.0"
 
 /* The same as a number, for `#if`: 10000 times the first part, 100 times the second, and the third. */
-#define TIMEFORMS_VERSION_NUMBER 10000
+#define TIMEFORMS_VERSION_NUMBER 10100
 
 /* Programs that were built with a header of this number run with each library of it: the 1 of `libtimeforms.so.1`. It changes where a
  * call or a type changes; further calls, codes and forms leave it. */
@@ -154,7 +154,7 @@ int32_t timeforms_duration_to_text(uint64_t seconds, uint32_t nanoseconds, char 
 
 /* ---- The library ---- */
 
-/* Puts the version of the library into the buffer, as in `1.0.0`: how many bytes it has. NO_ROOM. */
+/* Puts the version of the library into the buffer, as in `1.1.0`: how many bytes it has. NO_ROOM. */
 int32_t timeforms_version(char *out, size_t out_len);
 
 #ifdef __cplusplus

@@ -92,7 +92,7 @@ class Texts(unittest.TestCase):
         self.assertEqual(tuple(form.value for form in Form), FORMS)
         self.assertEqual(convert(Form.PgIso, Form.Postgres, "P1D"), "1 day")
         self.assertEqual((f"{Form.PgIso}", str(Form.PgIso), f"{Form.PgIso:>6}"), ("PgIso", "PgIso", " PgIso"))
-        self.assertEqual((timeforms.version(), timeforms.__version__), ("1.0.0", "1.0.0"))
+        self.assertEqual((timeforms.version(), timeforms.__version__), ("1.1.0", "1.1.0"))
 
     def test_what_is_no_text(self):
         for words in [("PgIso", "PgIso", b"P1D"), ("PgIso", "PgIso", None), ("PgIso", "PgIso", 1), (6, "PgIso", "P1D"), (None, 7, "P1D")]:

@@ -390,6 +390,6 @@ fn texts_of_durations(rt: HostRuntime) -> Result<(), Fail> {
 fn version(rt: HostRuntime) -> Result<(), Fail> {
     let mut room = [b'#'; 8];
     assert_eq!(rt; timeforms_version(&mut room), 5);
-    assert!(rt; is_left("1.0.0", &room));
+    assert!(rt; is_left("1.1.0", &room));
     Ok(())
 }
