@@ -67,10 +67,31 @@ fn scanned_fraction<L: Ledger>(
     let digits = fraction.end - fraction.start;
     if digits == 0 {
         0
+    } else if digits <= 6 && scale == 1_000_000 {
+        millionths(fraction.value, digits)
     } else if digits <= 12 {
         short_fraction(fraction.value, digits, scale)
     } else {
         looked_fraction(text, fraction.start, fraction.end, scale, steps)
+    }
+}
+
+/// The fraction that a number of at most six digits writes behind the point, in millionths: none is lost, so that nothing
+/// is rounded and no division is needed.
+#[inline(always)]
+fn millionths(number: u64, digits: usize) -> u64
+    requires digits { digits ≤ 6 }
+    requires number { number < 10 ^ 12 }
+    ensures { result ≡ (2 * number * 1_000_000 + 10 ^ digits) / (2 * 10 ^ digits) }
+{
+    match digits {
+        0 => number * 1_000_000,
+        1 => number * 100_000,
+        2 => number * 10_000,
+        3 => number * 1_000,
+        4 => number * 100,
+        5 => number * 10,
+        _ => number,
     }
 }
 

@@ -72,8 +72,9 @@ pub fn count_share(whole: &[u8], fraction: &[u8], negative: bool, unit: Unit) ->
 }
 
 /// The share of so many whole units and so many of the next smaller one, or None exactly where the main part leaves its
-/// type. A magnitude beyond 64 bits is cut to their end, which every type leaves too.
-#[inline(always)]
+/// type. A magnitude beyond 64 bits is cut to their end, which every type leaves too. Few texts need it, so it is no part of
+/// the loops that do.
+#[inline(never)]
 pub(crate) fn share_of(negative: bool, whole: u64, next: u64, unit: Unit) -> Option<Share>
     requires { next ≤ scale_of unit }
     ensures fits { IsSome result
@@ -111,6 +112,41 @@ pub(crate) fn share_of(negative: bool, whole: u64, next: u64, unit: Unit) -> Opt
         Unit::Second => share.micros = signed_i64(negative, whole, 1_000_000, next)?,
     }
     Some(share)
+}
+
+/// So many units of any kind are few: no part of their share leaves its type.
+pub(crate) const FEW: u64 = 100_000_000;
+
+/// The share of few whole units and so many of the next smaller one, which nothing tests.
+#[inline(always)]
+pub(crate) fn share_of_few(negative: bool, whole: u64, next: u64, unit: Unit) -> Share
+    requires few { whole < 100_000_000 }
+    requires next { next ≤ scale_of unit }
+    ensures months { result.months ≡ signed negative (magnitude Months unit whole next) }
+    ensures days { result.days ≡ signed negative (magnitude Days unit whole next) }
+    ensures micros { result.micros ≡ signed negative (magnitude Micros unit whole next) }
+{
+    let mut share = Share {
+        months: 0,
+        days: 0,
+        micros: 0,
+    };
+    match unit {
+        Unit::Year => share.months = turned(negative, whole * 12 + next) as i32,
+        Unit::Month => {
+            share.months = turned(negative, whole) as i32;
+            share.days = turned(negative, next) as i32;
+        }
+        Unit::Week => share.days = turned(negative, whole * 7 + next) as i32,
+        Unit::Day => {
+            share.days = turned(negative, whole) as i32;
+            share.micros = turned(negative, next * 3_600_000_000);
+        }
+        Unit::Hour => share.micros = turned(negative, whole * 3_600_000_000 + next * 60_000_000),
+        Unit::Minute => share.micros = turned(negative, whole * 60_000_000 + next * 1_000_000),
+        Unit::Second => share.micros = turned(negative, whole * 1_000_000 + next),
+    }
+    share
 }
 
 impl Unit {

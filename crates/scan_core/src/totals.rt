@@ -6,7 +6,7 @@ ghost use Rattle.scan_core.specs.ShareSteps.{magnitude, scale_of};
 ghost use Rattle.scan_core.specs.Sums.{Added, first_sum_out};
 ghost use Rattle.scan_core.specs.declared.share.Part.TheVariants.{Months, Days, Micros};
 
-use crate::share::{Part, Share, Unit, share_of};
+use crate::share::{FEW, Part, Share, Unit, share_of, share_of_few};
 use std::marker::Model;
 
 /// The exact sums of the months, days and microseconds of shares. A sum may leave its part's type on the way and
@@ -55,6 +55,7 @@ impl Totals {
     }
 
     /// Adds the three parts of the share, exactly. There are fewer than 2^63 adds before.
+    #[inline(always)]
     pub fn add(&mut self, share: Share)
         requires { self.old.adds < 2 ^ 63 }
         ensures months { self.new.months ≡ self.old.months +ℤ share.months }
@@ -69,7 +70,7 @@ impl Totals {
     }
 
     /// Adds the share of so many whole units and so many of the next smaller one, and answers whether it has one; without
-    /// one nothing changes. Each unit has a call of its own, so that only the sums of its parts are touched.
+    /// one nothing changes. Few units of each kind have a call of their own, so that only the sums of its parts are touched.
     #[inline(always)]
     pub(crate) fn add_count(&mut self, negative: bool, whole: u64, next: u64, unit: Unit) -> bool
         requires room { self.old.adds < 2 ^ 63 }
@@ -88,15 +89,19 @@ impl Totals {
         ensures adds { IsTrue result → self.new.adds ≡ self.old.adds + 1 }
         ensures kept { result ≡ false → self.new ≡ self.old }
     {
-        match unit {
-            Unit::Year => self.add_some(share_of(negative, whole, next, Unit::Year)),
-            Unit::Month => self.add_some(share_of(negative, whole, next, Unit::Month)),
-            Unit::Week => self.add_some(share_of(negative, whole, next, Unit::Week)),
-            Unit::Day => self.add_some(share_of(negative, whole, next, Unit::Day)),
-            Unit::Hour => self.add_some(share_of(negative, whole, next, Unit::Hour)),
-            Unit::Minute => self.add_some(share_of(negative, whole, next, Unit::Minute)),
-            Unit::Second => self.add_some(share_of(negative, whole, next, Unit::Second)),
+        if whole >= FEW {
+            return self.add_some(share_of(negative, whole, next, unit));
         }
+        match unit {
+            Unit::Year => self.add(share_of_few(negative, whole, next, Unit::Year)),
+            Unit::Month => self.add(share_of_few(negative, whole, next, Unit::Month)),
+            Unit::Week => self.add(share_of_few(negative, whole, next, Unit::Week)),
+            Unit::Day => self.add(share_of_few(negative, whole, next, Unit::Day)),
+            Unit::Hour => self.add(share_of_few(negative, whole, next, Unit::Hour)),
+            Unit::Minute => self.add(share_of_few(negative, whole, next, Unit::Minute)),
+            Unit::Second => self.add(share_of_few(negative, whole, next, Unit::Second)),
+        }
+        true
     }
 
     /// Adds the share, if any, and answers whether one is there.
