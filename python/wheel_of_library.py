@@ -3,6 +3,7 @@
 It needs nothing but Python, so that `pip install` asks no index and works on a machine without a network.
 """
 import base64
+import gzip
 import hashlib
 import io
 import os
@@ -10,12 +11,17 @@ import platform
 import re
 import sysconfig
 import tarfile
+import time
 import zipfile
 
 TOP = os.path.dirname(os.path.abspath(__file__))
 LIBRARY = "timeforms/libtimeforms.so"
 PACKAGE = ["__init__.py", "_columns.py", "_errors.py", "_forms.py", "_interval.py", "_library.py", "_moments.py", "_texts.py", "py.typed"]
 FILES = [f"timeforms/{name}" for name in PACKAGE] + [LIBRARY]
+
+
+# the time of all files in what is packed, so that the same sources give the same bytes; a zip has none before 1980
+EPOCH = max(int(os.environ.get("SOURCE_DATE_EPOCH", "0")), 315532800)
 
 
 def content_of(path):
@@ -62,7 +68,9 @@ def write_wheel(wheel_directory, contents):
     wheel = f"{name}-{version}-{tag()}.whl"
     with zipfile.ZipFile(os.path.join(wheel_directory, wheel), "w", zipfile.ZIP_DEFLATED) as archive:
         for path, content in contents.items():
-            archive.writestr(path, content)
+            entry = zipfile.ZipInfo(path, time.gmtime(EPOCH)[:6])
+            entry.external_attr = 0o100644 << 16
+            archive.writestr(entry, content, zipfile.ZIP_DEFLATED)
     return wheel
 
 
@@ -80,10 +88,13 @@ def build_editable(wheel_directory, config_settings=None, metadata_directory=Non
 def build_sdist(sdist_directory, config_settings=None):
     """Writes the sources of the package, and the built library, since what builds it isn't Python; answers the name."""
     base = f"{field('name')}-{field('version')}"
-    with tarfile.open(os.path.join(sdist_directory, f"{base}.tar.gz"), "w:gz", format=tarfile.PAX_FORMAT) as archive:
+    packed = io.BytesIO()
+    with tarfile.open(fileobj=packed, mode="w", format=tarfile.PAX_FORMAT) as archive:
         files = {path: content_of(path) for path in [*FILES, "pyproject.toml", "wheel_of_library.py"]}
         for path, content in {**files, "PKG-INFO": metadata()}.items():
             entry = tarfile.TarInfo(f"{base}/{path}")
-            entry.size = len(content)
+            entry.size, entry.mtime = len(content), EPOCH
             archive.addfile(entry, io.BytesIO(content))
+    with open(os.path.join(sdist_directory, f"{base}.tar.gz"), "wb") as file:
+        file.write(gzip.compress(packed.getvalue(), mtime=EPOCH))
     return f"{base}.tar.gz"
