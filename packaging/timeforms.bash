@@ -11,6 +11,6 @@ _timeforms() {
         3-column | 3-schedule | 3-recur | 3-sample | 3--*) ;;
         3-*) words='field word' ;;
     esac
-    mapfile -t COMPREPLY < <(compgen -W "$words" -- "$word")
+    read -r -d '' -a COMPREPLY <<<"$(compgen -W "$words" -- "$word")"
 }
 complete -F _timeforms timeforms
