@@ -4,8 +4,10 @@ import copy
 import datetime
 import doctest
 import importlib.util
+import itertools
 import os
 import pickle
+import random
 import re
 import sys
 import unittest
@@ -226,6 +228,72 @@ class Intervals(unittest.TestCase):
             self.assertEqual(Interval.from_timedelta(length), Interval(*parts))
             self.assertEqual(Interval.from_timedelta(length).to_timedelta(), length)
         self.assertRaises(TypeError, Interval.from_timedelta, 3)
+
+
+class Exact(unittest.TestCase):
+    """What the library answers beside whole numbers of any size, at the edges and at random."""
+
+    BITS = (32, 32, 64)
+
+    @staticmethod
+    def parts(interval):
+        return interval.months, interval.days, interval.microseconds
+
+    def same(self, call, wanted):
+        """Whether a call answers the interval of these parts, or raises where a part leaves its bits."""
+        if all(-(1 << bits - 1) <= part < 1 << bits - 1 for part, bits in zip(wanted, self.BITS)):
+            self.assertEqual(self.parts(call()), wanted)
+        else:
+            self.assertRaises(OverflowError, call)
+
+    def both(self, a, b):
+        a_parts, b_parts = self.parts(a), self.parts(b)
+        added = tuple(map(sum, zip(a_parts, b_parts)))
+        self.same(lambda: a + b, added)
+        self.same(lambda: sum([a, b]), added)
+        self.same(lambda: total(iter([a, b])), added)
+        self.same(lambda: a - b, tuple(one - other for one, other in zip(a_parts, b_parts)))
+        keys = [((30 * months + days) * 86_400_000_000 + rest, months, days, rest) for months, days, rest in (a_parts, b_parts)]
+        self.assertEqual((a < b, a <= b, a > b, a >= b, a == b, a != b),
+                         (keys[0] < keys[1], keys[0] <= keys[1], keys[0] > keys[1], keys[0] >= keys[1], a_parts == b_parts, a_parts != b_parts))
+        if a == b:
+            self.assertEqual(hash(a), hash(b))
+
+    def one(self, a):
+        parts = self.parts(a)
+        self.same(lambda: -a, tuple(-part for part in parts))
+        for times in (-(2**64), -1, 0, 1, 2, 2**31):
+            self.same(lambda: a * times, tuple(part * times for part in parts))
+        self.assertEqual(self.parts(Interval(*parts)), parts)
+
+    def test_edges(self):
+        edges = [(-(1 << bits - 1), -1, 0, 1, (1 << bits - 1) - 1) for bits in self.BITS]
+        some = [Interval(*parts) for parts in itertools.product(*edges)]
+        for a in some:
+            self.one(a)
+            for b in some:
+                self.both(a, b)
+
+    def test_random(self):
+        chance = random.Random(37)
+        some = [Interval(*(chance.choice((1, -1)) * chance.getrandbits(chance.randint(1, bits - 1)) for bits in self.BITS)) for _ in range(3000)]
+        day = 86_400_000_000
+        for a, b in zip(some, some[1:]):
+            self.one(a)
+            self.both(a, b)
+            months, days = a.months % 1000, a.days % 1000
+            self.both(Interval(months, days, 5), Interval(months - 1, days + 29, day + 5 + chance.randint(-1, 1)))
+
+    def test_timedeltas(self):
+        chance = random.Random(37)
+        least, most = datetime.timedelta.min, datetime.timedelta.max
+        step, day = datetime.timedelta(microseconds=1), datetime.timedelta(days=1)
+        some = [least, least + step, most, most - step, day, -day, day - step, step - day, step, -step, 0 * step]
+        some += [chance.randint(-(2**chance.randint(1, 66)), 2**chance.randint(1, 66)) * step for _ in range(3000)]
+        for length in some:
+            sign = -1 if length < 0 * step else 1
+            wanted = (0, sign * (abs(length // step) // 86_400_000_000), sign * (abs(length // step) % 86_400_000_000))
+            self.assertEqual(self.parts(Interval.from_timedelta(length)), wanted, length)
 
 
 class Columns(unittest.TestCase):
