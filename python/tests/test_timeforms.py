@@ -125,10 +125,19 @@ class Texts(unittest.TestCase):
         self.assertEqual((error.cause, error.from_, error.to, error.text), ("Kind", "Toml", "FileTime", "12:00:00"))
 
     def test_examples(self):
-        names = vars(timeforms)
-        for module in [timeforms] + [module for name, module in sys.modules.items() if name.startswith("timeforms._")]:
-            ran = doctest.testmod(module, extraglobs={**names, "datetime": datetime}, optionflags=doctest.IGNORE_EXCEPTION_DETAIL)
-            self.assertEqual(ran.failed, 0, module)
+        numpy = importlib.util.find_spec("numpy")
+        found = doctest.DocTestFinder().find(timeforms, module=False, globs={**vars(timeforms), "datetime": datetime})
+        tests = {test.name: test for test in found}
+        runner = doctest.DocTestRunner(optionflags=doctest.IGNORE_EXCEPTION_DETAIL)
+        for name, test in tests.items():
+            if numpy or name != "timeforms.to_timedelta64":
+                self.assertEqual(runner.run(test).failed, 0, name)
+        for name in timeforms.__all__:
+            thing = getattr(timeforms, name)
+            parts = vars(thing) if isinstance(thing, type) and not issubclass(thing, tuple) else {}
+            calls = [part for part in parts if not part.startswith("_") and callable(getattr(thing, part)) and part not in FORMS]
+            for path in [name] * callable(thing) + [f"{name}.{call}" for call in calls]:
+                self.assertTrue(tests[f"timeforms.{path}"].examples, f"{path} has no example")
 
     def test_threads(self):
         def answers(number):
@@ -320,6 +329,11 @@ class Columns(unittest.TestCase):
         with self.assertRaises(ConversionError) as refused:
             timeforms.convert_all("PgIso", "PgIso", column)
         self.assertEqual((refused.exception.cause, refused.exception.text), ("Syntax", column[3]))
+        for first, column in [(b"-", [None, b"-", "x"]), ("x", ["x", b"-"]), ("P\n", ["P1D", "P\n", "x"]), ("y", ["P1D", "y", 3])]:
+            with self.assertRaises(ConversionError) as refused:
+                timeforms.convert_all("PgIso", "PgIso", column)
+            self.assertEqual(refused.exception.text, first)
+        self.assertRaises(TypeError, timeforms.convert_all, "PgIso", "PgIso", ["P1D", 3, "x"])
         nan = timeforms.convert_all("PgIso", "PgIso", [float("nan"), "P1D"])
         self.assertTrue(nan[0] != nan[0] and nan[1] == "P1D")
         for cells in ([1], [1.5], [["P1D"]], "P1D", b"P1D", None, 3):
