@@ -342,6 +342,16 @@ class Columns(unittest.TestCase):
         self.assertRaises(ConversionError, timeforms.convert_all, "pgiso", "PgIso", [])
         self.assertRaises(ValueError, timeforms.convert_all, "PgIso", "PgIso", [], "ignore")
 
+    def test_threads(self):
+        def answers(number):
+            cells = [f"{number}h", None, b"1m", "?"] * 5000
+            return timeforms.convert_all("Fancy", "PgIso", cells, "cause"), sum([Interval(number)] * 5000), sorted([Interval(number), Interval()])
+
+        with ThreadPoolExecutor(8) as pool:
+            for number, (column, whole, order) in enumerate(pool.map(answers, range(1, 9)), 1):
+                self.assertEqual(column, [f"PT{number}H", None, "PT1M", "Syntax"] * 5000)
+                self.assertEqual((whole, order), (Interval(5000 * number), [Interval(), Interval(number)]))
+
     def test_many_cells(self):
         cells = [f"P{number}D" for number in range(1, 100_001)]
         self.assertEqual(timeforms.convert_all("PgIso", "PgIso", cells), cells)
@@ -353,7 +363,15 @@ class Columns(unittest.TestCase):
         self.assertEqual((list(months), list(days), list(microseconds), list(valid)), ([14, 0, 0, 0], [0] * 4, [0, 0, 0, 3_600_000_000], [1, 0, 0, 1]))
         self.assertRaises(ConversionError, timeforms.intervals, ["-"])
         self.assertRaises(ConversionError, timeforms.intervals, ["1h"], "Fancy", "none")
-        self.assertRaises(TypeError, timeforms.intervals, [3])
+        for cells in ([3], [bytearray(b"P1D")], "P1D", b"P1D", None):
+            self.assertRaises(TypeError, timeforms.intervals, cells)
+        bad = [None, float("nan"), b"P2D", b"\xff", "P\ud800", "P1D\n", "", "\0", "P" + "0" * 1_000_000 + "3D", "P2147483648D"]
+        column = timeforms.intervals(iter(bad), errors="none")
+        self.assertEqual((list(column.days), list(column.valid)), ([0, 0, 2, 0, 0, 0, 0, 0, 3, 0], [0, 0, 1, 0, 0, 0, 0, 0, 1, 0]))
+        for cell, cause in [(b"\xff", "NotUtf8"), ("P\ud800", "NotUtf8"), ("P1D\n", "Syntax"), (b"P", "Syntax"), ("P2147483648D", "Range")]:
+            with self.assertRaises(ConversionError) as refused:
+                timeforms.intervals([None, "P1D", cell, "x"])
+            self.assertEqual((refused.exception.cause, refused.exception.text), (cause, cell))
 
     @unittest.skipUnless(importlib.util.find_spec("pandas"), "there is no pandas")
     def test_pandas(self):
@@ -373,6 +391,16 @@ class Columns(unittest.TestCase):
         self.assertEqual((spans[0], numpy.isnat(spans[1])), (numpy.timedelta64(25, "h"), True))
         self.assertRaises(ValueError, timeforms.to_timedelta64, ["P1M"])
         self.assertEqual(timeforms.intervals(numpy.array(["P1D"])).days.dtype, numpy.dtype("int32"))
+        missing = [None, numpy.nan, pandas.NA, pandas.NaT, "P1D", b"P2D"]
+        self.assertEqual(timeforms.convert_all("PgIso", "PgIso", missing)[4:], ["P1D", "P2D"])
+        self.assertEqual(timeforms.intervals(pandas.Series(missing)).valid.tolist(), [False] * 4 + [True] * 2)
+        self.assertEqual(numpy.isnat(timeforms.to_timedelta64(missing)).tolist(), [True] * 4 + [False] * 2)
+        self.assertEqual(timeforms.convert_all("PgIso", "PgIso", pandas.Series([], dtype=object)).tolist(), [])
+        for table in (pandas.DataFrame({"P1D": ["P1D"]}), numpy.array([1, 2]), pandas.Series([1.5])):
+            self.assertRaises(TypeError, timeforms.convert_all, "PgIso", "PgIso", table)
+        with self.assertRaises(OverflowError):
+            timeforms.to_timedelta64(["P2147483647DT1H"])
+        self.assertEqual((Interval(1) * numpy.int64(3), numpy.int64(3) * Interval(1)), (Interval(3), Interval(3)))
 
 
 class Moments(unittest.TestCase):
@@ -402,6 +430,22 @@ class Moments(unittest.TestCase):
             with self.assertRaises(ConversionError) as refused:
                 timeforms.parse_datetime(text, form)
             self.assertEqual(refused.exception.cause, cause, text)
+
+    def test_what_is_no_text(self):
+        for text in (None, float("nan"), b"2015-06-26", 3, bytearray(b"1h")):
+            self.assertRaises(TypeError, timeforms.parse_datetime, text)
+            self.assertRaises(TypeError, timeforms.duration_from_text, text)
+            self.assertRaises(TypeError, Interval.parse, text)
+        for call in (timeforms.parse_datetime, timeforms.duration_from_text, Interval.parse):
+            for text, cause in [("\udfff", "NotUtf8"), ("1h;", "Syntax"), ("2015-06-26\n", "Syntax"), ("0" * 1_000_000, "Syntax"), ("\0", "Syntax")]:
+                with self.assertRaises(ConversionError) as refused:
+                    call(text)
+                self.assertEqual(refused.exception.cause, cause)
+                self.assertLess(len(str(refused.exception)), 100)
+        for number in (None, 1.5, "3", b"3"):
+            for count in (timeforms.file_time_to_nanoseconds, timeforms.file_time_from_nanoseconds, timeforms.file_time_to_unix_time,
+                          timeforms.file_time_from_unix_time, timeforms.duration_to_text, Interval):
+                self.assertRaises(TypeError, count, number)
 
     def test_numbers(self):
         for call in [

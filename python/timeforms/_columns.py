@@ -208,9 +208,11 @@ def _interval(cell: Any, form: str, errors: str) -> Interval | None:
     try:
         return Interval.parse(cell if isinstance(cell, str) else cell.decode(), form)
     except UnicodeDecodeError:
-        if errors == "raise":
-            raise ConversionError("NotUtf8", str(form), None, cell) from None
+        cause = "NotUtf8"
     except ConversionError as error:
-        if errors == "raise" or error.cause == "NoSuchForm":
-            raise
+        cause = error.cause
+    if cause == "NoSuchForm":
+        raise ConversionError(cause, str(form))
+    if errors == "raise":
+        raise ConversionError(cause, str(form), None, cell)
     return None
