@@ -4,8 +4,10 @@ import copy
 import datetime
 import doctest
 import importlib.util
+import itertools
 import os
 import pickle
+import random
 import re
 import sys
 import unittest
@@ -123,10 +125,19 @@ class Texts(unittest.TestCase):
         self.assertEqual((error.cause, error.from_, error.to, error.text), ("Kind", "Toml", "FileTime", "12:00:00"))
 
     def test_examples(self):
-        names = vars(timeforms)
-        for module in [timeforms] + [module for name, module in sys.modules.items() if name.startswith("timeforms._")]:
-            ran = doctest.testmod(module, extraglobs={**names, "datetime": datetime}, optionflags=doctest.IGNORE_EXCEPTION_DETAIL)
-            self.assertEqual(ran.failed, 0, module)
+        numpy = importlib.util.find_spec("numpy")
+        found = doctest.DocTestFinder().find(timeforms, module=False, globs={**vars(timeforms), "datetime": datetime})
+        tests = {test.name: test for test in found}
+        runner = doctest.DocTestRunner(optionflags=doctest.IGNORE_EXCEPTION_DETAIL)
+        for name, test in tests.items():
+            if numpy or name != "timeforms.to_timedelta64":
+                self.assertEqual(runner.run(test).failed, 0, name)
+        for name in timeforms.__all__:
+            thing = getattr(timeforms, name)
+            parts = vars(thing) if isinstance(thing, type) and not issubclass(thing, tuple) else {}
+            calls = [part for part in parts if not part.startswith("_") and callable(getattr(thing, part)) and part not in FORMS]
+            for path in [name] * callable(thing) + [f"{name}.{call}" for call in calls]:
+                self.assertTrue(tests[f"timeforms.{path}"].examples, f"{path} has no example")
 
     def test_threads(self):
         def answers(number):
@@ -228,6 +239,72 @@ class Intervals(unittest.TestCase):
         self.assertRaises(TypeError, Interval.from_timedelta, 3)
 
 
+class Exact(unittest.TestCase):
+    """What the library answers beside whole numbers of any size, at the edges and at random."""
+
+    BITS = (32, 32, 64)
+
+    @staticmethod
+    def parts(interval):
+        return interval.months, interval.days, interval.microseconds
+
+    def same(self, call, wanted):
+        """Whether a call answers the interval of these parts, or raises where a part leaves its bits."""
+        if all(-(1 << bits - 1) <= part < 1 << bits - 1 for part, bits in zip(wanted, self.BITS)):
+            self.assertEqual(self.parts(call()), wanted)
+        else:
+            self.assertRaises(OverflowError, call)
+
+    def both(self, a, b):
+        a_parts, b_parts = self.parts(a), self.parts(b)
+        added = tuple(map(sum, zip(a_parts, b_parts)))
+        self.same(lambda: a + b, added)
+        self.same(lambda: sum([a, b]), added)
+        self.same(lambda: total(iter([a, b])), added)
+        self.same(lambda: a - b, tuple(one - other for one, other in zip(a_parts, b_parts)))
+        keys = [((30 * months + days) * 86_400_000_000 + rest, months, days, rest) for months, days, rest in (a_parts, b_parts)]
+        self.assertEqual((a < b, a <= b, a > b, a >= b, a == b, a != b),
+                         (keys[0] < keys[1], keys[0] <= keys[1], keys[0] > keys[1], keys[0] >= keys[1], a_parts == b_parts, a_parts != b_parts))
+        if a == b:
+            self.assertEqual(hash(a), hash(b))
+
+    def one(self, a):
+        parts = self.parts(a)
+        self.same(lambda: -a, tuple(-part for part in parts))
+        for times in (-(2**64), -1, 0, 1, 2, 2**31):
+            self.same(lambda: a * times, tuple(part * times for part in parts))
+        self.assertEqual(self.parts(Interval(*parts)), parts)
+
+    def test_edges(self):
+        edges = [(-(1 << bits - 1), -1, 0, 1, (1 << bits - 1) - 1) for bits in self.BITS]
+        some = [Interval(*parts) for parts in itertools.product(*edges)]
+        for a in some:
+            self.one(a)
+            for b in some:
+                self.both(a, b)
+
+    def test_random(self):
+        chance = random.Random(37)
+        some = [Interval(*(chance.choice((1, -1)) * chance.getrandbits(chance.randint(1, bits - 1)) for bits in self.BITS)) for _ in range(3000)]
+        day = 86_400_000_000
+        for a, b in zip(some, some[1:]):
+            self.one(a)
+            self.both(a, b)
+            months, days = a.months % 1000, a.days % 1000
+            self.both(Interval(months, days, 5), Interval(months - 1, days + 29, day + 5 + chance.randint(-1, 1)))
+
+    def test_timedeltas(self):
+        chance = random.Random(37)
+        least, most = datetime.timedelta.min, datetime.timedelta.max
+        step, day = datetime.timedelta(microseconds=1), datetime.timedelta(days=1)
+        some = [least, least + step, most, most - step, day, -day, day - step, step - day, step, -step, 0 * step]
+        some += [chance.randint(-(2**chance.randint(1, 66)), 2**chance.randint(1, 66)) * step for _ in range(3000)]
+        for length in some:
+            sign = -1 if length < 0 * step else 1
+            wanted = (0, sign * (abs(length // step) // 86_400_000_000), sign * (abs(length // step) % 86_400_000_000))
+            self.assertEqual(self.parts(Interval.from_timedelta(length)), wanted, length)
+
+
 class Columns(unittest.TestCase):
     def test_rows(self):
         asked = {}
@@ -252,6 +329,11 @@ class Columns(unittest.TestCase):
         with self.assertRaises(ConversionError) as refused:
             timeforms.convert_all("PgIso", "PgIso", column)
         self.assertEqual((refused.exception.cause, refused.exception.text), ("Syntax", column[3]))
+        for first, column in [(b"-", [None, b"-", "x"]), ("x", ["x", b"-"]), ("P\n", ["P1D", "P\n", "x"]), ("y", ["P1D", "y", 3])]:
+            with self.assertRaises(ConversionError) as refused:
+                timeforms.convert_all("PgIso", "PgIso", column)
+            self.assertEqual(refused.exception.text, first)
+        self.assertRaises(TypeError, timeforms.convert_all, "PgIso", "PgIso", ["P1D", 3, "x"])
         nan = timeforms.convert_all("PgIso", "PgIso", [float("nan"), "P1D"])
         self.assertTrue(nan[0] != nan[0] and nan[1] == "P1D")
         for cells in ([1], [1.5], [["P1D"]], "P1D", b"P1D", None, 3):
@@ -259,6 +341,16 @@ class Columns(unittest.TestCase):
         self.assertEqual(timeforms.convert_all("PgIso", "PgIso", []), [])
         self.assertRaises(ConversionError, timeforms.convert_all, "pgiso", "PgIso", [])
         self.assertRaises(ValueError, timeforms.convert_all, "PgIso", "PgIso", [], "ignore")
+
+    def test_threads(self):
+        def answers(number):
+            cells = [f"{number}h", None, b"1m", "?"] * 5000
+            return timeforms.convert_all("Fancy", "PgIso", cells, "cause"), sum([Interval(number)] * 5000), sorted([Interval(number), Interval()])
+
+        with ThreadPoolExecutor(8) as pool:
+            for number, (column, whole, order) in enumerate(pool.map(answers, range(1, 9)), 1):
+                self.assertEqual(column, [f"PT{number}H", None, "PT1M", "Syntax"] * 5000)
+                self.assertEqual((whole, order), (Interval(5000 * number), [Interval(), Interval(number)]))
 
     def test_many_cells(self):
         cells = [f"P{number}D" for number in range(1, 100_001)]
@@ -271,7 +363,15 @@ class Columns(unittest.TestCase):
         self.assertEqual((list(months), list(days), list(microseconds), list(valid)), ([14, 0, 0, 0], [0] * 4, [0, 0, 0, 3_600_000_000], [1, 0, 0, 1]))
         self.assertRaises(ConversionError, timeforms.intervals, ["-"])
         self.assertRaises(ConversionError, timeforms.intervals, ["1h"], "Fancy", "none")
-        self.assertRaises(TypeError, timeforms.intervals, [3])
+        for cells in ([3], [bytearray(b"P1D")], "P1D", b"P1D", None):
+            self.assertRaises(TypeError, timeforms.intervals, cells)
+        bad = [None, float("nan"), b"P2D", b"\xff", "P\ud800", "P1D\n", "", "\0", "P" + "0" * 1_000_000 + "3D", "P2147483648D"]
+        column = timeforms.intervals(iter(bad), errors="none")
+        self.assertEqual((list(column.days), list(column.valid)), ([0, 0, 2, 0, 0, 0, 0, 0, 3, 0], [0, 0, 1, 0, 0, 0, 0, 0, 1, 0]))
+        for cell, cause in [(b"\xff", "NotUtf8"), ("P\ud800", "NotUtf8"), ("P1D\n", "Syntax"), (b"P", "Syntax"), ("P2147483648D", "Range")]:
+            with self.assertRaises(ConversionError) as refused:
+                timeforms.intervals([None, "P1D", cell, "x"])
+            self.assertEqual((refused.exception.cause, refused.exception.text), (cause, cell))
 
     @unittest.skipUnless(importlib.util.find_spec("pandas"), "there is no pandas")
     def test_pandas(self):
@@ -291,6 +391,16 @@ class Columns(unittest.TestCase):
         self.assertEqual((spans[0], numpy.isnat(spans[1])), (numpy.timedelta64(25, "h"), True))
         self.assertRaises(ValueError, timeforms.to_timedelta64, ["P1M"])
         self.assertEqual(timeforms.intervals(numpy.array(["P1D"])).days.dtype, numpy.dtype("int32"))
+        missing = [None, numpy.nan, pandas.NA, pandas.NaT, "P1D", b"P2D"]
+        self.assertEqual(timeforms.convert_all("PgIso", "PgIso", missing)[4:], ["P1D", "P2D"])
+        self.assertEqual(timeforms.intervals(pandas.Series(missing)).valid.tolist(), [False] * 4 + [True] * 2)
+        self.assertEqual(numpy.isnat(timeforms.to_timedelta64(missing)).tolist(), [True] * 4 + [False] * 2)
+        self.assertEqual(timeforms.convert_all("PgIso", "PgIso", pandas.Series([], dtype=object)).tolist(), [])
+        for table in (pandas.DataFrame({"P1D": ["P1D"]}), numpy.array([1, 2]), pandas.Series([1.5])):
+            self.assertRaises(TypeError, timeforms.convert_all, "PgIso", "PgIso", table)
+        with self.assertRaises(OverflowError):
+            timeforms.to_timedelta64(["P2147483647DT1H"])
+        self.assertEqual((Interval(1) * numpy.int64(3), numpy.int64(3) * Interval(1)), (Interval(3), Interval(3)))
 
 
 class Moments(unittest.TestCase):
@@ -320,6 +430,22 @@ class Moments(unittest.TestCase):
             with self.assertRaises(ConversionError) as refused:
                 timeforms.parse_datetime(text, form)
             self.assertEqual(refused.exception.cause, cause, text)
+
+    def test_what_is_no_text(self):
+        for text in (None, float("nan"), b"2015-06-26", 3, bytearray(b"1h")):
+            self.assertRaises(TypeError, timeforms.parse_datetime, text)
+            self.assertRaises(TypeError, timeforms.duration_from_text, text)
+            self.assertRaises(TypeError, Interval.parse, text)
+        for call in (timeforms.parse_datetime, timeforms.duration_from_text, Interval.parse):
+            for text, cause in [("\udfff", "NotUtf8"), ("1h;", "Syntax"), ("2015-06-26\n", "Syntax"), ("0" * 1_000_000, "Syntax"), ("\0", "Syntax")]:
+                with self.assertRaises(ConversionError) as refused:
+                    call(text)
+                self.assertEqual(refused.exception.cause, cause)
+                self.assertLess(len(str(refused.exception)), 100)
+        for number in (None, 1.5, "3", b"3"):
+            for count in (timeforms.file_time_to_nanoseconds, timeforms.file_time_from_nanoseconds, timeforms.file_time_to_unix_time,
+                          timeforms.file_time_from_unix_time, timeforms.duration_to_text, Interval):
+                self.assertRaises(TypeError, count, number)
 
     def test_numbers(self):
         for call in [

@@ -53,7 +53,11 @@ __all__ = [
 
 
 def version() -> str:
-    """The version of the library, which is that of the package."""
+    """The version of the library, which is that of the package.
+
+    >>> version() == __version__
+    True
+    """
     out = _library.Text()
     _library.version(out, _library.TEXT_MAX)
     return out.value.decode()

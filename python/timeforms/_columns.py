@@ -42,7 +42,11 @@ def convert_all(from_: str, to: str, texts: Iterable[Any], errors: str = "raise"
 
 
 class IntervalColumn(NamedTuple):
-    """Intervals as three arrays beside each other. `valid` is 1 where a cell has an interval, and else 0, as its three parts are."""
+    """Intervals as three arrays beside each other. `valid` is 1 where a cell has an interval, and else 0, as its three parts are.
+
+    >>> intervals(["P1Y2M", None]).months
+    array('i', [14, 0])
+    """
 
     months: Any
     days: Any
@@ -81,6 +85,9 @@ def to_timedelta64(texts: Iterable[Any], form: str = "PgIso") -> Any:
     """The lengths of a column of intervals as a numpy array of microseconds, a day as 24 hours; a missing cell is NaT.
 
     Needs numpy. Raises `ValueError` where there are months, and `OverflowError` beyond 64 bits.
+
+    >>> to_timedelta64(["P1DT1H", None]).tolist()
+    [datetime.timedelta(days=1, seconds=3600), None]
     """
     import numpy
 
@@ -101,7 +108,9 @@ def _cells(texts: Iterable[Any]) -> list[Any]:
         raise TypeError(f"a column is a list of texts or the like, not one {type(texts).__name__}")
     if isinstance(texts, list):
         return texts
-    numpy = sys.modules.get("numpy")
+    pandas, numpy = sys.modules.get("pandas"), sys.modules.get("numpy")
+    if pandas and isinstance(texts, pandas.DataFrame):
+        raise TypeError("a column is one Series of a DataFrame, not all of it")
     if numpy and isinstance(texts, numpy.ndarray):
         flat: list[Any] = texts.ravel().tolist()
         return flat
@@ -132,16 +141,16 @@ def _is_missing(cell: object) -> bool:
 
 
 def _answers(from_: str, to: str, cells: list[Any], errors: str) -> list[Any]:
-    """The answers to some cells: at once those that are a `str` of one line, and the others one by one."""
-    answers: list[Any] | None = _at_once(from_, to, cells, errors)
-    if answers is not None:
-        return answers
-    plain = [cell for cell in cells if _is_line(cell)]
-    at_once = _at_once(from_, to, plain, errors)
+    """The answers to some cells, in order: texts of one line are asked at once, and the others one by one."""
+    at_once = _at_once(from_, to, cells)
+    if at_once is not None:
+        answers, refused = at_once
+        return [_judged(from_, to, *pair, errors) for pair in zip(cells, answers)] if refused else answers
+    at_once = _at_once(from_, to, [cell for cell in cells if _is_line(cell)])
     if at_once is None:
         return [_answer(from_, to, cell, errors) for cell in cells]
-    found = iter(at_once)
-    return [next(found) if _is_line(cell) else _answer(from_, to, cell, errors) for cell in cells]
+    said = iter(at_once[0])
+    return [_judged(from_, to, cell, next(said), errors) if _is_line(cell) else _answer(from_, to, cell, errors) for cell in cells]
 
 
 def _is_line(cell: object) -> bool:
@@ -149,10 +158,10 @@ def _is_line(cell: object) -> bool:
     return isinstance(cell, str) and "\n" not in cell
 
 
-def _at_once(from_: str, to: str, cells: list[Any], errors: str) -> list[Any] | None:
-    """The answers to texts as lines, and None where a cell is no `str`, or has a line feed or half a surrogate pair."""
+def _at_once(from_: str, to: str, cells: list[Any]) -> tuple[list[Any], bool] | None:
+    """The replies to texts as lines, and whether one is refused. None where a cell is no `str`, or has a line feed or half a surrogate pair."""
     if not cells:
-        return []
+        return [], False
     head = f"{from_} {to} "
     try:
         lines = (head + f"\n{head}".join(cells) + "\n").encode()
@@ -163,12 +172,12 @@ def _at_once(from_: str, to: str, cells: list[Any], errors: str) -> list[Any] | 
     said = b"".join(whole_lines(lines)[0]).decode()
     answers: list[Any] = said.split("\n")
     answers.pop()
-    if _REFUSED not in said:
-        return answers
-    return [
-        _refused(from_, to, cell, answer[len(_REFUSED) :], errors) if answer.startswith(_REFUSED) else answer
-        for cell, answer in zip(cells, answers)
-    ]
+    return answers, _REFUSED in said
+
+
+def _judged(from_: str, to: str, cell: str, answer: str, errors: str) -> str | None:
+    """What stands in the place of a reply."""
+    return _refused(from_, to, cell, answer[len(_REFUSED) :], errors) if answer.startswith(_REFUSED) else answer
 
 
 def _answer(from_: str, to: str, cell: Any, errors: str) -> Any:
@@ -199,9 +208,11 @@ def _interval(cell: Any, form: str, errors: str) -> Interval | None:
     try:
         return Interval.parse(cell if isinstance(cell, str) else cell.decode(), form)
     except UnicodeDecodeError:
-        if errors == "raise":
-            raise ConversionError("NotUtf8", str(form), None, cell) from None
+        cause = "NotUtf8"
     except ConversionError as error:
-        if errors == "raise" or error.cause == "NoSuchForm":
-            raise
+        cause = error.cause
+    if cause == "NoSuchForm":
+        raise ConversionError(cause, str(form))
+    if errors == "raise":
+        raise ConversionError(cause, str(form), None, cell)
     return None

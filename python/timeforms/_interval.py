@@ -3,7 +3,7 @@ from __future__ import annotations
 
 import datetime
 import operator
-from typing import Any, Iterable, NoReturn
+from typing import Any, Iterable, NoReturn, Type, TypeVar
 
 from . import _library
 from ._errors import ConversionError
@@ -11,8 +11,9 @@ from ._forms import NUMBERS, no_such_form
 
 __all__ = ["Interval", "total"]
 
-_MICROSECONDS_A_DAY = 86_400_000_000
-_MICROSECOND = datetime.timedelta(microseconds=1)
+_SECONDS_A_DAY = 86_400
+
+_Self = TypeVar("_Self", bound="Interval")
 
 
 def _whole(value: int, bits: int, part: str) -> int:
@@ -28,7 +29,8 @@ class Interval:
 
     `months` and `days` are within 32 bits with their sign, `microseconds` within 64; beyond them each call raises `OverflowError`.
     Intervals are equal where their parts are, and don't change. They are ordered as PostgreSQL orders them, a month as 30 days and a day
-    as 24 hours; those that are as long as each other go by months, days and microseconds.
+    as 24 hours; those that are as long as each other go by months, days and microseconds. `+`, `-` and the order are
+    proved calls of the library; times a whole number and `total` are sums of Python's.
 
     >>> Interval(months=1) + Interval(days=2, microseconds=3)
     Interval(months=1, days=2, microseconds=3)
@@ -38,17 +40,35 @@ class Interval:
     Interval(days=3)
     """
 
-    __slots__ = ("months", "days", "microseconds")
+    __slots__ = ("_value",)
 
-    months: int
-    days: int
-    microseconds: int
+    _value: _library.Interval
 
     def __init__(self, months: int = 0, days: int = 0, microseconds: int = 0) -> None:
-        put = object.__setattr__
-        put(self, "months", _whole(months, 32, "months"))
-        put(self, "days", _whole(days, 32, "days"))
-        put(self, "microseconds", _whole(microseconds, 64, "microseconds"))
+        value = _library.Interval(_whole(months, 32, "months"), _whole(days, 32, "days"), _whole(microseconds, 64, "microseconds"))
+        object.__setattr__(self, "_value", value)
+
+    @classmethod
+    def _of(cls: Type[_Self], value: _library.Interval) -> _Self:
+        """The interval that the library answered."""
+        interval = object.__new__(cls)
+        object.__setattr__(interval, "_value", value)
+        return interval
+
+    @property
+    def months(self) -> int:
+        """Whole months, 12 a year."""
+        return self._value.months
+
+    @property
+    def days(self) -> int:
+        """Whole days."""
+        return self._value.days
+
+    @property
+    def microseconds(self) -> int:
+        """Microseconds, 3,600,000,000 an hour."""
+        return self._value.microseconds
 
     def __setattr__(self, name: str, value: object) -> NoReturn:
         raise AttributeError(f"an interval doesn't change: {name}")
@@ -57,10 +77,10 @@ class Interval:
         raise AttributeError(f"an interval doesn't change: {name}")
 
     def __reduce__(self) -> tuple[Any, ...]:
-        return Interval, self._parts()
+        return type(self), self._parts()
 
     @classmethod
-    def parse(cls, text: str, form: str = "PgIso") -> Interval:
+    def parse(cls: Type[_Self], text: str, form: str = "PgIso") -> _Self:
         """The interval that a text denotes in an interval form: `PgIso`, `IsoStrict`, `Postgres`, `PgVerbose` or `PgSql`.
 
         Raises `ConversionError`, of the cause `NoSuchForm`, `NotUtf8`, `Syntax` or `Range`, and `TypeError` for what is no `str`.
@@ -80,7 +100,7 @@ class Interval:
         if code < 0:
             cause = _library.CAUSES[code]
             raise ConversionError(cause, str(form), None, None if cause == "NoSuchForm" else text)
-        return cls(read.months, read.days, read.microseconds)
+        return cls._of(read)
 
     def text(self, form: str = "PgIso") -> str:
         """The interval's text in an interval form. Each interval has one.
@@ -95,13 +115,13 @@ class Interval:
             number = NUMBERS[form]
         except KeyError:
             raise no_such_form(form) from None
-        count = _library.interval_to_text(number, _library.Interval(*self._parts()), out, _library.TEXT_MAX)
+        count = _library.interval_to_text(number, self._value, out, _library.TEXT_MAX)
         if count < 0:
             raise ConversionError(_library.CAUSES[count], None, str(form))
         return out.value.decode()
 
     @classmethod
-    def from_timedelta(cls, length: datetime.timedelta) -> Interval:
+    def from_timedelta(cls: Type[_Self], length: datetime.timedelta) -> _Self:
         """The interval of a length: whole days of 24 hours, toward zero, and the rest as microseconds.
 
         >>> Interval.from_timedelta(datetime.timedelta(hours=-36))
@@ -109,9 +129,10 @@ class Interval:
         """
         if not isinstance(length, datetime.timedelta):
             raise TypeError(f"a length is a timedelta, not {type(length).__name__}")
-        micros = length // _MICROSECOND
-        days = abs(micros) // _MICROSECONDS_A_DAY * (1 if micros >= 0 else -1)
-        return cls(0, days, micros - days * _MICROSECONDS_A_DAY)
+        value = _library.Interval()
+        # a timedelta has days of either sign, and seconds and microseconds of 0 and more; the days of each are within 32 bits
+        _library.interval_from_seconds(length.days * _SECONDS_A_DAY + length.seconds, length.microseconds * 1000, value)
+        return cls._of(value)
 
     def to_timedelta(self) -> datetime.timedelta:
         """The same length, where a day has 24 hours.
@@ -129,44 +150,49 @@ class Interval:
         return self.text()
 
     def __repr__(self) -> str:
-        named = zip(self.__slots__, self._parts())
+        named = zip(("months", "days", "microseconds"), self._parts())
         return f"Interval({', '.join(f'{name}={part}' for name, part in named if part)})"
 
     def _parts(self) -> tuple[int, int, int]:
         return self.months, self.days, self.microseconds
 
-    def _key(self) -> tuple[int, int, int, int]:
-        """What intervals are ordered by."""
-        micros = (30 * self.months + self.days) * _MICROSECONDS_A_DAY + self.microseconds
-        return micros, self.months, self.days, self.microseconds
+    def _compare(self, other: Interval) -> int:
+        """-1 where it is before the other, 0 where they are equal, 1 where it is behind."""
+        order: int = _library.interval_compare(self._value, other._value)
+        return order
 
     def __bool__(self) -> bool:
         return any(self._parts())
 
+    # the bytes of a value are those of its three parts, and there are none between them
+
     def __hash__(self) -> int:
-        return hash((Interval, *self._parts()))
+        return hash(bytes(self._value))
 
     def __eq__(self, other: object) -> bool:
         if not isinstance(other, Interval):
             return NotImplemented
-        return self._parts() == other._parts()
+        return bytes(self._value) == bytes(other._value)
 
     def __lt__(self, other: Interval) -> bool:
-        return self._key() < other._key() if isinstance(other, Interval) else NotImplemented
+        return self._compare(other) < 0 if isinstance(other, Interval) else NotImplemented
 
     def __le__(self, other: Interval) -> bool:
-        return self._key() <= other._key() if isinstance(other, Interval) else NotImplemented
+        return self._compare(other) <= 0 if isinstance(other, Interval) else NotImplemented
 
     def __gt__(self, other: Interval) -> bool:
-        return self._key() > other._key() if isinstance(other, Interval) else NotImplemented
+        return self._compare(other) > 0 if isinstance(other, Interval) else NotImplemented
 
     def __ge__(self, other: Interval) -> bool:
-        return self._key() >= other._key() if isinstance(other, Interval) else NotImplemented
+        return self._compare(other) >= 0 if isinstance(other, Interval) else NotImplemented
 
     def __add__(self, other: Interval) -> Interval:
         if not isinstance(other, Interval):
             return NotImplemented
-        return Interval(self.months + other.months, self.days + other.days, self.microseconds + other.microseconds)
+        value = _library.Interval()
+        if _library.interval_add(self._value, other._value, value) < 0:
+            raise OverflowError(f"a part of {self!r} + {other!r} leaves its bits")
+        return Interval._of(value)
 
     def __radd__(self, other: int) -> Interval:
         """`sum` starts from 0."""
@@ -177,18 +203,26 @@ class Interval:
     def __sub__(self, other: Interval) -> Interval:
         if not isinstance(other, Interval):
             return NotImplemented
-        return Interval(self.months - other.months, self.days - other.days, self.microseconds - other.microseconds)
+        value = _library.Interval()
+        if _library.interval_subtract(self._value, other._value, value) < 0:
+            raise OverflowError(f"a part of {self!r} - {other!r} leaves its bits")
+        return Interval._of(value)
 
     def __neg__(self) -> Interval:
-        return Interval(-self.months, -self.days, -self.microseconds)
+        value = _library.Interval()
+        if _library.interval_negate(self._value, value) < 0:
+            raise OverflowError(f"a part of -{self!r} leaves its bits")
+        return Interval._of(value)
 
     def __pos__(self) -> Interval:
         return self
 
     def __mul__(self, times: int) -> Interval:
-        if not isinstance(times, int):
+        try:
+            number = operator.index(times)
+        except TypeError:
             return NotImplemented
-        return Interval(self.months * times, self.days * times, self.microseconds * times)
+        return Interval(self.months * number, self.days * number, self.microseconds * number)
 
     __rmul__ = __mul__
 

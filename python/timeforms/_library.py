@@ -23,6 +23,9 @@ Text = ctypes.c_char * TEXT_MAX
 
 
 class Interval(ctypes.Structure):
+    months: int
+    days: int
+    microseconds: int
     _fields_ = [("months", ctypes.c_int32), ("days", ctypes.c_int32), ("microseconds", ctypes.c_int64)]
 
 
@@ -45,6 +48,26 @@ interval_from_text.restype = ctypes.c_int32
 interval_to_text = _held.timeforms_interval_to_text
 interval_to_text.argtypes = [ctypes.c_int32, ctypes.POINTER(Interval), Text, ctypes.c_size_t]
 interval_to_text.restype = ctypes.c_int32
+
+interval_add = _held.timeforms_interval_add
+interval_add.argtypes = [Interval, Interval, ctypes.POINTER(Interval)]
+interval_add.restype = ctypes.c_int32
+
+interval_subtract = _held.timeforms_interval_subtract
+interval_subtract.argtypes = [Interval, Interval, ctypes.POINTER(Interval)]
+interval_subtract.restype = ctypes.c_int32
+
+interval_negate = _held.timeforms_interval_negate
+interval_negate.argtypes = [Interval, ctypes.POINTER(Interval)]
+interval_negate.restype = ctypes.c_int32
+
+interval_compare = _held.timeforms_interval_compare
+interval_compare.argtypes = [Interval, Interval]
+interval_compare.restype = ctypes.c_int32
+
+interval_from_seconds = _held.timeforms_interval_from_seconds
+interval_from_seconds.argtypes = [ctypes.c_int64, ctypes.c_uint32, ctypes.POINTER(Interval)]
+interval_from_seconds.restype = ctypes.c_int32
 
 file_time_to_nanoseconds = _held.timeforms_file_time_to_nanoseconds
 file_time_to_nanoseconds.argtypes = [ctypes.c_uint64, ctypes.POINTER(ctypes.c_int64)]
