@@ -1,20 +1,17 @@
 //! Which program the words ask for.
-ghost use Rattle.std.specs.Io.KnownBytes.{Appends, IsAtEnd};
-ghost use Rattle.forms.specs.Lines.{lines};
-ghost use Rattle.forms.specs.Outside.{Rose};
-ghost use Rattle.forms.specs.Ends.{GainsReplies, GainsFront, EndedWith, streams};
-ghost use Rattle.forms.specs.Sample.{AreUnknown, IsSample, SampleEndedWith, told};
-ghost use Rattle.whole_input.specs.Outcomes.{EndedWhole, MeansStatus};
-ghost use Rattle.schedule_check.specs.Reports.{Reports};
-ghost use Rattle.pg_interval_2.specs.declared.style.Style.{Style as AnyStyle};
-ghost use Rattle.interval_column.specs.Output.{AsksFor, Tells};
-ghost use Rattle.std.specs.Prelude.{◌≡◌, ◌≢◌, ◌≤◌, ◌↔◌, ◌⊎◌, ℕ, List, ◌-◌, ◌/◌, [], ◌<◌, codes, length, IfSome};
+ghost use Rattle.std.specs.Prelude.{◌≡◌, ◌≢◌, ◌↔◌, ℕ, List, [], codes};
+ghost use Rattle.forms.specs.Ends.{streams};
+ghost use Rattle.forms.specs.Sample.{AreUnknown, IsSample};
 ghost use Rattle.forms.specs.declared.form.Form.{Form as AnyForm};
+ghost use Rattle.interval_column.specs.Output.{AsksFor, Tells};
+ghost use Rattle.pg_interval_2.specs.declared.style.Style.{Style as AnyStyle};
+ghost use Rattle.recurrence.specs.Replies.{Expands};
+ghost use Rattle.schedule_check.specs.Reports.{Reports};
 ghost use Rattle.text_lines.specs.declared.place.Place.{Place as AnyPlace};
 ghost use Rattle.text_lines.specs.Asked.{AskLines, AskNothing, AskText};
+ghost use Rattle.text_lines.specs.Ends.{TextEnded};
 ghost use Rattle.text_lines.specs.Outputs.{IsOutput};
-ghost use Rattle.text_lines.specs.Ends.{JudgedEnded, MeansLines, TextEnded};
-ghost use Rattle.recurrence.specs.Replies.{Expands};
+ghost use Rattle.timeforms.specs.Programs.{AnswersLines, AnswersRequests, AnswersSample, AnswersWhole};
 
 use forms::{Sink, Source};
 use std::alloc::Global;
@@ -34,51 +31,27 @@ pub fn pick<S: Source, K: Sink>(alloc: Global, words: &str, source: &mut S, sink
     ensures unknown { result ≡ 2 → (source.new ≡ source.old) × (sink.new ≡ sink.old) }
 
     // With `schedule` it reports on all bytes.
-    ensures schedule { words.now ≡ codes "schedule" → EndedWhole Reports 4_194_304
+    ensures schedule { words.now ≡ codes "schedule" → AnswersWhole Reports 4_194_304
         (streams S.left S.taken S.faults K.held K.faults source.old sink.old)
         (streams S.left S.taken S.faults K.held K.faults source.new sink.new)
-        result }
-    ensures schedule_status { words.now ≡ codes "schedule" → MeansStatus Reports 4_194_304
-        (streams S.left S.taken S.faults K.held K.faults source.old sink.old)
-        (streams S.left S.taken S.faults K.held K.faults source.new sink.new)
-        result }
-    ensures schedule_unwritten { words.now ≡ codes "schedule"
-        → (result ≡ 3) ⊎ ((result ≡ 5) ⊎ (result ≡ 6)) → sink.new ≡ sink.old }
+        (sink.new ≡ sink.old) result }
 
     // With `recur` it writes the instants of the series that each line asks for.
-    ensures recur { words.now ≡ codes "recur" → EndedWhole Expands 4_096
+    ensures recur { words.now ≡ codes "recur" → AnswersWhole Expands 4_096
         (streams S.left S.taken S.faults K.held K.faults source.old sink.old)
         (streams S.left S.taken S.faults K.held K.faults source.new sink.new)
-        result }
-    ensures recur_status { words.now ≡ codes "recur" → MeansStatus Expands 4_096
-        (streams S.left S.taken S.faults K.held K.faults source.old sink.old)
-        (streams S.left S.taken S.faults K.held K.faults source.new sink.new)
-        result }
-    ensures recur_unwritten { words.now ≡ codes "recur"
-        → (result ≡ 3) ⊎ ((result ≡ 5) ⊎ (result ≡ 6)) → sink.new ≡ sink.old }
+        (sink.new ≡ sink.old) result }
 
     // With `column F` it writes the intervals of all lines in order, each in F, or the first line that has a fault.
     ensures column { (style : AnyStyle) → AsksFor words.now style
-        → EndedWhole (Tells style) 4_194_304
+        → AnswersWhole (Tells style) 4_194_304
         (streams S.left S.taken S.faults K.held K.faults source.old sink.old)
         (streams S.left S.taken S.faults K.held K.faults source.new sink.new)
-        result }
-    ensures column_status { (style : AnyStyle) → AsksFor words.now style
-        → MeansStatus (Tells style) 4_194_304
-        (streams S.left S.taken S.faults K.held K.faults source.old sink.old)
-        (streams S.left S.taken S.faults K.held K.faults source.new sink.new)
-        result }
-    ensures column_unwritten { (style : AnyStyle) → AsksFor words.now style
-        → (result ≡ 3) ⊎ ((result ≡ 5) ⊎ (result ≡ 6)) → sink.new ≡ sink.old }
+        (sink.new ≡ sink.old) result }
 
-    // With two forms' names the lines of the source are answered, or one text.
-    ensures asked { (from to : AnyForm) (place : AnyPlace) → AskLines words.now from to place
-        → JudgedEnded (IsOutput from to place)
-        (streams S.left S.taken S.faults K.held K.faults source.old sink.old)
-        (streams S.left S.taken S.faults K.held K.faults source.new sink.new)
-        result }
-    ensures means { (from to : AnyForm) (place : AnyPlace) → AskLines words.now from to place
-        → MeansLines (IsOutput from to place)
+    // With two forms' names the lines of the source are answered, or one text, with nothing taken.
+    ensures lines { (from to : AnyForm) (place : AnyPlace) → AskLines words.now from to place
+        → AnswersLines (IsOutput from to place)
         (streams S.left S.taken S.faults K.held K.faults source.old sink.old)
         (streams S.left S.taken S.faults K.held K.faults source.new sink.new)
         result }
@@ -88,37 +61,21 @@ pub fn pick<S: Source, K: Sink>(alloc: Global, words: &str, source: &mut S, sink
     ensures untaken { (from to : AnyForm) (text : List ℕ) → AskText words.now from to text
         → source.new ≡ source.old }
 
-    // Else want of memory comes before the first byte.
-    ensures no_memory { ((style : AnyStyle) → AsksFor words.now style → ⊥)
-        → words.now ≢ codes "schedule" → result ≡ 6
-        → (source.new ≡ source.old) × (sink.new ≡ sink.old) }
-
-    // Without words the status is that of a run, and at status 0 each line has its reply.
-    ensures ended { words.now ≡ [] → EndedWith 67_108_864
+    // Without words each line is a request, and has its reply.
+    ensures requests { words.now ≡ [] → AnswersRequests 67_108_864
         (streams S.left S.taken S.faults K.held K.faults source.old sink.old)
         (streams S.left S.taken S.faults K.held K.faults source.new sink.new)
         result }
-    ensures done { words.now ≡ [] → result ≡ 0 → IsAtEnd (S.left source.new) }
-    ensures replies { words.now ≡ [] → result ≡ 0 → IfSome (S.left source.old) (λ bytes.
-        GainsReplies (lines bytes) (K.held sink.old) (K.held sink.new)) }
-    ensures front { words.now ≡ [] → IfSome (S.left source.old) (λ bytes.
-        GainsFront (lines bytes) (K.held sink.old) (K.held sink.new)) }
-    ensures within { words.now ≡ [] → IfSome (S.left source.old) (λ bytes. length bytes ≤ 67_108_864
-        → ¬ (Rose (S.faults source.old) (S.faults source.new))
-        → ¬ (Rose (K.faults sink.old) (K.faults sink.new))
-        → (result ≡ 0) ⊎ (result ≡ 6)) }
-    ensures beyond { words.now ≡ [] → IfSome (S.left source.old) (λ bytes. 67_108_864 < length bytes
-        → ¬ (Rose (S.faults source.old) (S.faults source.new))
-        → ¬ (Rose (K.faults sink.old) (K.faults sink.new))
-        → (result ≡ 5) ⊎ (result ≡ 6)) }
 
     // A sample leaves the source, and ends with the line that tells of its replies.
-    ensures source { (count : ℕ) → IsSample words.now count → source.new ≡ source.old }
-    ensures sampled { (count : ℕ) → IsSample words.now count → SampleEndedWith count
+    ensures sample { (count : ℕ) → IsSample words.now count → AnswersSample count
         (K.held sink.old) (K.held sink.new) (K.faults sink.old) (K.faults sink.new) result }
-    ensures tenth { (count : ℕ) → IsSample words.now count → result ≡ 0 → (bytes : ℕ)
-        × Appends (K.held sink.old) (K.held sink.new)
-        (told count (count - count / 10) (count / 10) bytes) }
+    ensures unsampled { (count : ℕ) → IsSample words.now count → source.new ≡ source.old }
+
+    // But for the commands that ask for memory once they have the input, want of it comes before the first byte.
+    ensures no_memory { ((style : AnyStyle) → AsksFor words.now style → ⊥)
+        → words.now ≢ codes "schedule" → result ≡ 6
+        → (source.new ≡ source.old) × (sink.new ≡ sink.old) }
 {
     asked_words_begin_with_a_capital();
     // A command that doesn't know the words leaves the source and the sink as they are.
@@ -126,164 +83,10 @@ pub fn pick<S: Source, K: Sink>(alloc: Global, words: &str, source: &mut S, sink
     if status != UNKNOWN_WORDS {
         return status;
     }
-    pick_other(alloc, words, source, sink)
-}
-
-/// The program that the words ask for, where they ask for no column.
-fn pick_other<S: Source, K: Sink>(alloc: Global, words: &str, source: &mut S, sink: &mut K) -> u8
-    // Words that ask for nothing are refused, with nothing taken and nothing written.
-    ensures words { (result ≡ 2) ↔ (AreUnknown words.now × (words.now ≢ codes "schedule")
-        × (words.now ≢ codes "recur") × AskNothing words.now) }
-    ensures unknown { result ≡ 2 → (source.new ≡ source.old) × (sink.new ≡ sink.old) }
-
-    // With `schedule` it reports on all bytes.
-    ensures schedule { words.now ≡ codes "schedule" → EndedWhole Reports 4_194_304
-        (streams S.left S.taken S.faults K.held K.faults source.old sink.old)
-        (streams S.left S.taken S.faults K.held K.faults source.new sink.new)
-        result }
-    ensures schedule_status { words.now ≡ codes "schedule" → MeansStatus Reports 4_194_304
-        (streams S.left S.taken S.faults K.held K.faults source.old sink.old)
-        (streams S.left S.taken S.faults K.held K.faults source.new sink.new)
-        result }
-    ensures schedule_unwritten { words.now ≡ codes "schedule"
-        → (result ≡ 3) ⊎ ((result ≡ 5) ⊎ (result ≡ 6)) → sink.new ≡ sink.old }
-
-    // With `recur` it writes the instants of the series that each line asks for.
-    ensures recur { words.now ≡ codes "recur" → EndedWhole Expands 4_096
-        (streams S.left S.taken S.faults K.held K.faults source.old sink.old)
-        (streams S.left S.taken S.faults K.held K.faults source.new sink.new)
-        result }
-    ensures recur_status { words.now ≡ codes "recur" → MeansStatus Expands 4_096
-        (streams S.left S.taken S.faults K.held K.faults source.old sink.old)
-        (streams S.left S.taken S.faults K.held K.faults source.new sink.new)
-        result }
-    ensures recur_unwritten { words.now ≡ codes "recur"
-        → (result ≡ 3) ⊎ ((result ≡ 5) ⊎ (result ≡ 6)) → sink.new ≡ sink.old }
-
-    // With two forms' names the lines of the source are answered, or one text.
-    ensures asked { (from to : AnyForm) (place : AnyPlace) → AskLines words.now from to place
-        → JudgedEnded (IsOutput from to place)
-        (streams S.left S.taken S.faults K.held K.faults source.old sink.old)
-        (streams S.left S.taken S.faults K.held K.faults source.new sink.new)
-        result }
-    ensures means { (from to : AnyForm) (place : AnyPlace) → AskLines words.now from to place
-        → MeansLines (IsOutput from to place)
-        (streams S.left S.taken S.faults K.held K.faults source.old sink.old)
-        (streams S.left S.taken S.faults K.held K.faults source.new sink.new)
-        result }
-    ensures text { (from to : AnyForm) (text : List ℕ) → AskText words.now from to text
-        → TextEnded from to text
-        (K.held sink.old) (K.held sink.new) (K.faults sink.old) (K.faults sink.new) result }
-    ensures untaken { (from to : AnyForm) (text : List ℕ) → AskText words.now from to text
-        → source.new ≡ source.old }
-
-    // Else want of memory comes before the first byte.
-    ensures no_memory { words.now ≢ codes "schedule" → result ≡ 6
-        → (source.new ≡ source.old) × (sink.new ≡ sink.old) }
-
-    // Without words the status is that of a run, and at status 0 each line has its reply.
-    ensures ended { words.now ≡ [] → EndedWith 67_108_864
-        (streams S.left S.taken S.faults K.held K.faults source.old sink.old)
-        (streams S.left S.taken S.faults K.held K.faults source.new sink.new)
-        result }
-    ensures done { words.now ≡ [] → result ≡ 0 → IsAtEnd (S.left source.new) }
-    ensures replies { words.now ≡ [] → result ≡ 0 → IfSome (S.left source.old) (λ bytes.
-        GainsReplies (lines bytes) (K.held sink.old) (K.held sink.new)) }
-    ensures front { words.now ≡ [] → IfSome (S.left source.old) (λ bytes.
-        GainsFront (lines bytes) (K.held sink.old) (K.held sink.new)) }
-    ensures within { words.now ≡ [] → IfSome (S.left source.old) (λ bytes. length bytes ≤ 67_108_864
-        → ¬ (Rose (S.faults source.old) (S.faults source.new))
-        → ¬ (Rose (K.faults sink.old) (K.faults sink.new))
-        → (result ≡ 0) ⊎ (result ≡ 6)) }
-    ensures beyond { words.now ≡ [] → IfSome (S.left source.old) (λ bytes. 67_108_864 < length bytes
-        → ¬ (Rose (S.faults source.old) (S.faults source.new))
-        → ¬ (Rose (K.faults sink.old) (K.faults sink.new))
-        → (result ≡ 5) ⊎ (result ≡ 6)) }
-
-    // A sample leaves the source, and ends with the line that tells of its replies.
-    ensures source { (count : ℕ) → IsSample words.now count → source.new ≡ source.old }
-    ensures sampled { (count : ℕ) → IsSample words.now count → SampleEndedWith count
-        (K.held sink.old) (K.held sink.new) (K.faults sink.old) (K.faults sink.new) result }
-    ensures tenth { (count : ℕ) → IsSample words.now count → result ≡ 0 → (bytes : ℕ)
-        × Appends (K.held sink.old) (K.held sink.new)
-        (told count (count - count / 10) (count / 10) bytes) }
-{
-    asked_words_begin_with_a_capital();
-    if words == "recur" {
-        return recurrence::top(alloc, words, source, sink);
+    let status = recurrence::top(alloc, words, source, sink);
+    if status != UNKNOWN_WORDS {
+        return status;
     }
-    pick_texts(alloc, words, source, sink)
-}
-
-/// The program that the words ask for, where they ask for no column and no recurrence.
-fn pick_texts<S: Source, K: Sink>(alloc: Global, words: &str, source: &mut S, sink: &mut K) -> u8
-    // Words that ask for nothing are refused, with nothing taken and nothing written.
-    ensures words { (result ≡ 2)
-        ↔ (AreUnknown words.now × (words.now ≢ codes "schedule") × AskNothing words.now) }
-    ensures unknown { result ≡ 2 → (source.new ≡ source.old) × (sink.new ≡ sink.old) }
-
-    // With `schedule` it reports on all bytes.
-    ensures schedule { words.now ≡ codes "schedule" → EndedWhole Reports 4_194_304
-        (streams S.left S.taken S.faults K.held K.faults source.old sink.old)
-        (streams S.left S.taken S.faults K.held K.faults source.new sink.new)
-        result }
-    ensures schedule_status { words.now ≡ codes "schedule" → MeansStatus Reports 4_194_304
-        (streams S.left S.taken S.faults K.held K.faults source.old sink.old)
-        (streams S.left S.taken S.faults K.held K.faults source.new sink.new)
-        result }
-    ensures schedule_unwritten { words.now ≡ codes "schedule"
-        → (result ≡ 3) ⊎ ((result ≡ 5) ⊎ (result ≡ 6)) → sink.new ≡ sink.old }
-
-    // With two forms' names the lines of the source are answered, or one text.
-    ensures asked { (from to : AnyForm) (place : AnyPlace) → AskLines words.now from to place
-        → JudgedEnded (IsOutput from to place)
-        (streams S.left S.taken S.faults K.held K.faults source.old sink.old)
-        (streams S.left S.taken S.faults K.held K.faults source.new sink.new)
-        result }
-    ensures means { (from to : AnyForm) (place : AnyPlace) → AskLines words.now from to place
-        → MeansLines (IsOutput from to place)
-        (streams S.left S.taken S.faults K.held K.faults source.old sink.old)
-        (streams S.left S.taken S.faults K.held K.faults source.new sink.new)
-        result }
-    ensures text { (from to : AnyForm) (text : List ℕ) → AskText words.now from to text
-        → TextEnded from to text
-        (K.held sink.old) (K.held sink.new) (K.faults sink.old) (K.faults sink.new) result }
-    ensures untaken { (from to : AnyForm) (text : List ℕ) → AskText words.now from to text
-        → source.new ≡ source.old }
-
-    // Else want of memory comes before the first byte.
-    ensures no_memory { words.now ≢ codes "schedule" → result ≡ 6
-        → (source.new ≡ source.old) × (sink.new ≡ sink.old) }
-
-    // Without words the status is that of a run, and at status 0 each line has its reply.
-    ensures ended { words.now ≡ [] → EndedWith 67_108_864
-        (streams S.left S.taken S.faults K.held K.faults source.old sink.old)
-        (streams S.left S.taken S.faults K.held K.faults source.new sink.new)
-        result }
-    ensures done { words.now ≡ [] → result ≡ 0 → IsAtEnd (S.left source.new) }
-    ensures replies { words.now ≡ [] → result ≡ 0 → IfSome (S.left source.old) (λ bytes.
-        GainsReplies (lines bytes) (K.held sink.old) (K.held sink.new)) }
-    ensures front { words.now ≡ [] → IfSome (S.left source.old) (λ bytes.
-        GainsFront (lines bytes) (K.held sink.old) (K.held sink.new)) }
-    ensures within { words.now ≡ [] → IfSome (S.left source.old) (λ bytes. length bytes ≤ 67_108_864
-        → ¬ (Rose (S.faults source.old) (S.faults source.new))
-        → ¬ (Rose (K.faults sink.old) (K.faults sink.new))
-        → (result ≡ 0) ⊎ (result ≡ 6)) }
-    ensures beyond { words.now ≡ [] → IfSome (S.left source.old) (λ bytes. 67_108_864 < length bytes
-        → ¬ (Rose (S.faults source.old) (S.faults source.new))
-        → ¬ (Rose (K.faults sink.old) (K.faults sink.new))
-        → (result ≡ 5) ⊎ (result ≡ 6)) }
-
-    // A sample leaves the source, and ends with the line that tells of its replies.
-    ensures source { (count : ℕ) → IsSample words.now count → source.new ≡ source.old }
-    ensures sampled { (count : ℕ) → IsSample words.now count → SampleEndedWith count
-        (K.held sink.old) (K.held sink.new) (K.faults sink.old) (K.faults sink.new) result }
-    ensures tenth { (count : ℕ) → IsSample words.now count → result ≡ 0 → (bytes : ℕ)
-        × Appends (K.held sink.old) (K.held sink.new)
-        (told count (count - count / 10) (count / 10) bytes) }
-{
-    // A command that doesn't know the words leaves the source and the sink as they are.
-    asked_words_begin_with_a_capital();
     let status = schedule_check::top(alloc, words, source, sink);
     if status != UNKNOWN_WORDS {
         return status;
