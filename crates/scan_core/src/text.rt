@@ -18,15 +18,47 @@ pub fn push_text<const CAP: usize>(out: &mut ArrayString<CAP>, text: &str)
     out.push_str(text);
 }
 
-/// Appends the decimal digits of the value, without leading zeros: 7 is `7`.
+/// Appends the digits that `itoa` writes.
 #[inline(always)]
-pub fn push_num<const CAP: usize>(out: &mut ArrayString<CAP>, value: u64)
+fn push_formatted<const CAP: usize>(out: &mut ArrayString<CAP>, value: u64)
     requires { array_string_len out.old + length (decimal value) ≤ CAP }
     ensures bytes { out.new.bytes ≡ out.old.bytes ++ decimal value }
     ensures len { array_string_len out.new ≡ array_string_len out.old + length (decimal value) }
 {
     let mut buffer = Buffer::new();
     out.push_str(buffer.format(value));
+}
+
+/// The same for the numbers that few texts have, in a function of its own, so that callers stay small.
+#[inline(never)]
+fn push_long<const CAP: usize>(out: &mut ArrayString<CAP>, value: u64)
+    requires { array_string_len out.old + length (decimal value) ≤ CAP }
+    ensures bytes { out.new.bytes ≡ out.old.bytes ++ decimal value }
+    ensures len { array_string_len out.new ≡ array_string_len out.old + length (decimal value) }
+{
+    push_formatted(out, value);
+}
+
+/// Appends the decimal digits of the value, without leading zeros: 7 is `7`.
+///
+/// Each branch is compiled for the one number of digits that its values have: it copies them without a loop and without a call.
+#[inline(always)]
+pub fn push_num<const CAP: usize>(out: &mut ArrayString<CAP>, value: u64)
+    requires { array_string_len out.old + length (decimal value) ≤ CAP }
+    ensures bytes { out.new.bytes ≡ out.old.bytes ++ decimal value }
+    ensures len { array_string_len out.new ≡ array_string_len out.old + length (decimal value) }
+{
+    if value < 10 {
+        push_formatted(out, value);
+    } else if value < 100 {
+        push_formatted(out, value);
+    } else if value < 1000 {
+        push_formatted(out, value);
+    } else if value < 10_000 {
+        push_formatted(out, value);
+    } else {
+        push_long(out, value);
+    }
 }
 
 /// Appends the last digit of the value.
@@ -53,6 +85,21 @@ pub fn push_two<const CAP: usize>(out: &mut ArrayString<CAP>, value: u64)
     push_digit(out, value);
 }
 
+/// Appends a number in two digits, or in all that it has from 100 on.
+#[inline(always)]
+fn push_at_least_two<const CAP: usize>(out: &mut ArrayString<CAP>, value: u64)
+    requires { array_string_len out.old + max 2 (length (decimal value)) ≤ CAP }
+    ensures bytes { out.new.bytes ≡ out.old.bytes ++ padded_digits 2 value }
+    ensures len { array_string_len out.new
+        ≡ array_string_len out.old + max 2 (length (decimal value)) }
+{
+    if value < 100 {
+        push_two(out, value);
+    } else {
+        push_num(out, value);
+    }
+}
+
 /// Appends a number below 1000 in three digits.
 #[inline(always)]
 fn push_three<const CAP: usize>(out: &mut ArrayString<CAP>, value: u64)
@@ -77,6 +124,18 @@ fn push_four<const CAP: usize>(out: &mut ArrayString<CAP>, value: u64)
     push_two(out, value % 100);
 }
 
+/// Appends a number below 1,000,000 in six digits.
+#[inline(always)]
+fn push_six<const CAP: usize>(out: &mut ArrayString<CAP>, value: u64)
+    requires value { value < 1_000_000 }
+    requires room { array_string_len out.old + 6 ≤ CAP }
+    ensures bytes { out.new.bytes ≡ out.old.bytes ++ padded_digits 6 value }
+    ensures len { array_string_len out.new ≡ array_string_len out.old + 6 }
+{
+    push_four(out, value / 100);
+    push_two(out, value % 100);
+}
+
 /// Appends the decimal digits of the value with leading zeros to at least `width` digits, `width` at most 20: 7 in width 2 is `07`.
 #[inline(always)] // nearly all widths are constants
 pub fn push_padded<const CAP: usize>(out: &mut ArrayString<CAP>, value: u64, width: usize)
@@ -87,12 +146,16 @@ pub fn push_padded<const CAP: usize>(out: &mut ArrayString<CAP>, value: u64, wid
     ensures len { array_string_len out.new
         ≡ array_string_len out.old + max width (length (decimal value)) }
 {
-    if width == 2 && value < 100 {
-        push_two(out, value);
+    if width < 2 {
+        push_num(out, value);
+    } else if width == 2 {
+        push_at_least_two(out, value);
     } else if width == 3 && value < 1000 {
         push_three(out, value);
     } else if width == 4 && value < 10_000 {
         push_four(out, value);
+    } else if width == 6 && value < 1_000_000 {
+        push_six(out, value);
     } else {
         push_filled(out, value, width);
     }
@@ -141,6 +204,6 @@ pub fn push_trimmed<const CAP: usize>(out: &mut ArrayString<CAP>, value: u64, wi
 {
     if value != 0 {
         let (left, places) = without_zeros(value, width);
-        push_filled(out, left, places);
+        push_padded(out, left, places);
     }
 }
