@@ -29,7 +29,7 @@ fn push_formatted<const CAP: usize>(out: &mut ArrayString<CAP>, value: u64)
     out.push_str(buffer.format(value));
 }
 
-/// The same for the numbers that few texts have, in a function of its own, so that callers stay small.
+/// The same for numbers of any length, in a function of its own.
 #[inline(never)]
 fn push_long<const CAP: usize>(out: &mut ArrayString<CAP>, value: u64)
     requires { array_string_len out.old + length (decimal value) ≤ CAP }
@@ -39,25 +39,33 @@ fn push_long<const CAP: usize>(out: &mut ArrayString<CAP>, value: u64)
     push_formatted(out, value);
 }
 
+/// The same for numbers that have mostly three or four digits, in a function of its own, so that the callers of `push_num` stay small.
+#[inline(never)]
+fn push_hundreds<const CAP: usize>(out: &mut ArrayString<CAP>, value: u64)
+    requires { array_string_len out.old + length (decimal value) ≤ CAP }
+    ensures bytes { out.new.bytes ≡ out.old.bytes ++ decimal value }
+    ensures len { array_string_len out.new ≡ array_string_len out.old + length (decimal value) }
+{
+    match value {
+        100..=999 => push_formatted(out, value),
+        1_000..=9_999 => push_formatted(out, value),
+        _ => push_long(out, value),
+    }
+}
+
 /// Appends the decimal digits of the value, without leading zeros: 7 is `7`.
 ///
-/// Each branch is compiled for the one number of digits that its values have: it copies them without a loop and without a call.
+/// A branch whose numbers are of one length is compiled for that length: it copies the digits without a loop and without a call.
 #[inline(always)]
 pub fn push_num<const CAP: usize>(out: &mut ArrayString<CAP>, value: u64)
     requires { array_string_len out.old + length (decimal value) ≤ CAP }
     ensures bytes { out.new.bytes ≡ out.old.bytes ++ decimal value }
     ensures len { array_string_len out.new ≡ array_string_len out.old + length (decimal value) }
 {
-    if value < 10 {
-        push_formatted(out, value);
-    } else if value < 100 {
-        push_formatted(out, value);
-    } else if value < 1000 {
-        push_formatted(out, value);
-    } else if value < 10_000 {
-        push_formatted(out, value);
-    } else {
-        push_long(out, value);
+    match value {
+        0..=9 => push_formatted(out, value),
+        10..=99 => push_formatted(out, value),
+        _ => push_hundreds(out, value),
     }
 }
 
@@ -193,9 +201,9 @@ fn without_zeros(value: u64, width: usize) -> (u64, usize)
     (left, places)
 }
 
-/// Appends the decimal digits of the value as `push_padded` does, without the zeros at their end: 250 in width 6 is `00025`, and
-/// of 0 nothing is left.
-pub fn push_trimmed<const CAP: usize>(out: &mut ArrayString<CAP>, value: u64, width: usize)
+/// The same of a number that ends in a zero.
+#[inline(never)]
+fn push_shortened<const CAP: usize>(out: &mut ArrayString<CAP>, value: u64, width: usize)
     requires width { width ≤ 20 }
     requires room { array_string_len out.old + max width (length (decimal value)) ≤ CAP }
     ensures bytes { out.new.bytes ≡ out.old.bytes ++ trimmed_digits (padded_digits width value) }
@@ -205,5 +213,22 @@ pub fn push_trimmed<const CAP: usize>(out: &mut ArrayString<CAP>, value: u64, wi
     if value != 0 {
         let (left, places) = without_zeros(value, width);
         push_padded(out, left, places);
+    }
+}
+
+/// Appends the decimal digits of the value as `push_padded` does, without the zeros at their end: 250 in width 6 is `00025`, and
+/// of 0 nothing is left.
+#[inline(always)] // nearly all widths are constants, and nine fractions of ten end in no zero
+pub fn push_trimmed<const CAP: usize>(out: &mut ArrayString<CAP>, value: u64, width: usize)
+    requires width { width ≤ 20 }
+    requires room { array_string_len out.old + max width (length (decimal value)) ≤ CAP }
+    ensures bytes { out.new.bytes ≡ out.old.bytes ++ trimmed_digits (padded_digits width value) }
+    ensures len { array_string_len out.new
+        ≤ array_string_len out.old + max width (length (decimal value)) }
+{
+    if value % 10 == 0 {
+        push_shortened(out, value, width);
+    } else {
+        push_padded(out, value, width);
     }
 }
