@@ -9,6 +9,7 @@ use scan_core::{push_padded, push_text};
 
 /// Appends the digits of hours, at least `width` of them.
 #[tactic(auto, using(scan_core::proofs::DigitFacts::length_decimal_u32), unfolding(crate::specs::inside::ClockSteps::hours_text))]
+#[inline(always)]
 fn push_hours<const CAP: usize>(out: &mut ArrayString<CAP>, width: usize, hours: u32)
     requires width { width ≤ 2 }
     requires room { array_string_len out.old + 10 ≤ CAP }
@@ -20,6 +21,7 @@ fn push_hours<const CAP: usize>(out: &mut ArrayString<CAP>, width: usize, hours:
 
 /// Appends a colon and minutes or seconds in two digits.
 #[tactic(auto, using(scan_core::proofs::DigitFacts::length_decimal_two), unfolding(crate::specs::inside::ClockSteps::field_text))]
+#[inline(always)]
 fn push_field<const CAP: usize>(out: &mut ArrayString<CAP>, value: u32)
     requires value { value < 100 }
     requires room { array_string_len out.old + 3 ≤ CAP }
@@ -32,6 +34,7 @@ fn push_field<const CAP: usize>(out: &mut ArrayString<CAP>, value: u32)
 
 /// Appends a point and six digits of microseconds, or nothing where they are 0.
 #[tactic(auto, unfolding(crate::specs::inside::ClockSteps::fraction_text))]
+#[inline(always)]
 fn push_nonzero_fraction<const CAP: usize>(out: &mut ArrayString<CAP>, micros: u32)
     requires micros { micros < 1_000_000 }
     requires room { array_string_len out.old + 7 ≤ CAP }

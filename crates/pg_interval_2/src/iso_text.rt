@@ -13,6 +13,7 @@ use scan_core::push_text;
 
 /// Appends a number with its minus and its letter, or nothing where it is 0.
 #[tactic(auto, unfolding(crate::specs::IsoText::iso_part))]
+#[inline(always)]
 fn push_part<const CAP: usize>(out: &mut ArrayString<CAP>, negative: bool, value: u32, letter: &str)
     requires letter { length letter.now ≤ 1 }
     requires room { array_string_len out.old + 12 ≤ CAP }
@@ -28,6 +29,7 @@ fn push_part<const CAP: usize>(out: &mut ArrayString<CAP>, negative: bool, value
 
 /// Appends the digits of a number, or nothing where it is 0.
 #[tactic(auto, unfolding(crate::specs::inside::IsoSteps::nonzero_digits))]
+#[inline(always)]
 fn push_nonzero<const CAP: usize>(out: &mut ArrayString<CAP>, value: u32)
     requires { array_string_len out.old + 10 ≤ CAP }
     ensures bytes { out.new.bytes ≡ out.old.bytes ++ nonzero_digits value }
@@ -40,6 +42,7 @@ fn push_nonzero<const CAP: usize>(out: &mut ArrayString<CAP>, value: u32)
 
 /// Appends seconds with microseconds that aren't 0.
 #[tactic(auto, unfolding(crate::specs::inside::IsoSteps::iso_decimal))]
+#[inline(always)]
 fn push_decimal<const CAP: usize>(
     out: &mut ArrayString<CAP>,
     negative: bool,
@@ -59,6 +62,7 @@ fn push_decimal<const CAP: usize>(
 
 /// Appends the seconds, or nothing where they and the microseconds are 0.
 #[tactic(auto, unfolding(crate::specs::inside::IsoSteps::iso_seconds))]
+#[inline(always)]
 fn push_seconds<const CAP: usize>(
     out: &mut ArrayString<CAP>,
     negative: bool,
@@ -79,6 +83,7 @@ fn push_seconds<const CAP: usize>(
 
 /// Appends the time, or nothing where it is 0.
 #[tactic(auto, unfolding(crate::specs::inside::IsoSteps::iso_time))]
+#[inline(always)]
 fn push_time<const CAP: usize>(out: &mut ArrayString<CAP>, micros: i64)
     requires { array_string_len out.old + 44 ≤ CAP }
     ensures bytes { out.new.bytes ≡ out.old.bytes ++ iso_time micros }
@@ -99,6 +104,7 @@ fn push_time<const CAP: usize>(out: &mut ArrayString<CAP>, micros: i64)
 
 /// Appends the years, months and days, each where it isn't 0.
 #[tactic(auto, unfolding(crate::specs::inside::IsoSteps::iso_date))]
+#[inline(always)]
 fn push_date<const CAP: usize>(out: &mut ArrayString<CAP>, months: i32, days: i32)
     requires { array_string_len out.old + 36 ≤ CAP }
     ensures bytes { out.new.bytes ≡ out.old.bytes ++ iso_date months days }
@@ -110,6 +116,7 @@ fn push_date<const CAP: usize>(out: &mut ArrayString<CAP>, months: i32, days: i3
 }
 
 /// Appends the text of an interval that isn't zero.
+#[inline(always)]
 fn push_parts<const CAP: usize>(out: &mut ArrayString<CAP>, months: i32, days: i32, micros: i64)
     requires { array_string_len out.old + 96 ≤ CAP }
     ensures bytes { out.new.bytes

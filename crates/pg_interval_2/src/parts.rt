@@ -67,6 +67,7 @@ pub fn turn(turned: bool, negative: bool) -> bool
 }
 
 /// Appends the minus of a negative number.
+#[inline(always)]
 pub fn push_minus<const CAP: usize>(out: &mut ArrayString<CAP>, negative: bool)
     requires { array_string_len out.old + 1 ≤ CAP }
     ensures bytes { out.new.bytes ≡ out.old.bytes ++ minus negative }
@@ -79,6 +80,7 @@ pub fn push_minus<const CAP: usize>(out: &mut ArrayString<CAP>, negative: bool)
 
 /// Appends the digits of a number.
 #[tactic(auto, using(scan_core::proofs::DigitFacts::length_decimal_u32, scan_core::proofs::DigitFacts::length_decimal_two))]
+#[inline(always)]
 pub fn push_digits<const CAP: usize>(out: &mut ArrayString<CAP>, value: u32)
     requires { array_string_len out.old + 10 ≤ CAP }
     ensures bytes { out.new.bytes ≡ out.old.bytes ++ decimal value }

@@ -11,6 +11,7 @@ use arrayvec::ArrayString;
 use scan_core::push_text;
 
 /// Appends a space where words stand before.
+#[inline(always)]
 fn push_space<const CAP: usize>(out: &mut ArrayString<CAP>, words: bool)
     requires { array_string_len out.old + 1 ≤ CAP }
     ensures bytes { out.new.bytes ≡ out.old.bytes ++ space_behind words }
@@ -23,6 +24,7 @@ fn push_space<const CAP: usize>(out: &mut ArrayString<CAP>, words: bool)
 
 /// Appends the name that stands behind a number: singular at 1 alone.
 #[tactic(auto, unfolding(crate::specs::inside::PostgresSteps::counted_name))]
+#[inline(always)]
 pub fn push_name<const CAP: usize>(
     out: &mut ArrayString<CAP>,
     negative: bool,
@@ -42,6 +44,7 @@ pub fn push_name<const CAP: usize>(
 
 /// Appends a number with its minus and its name, or nothing where it is 0, and answers whether words stand there now.
 #[tactic(auto, unfolding(crate::specs::inside::PostgresSteps::number_words))]
+#[inline(always)]
 fn push_part<const CAP: usize>(
     out: &mut ArrayString<CAP>,
     words: bool,
@@ -69,6 +72,7 @@ fn push_part<const CAP: usize>(
 
 /// Appends the time with its minus, or nothing where it is 0.
 #[tactic(auto, unfolding(crate::specs::inside::PostgresSteps::clock_words))]
+#[inline(always)]
 fn push_time<const CAP: usize>(out: &mut ArrayString<CAP>, words: bool, micros: i64)
     requires { array_string_len out.old + 25 ≤ CAP }
     ensures bytes { out.new.bytes ≡ out.old.bytes ++ words_behind words (clock_words micros) }
@@ -82,6 +86,7 @@ fn push_time<const CAP: usize>(out: &mut ArrayString<CAP>, words: bool, micros: 
 }
 
 /// Appends the words of an interval.
+#[inline(always)]
 fn push_words<const CAP: usize>(out: &mut ArrayString<CAP>, months: i32, days: i32, micros: i64)
     requires { array_string_len out.old + 96 ≤ CAP }
     ensures bytes { out.new.bytes

@@ -36,6 +36,17 @@ padded_field count lo hi n some short fits least most =
       most = most;
     }
 
+-- ---- numbers that fill their width
+
+pub padded_full : (width n : ℕ) → width ≤ length (decimal n) → padded_digits width n ≡ decimal n
+padded_full width n full = let none : width - length (decimal n) ≡ 0 = omega (arith, full) in rw none refl
+
+-- a number from 10 on has two digits or more
+pub two_or_more : (n : ℕ) → 10 ≤ n → n < 2 ^ 64 → 2 ≤ length (decimal n)
+two_or_more n ten fits =
+    let some = decimal_nonempty (n / 10) (omega (arith, fits)) in
+    omega (arith, some, ap length (decimal_step n ten fits) ∙ length_push (decimal (n / 10)) (48 + n % 10))
+
 -- ---- the last digit
 
 -- a number from 10 on: its last digit, behind all others in a width less by one
@@ -78,15 +89,16 @@ padded_two n h =
     padded_last 2 n (omega arith) (omega (arith, h))
     ∙ ap (λ (l : List ℕ). l ++ ((48 + n % 10) ∷ [])) (padded_digit 1 (n / 10) (omega (arith, h)) ∙ ap (λ (t : ℕ). (48 + t) ∷ []) tens)
 
--- the last two of four digits are those of the number below a hundred
-pub padded_four : (n : ℕ) → n < 10_000 → padded_digits 4 n ≡ padded_digits 2 (n / 100) ++ padded_digits 2 (n % 100)
-padded_four n h =
+-- in a width above two, the digits of a number are those of its hundredth, and its last two digits
+pub padded_pair : (width n : ℕ) → 2 < width → n < 2 ^ 64 → padded_digits width n ≡ padded_digits (width - 2) (n / 100) ++ padded_digits 2 (n % 100)
+padded_pair width n w fits =
     let tens : n % 100 / 10 % 10 ≡ n / 10 % 10 = omega arith in
     let ones : n % 100 % 10 ≡ n % 10 = omega arith in
     let hundredth : n / 10 / 10 ≡ n / 100 = omega arith in
+    let narrower : (width - 1) - 1 ≡ width - 2 = omega arith in
     let pair : padded_digits 2 (n % 100) ≡ (48 + n / 10 % 10) ∷ ((48 + n % 10) ∷ []) = padded_two (n % 100) (omega arith) ∙ ap₂ (λ (t d : ℕ). (48 + t) ∷ ((48 + d) ∷ [])) tens ones in
-    let front : padded_digits 3 (n / 10) ≡ padded_digits 2 (n / 100) ++ ((48 + n / 10 % 10) ∷ []) = padded_last 3 (n / 10) (omega arith) (omega (arith, h)) ∙ ap (λ (t : ℕ). padded_digits 2 t ++ ((48 + n / 10 % 10) ∷ [])) hundredth in
-    padded_last 4 n (omega arith) (omega (arith, h))
+    let front : padded_digits (width - 1) (n / 10) ≡ padded_digits (width - 2) (n / 100) ++ ((48 + n / 10 % 10) ∷ []) = padded_last (width - 1) (n / 10) (omega (arith, w)) (omega (arith, fits)) ∙ ap₂ (λ (k t : ℕ). padded_digits k t ++ ((48 + n / 10 % 10) ∷ [])) narrower hundredth in
+    padded_last width n (omega (arith, w)) fits
     ∙ ap (λ (l : List ℕ). l ++ ((48 + n % 10) ∷ [])) front
-    ∙ append_assoc (padded_digits 2 (n / 100)) ((48 + n / 10 % 10) ∷ []) ((48 + n % 10) ∷ [])
-    ∙ ap (λ (l : List ℕ). padded_digits 2 (n / 100) ++ l) (sym pair)
+    ∙ append_assoc (padded_digits (width - 2) (n / 100)) ((48 + n / 10 % 10) ∷ []) ((48 + n % 10) ∷ [])
+    ∙ ap (λ (l : List ℕ). padded_digits (width - 2) (n / 100) ++ l) (sym pair)

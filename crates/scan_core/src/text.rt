@@ -18,15 +18,55 @@ pub fn push_text<const CAP: usize>(out: &mut ArrayString<CAP>, text: &str)
     out.push_str(text);
 }
 
-/// Appends the decimal digits of the value, without leading zeros: 7 is `7`.
+/// Appends the digits that `itoa` writes.
 #[inline(always)]
-pub fn push_num<const CAP: usize>(out: &mut ArrayString<CAP>, value: u64)
+fn push_formatted<const CAP: usize>(out: &mut ArrayString<CAP>, value: u64)
     requires { array_string_len out.old + length (decimal value) ≤ CAP }
     ensures bytes { out.new.bytes ≡ out.old.bytes ++ decimal value }
     ensures len { array_string_len out.new ≡ array_string_len out.old + length (decimal value) }
 {
     let mut buffer = Buffer::new();
     out.push_str(buffer.format(value));
+}
+
+/// The same for numbers of any length, in a function of its own.
+#[inline(never)]
+fn push_long<const CAP: usize>(out: &mut ArrayString<CAP>, value: u64)
+    requires { array_string_len out.old + length (decimal value) ≤ CAP }
+    ensures bytes { out.new.bytes ≡ out.old.bytes ++ decimal value }
+    ensures len { array_string_len out.new ≡ array_string_len out.old + length (decimal value) }
+{
+    push_formatted(out, value);
+}
+
+/// The same for numbers that have mostly three or four digits, in a function of its own, so that the callers of `push_num` stay small.
+#[inline(never)]
+fn push_hundreds<const CAP: usize>(out: &mut ArrayString<CAP>, value: u64)
+    requires { array_string_len out.old + length (decimal value) ≤ CAP }
+    ensures bytes { out.new.bytes ≡ out.old.bytes ++ decimal value }
+    ensures len { array_string_len out.new ≡ array_string_len out.old + length (decimal value) }
+{
+    match value {
+        100..=999 => push_formatted(out, value),
+        1_000..=9_999 => push_formatted(out, value),
+        _ => push_long(out, value),
+    }
+}
+
+/// Appends the decimal digits of the value, without leading zeros: 7 is `7`.
+///
+/// A branch whose numbers are of one length is compiled for that length: it copies the digits without a loop and without a call.
+#[inline(always)]
+pub fn push_num<const CAP: usize>(out: &mut ArrayString<CAP>, value: u64)
+    requires { array_string_len out.old + length (decimal value) ≤ CAP }
+    ensures bytes { out.new.bytes ≡ out.old.bytes ++ decimal value }
+    ensures len { array_string_len out.new ≡ array_string_len out.old + length (decimal value) }
+{
+    match value {
+        0..=9 => push_formatted(out, value),
+        10..=99 => push_formatted(out, value),
+        _ => push_hundreds(out, value),
+    }
 }
 
 /// Appends the last digit of the value.
@@ -53,6 +93,21 @@ pub fn push_two<const CAP: usize>(out: &mut ArrayString<CAP>, value: u64)
     push_digit(out, value);
 }
 
+/// Appends a number in two digits, or in all that it has from 100 on.
+#[inline(always)]
+fn push_at_least_two<const CAP: usize>(out: &mut ArrayString<CAP>, value: u64)
+    requires { array_string_len out.old + max 2 (length (decimal value)) ≤ CAP }
+    ensures bytes { out.new.bytes ≡ out.old.bytes ++ padded_digits 2 value }
+    ensures len { array_string_len out.new
+        ≡ array_string_len out.old + max 2 (length (decimal value)) }
+{
+    if value < 100 {
+        push_two(out, value);
+    } else {
+        push_num(out, value);
+    }
+}
+
 /// Appends a number below 1000 in three digits.
 #[inline(always)]
 fn push_three<const CAP: usize>(out: &mut ArrayString<CAP>, value: u64)
@@ -77,6 +132,18 @@ fn push_four<const CAP: usize>(out: &mut ArrayString<CAP>, value: u64)
     push_two(out, value % 100);
 }
 
+/// Appends a number below 1,000,000 in six digits.
+#[inline(always)]
+fn push_six<const CAP: usize>(out: &mut ArrayString<CAP>, value: u64)
+    requires value { value < 1_000_000 }
+    requires room { array_string_len out.old + 6 ≤ CAP }
+    ensures bytes { out.new.bytes ≡ out.old.bytes ++ padded_digits 6 value }
+    ensures len { array_string_len out.new ≡ array_string_len out.old + 6 }
+{
+    push_four(out, value / 100);
+    push_two(out, value % 100);
+}
+
 /// Appends the decimal digits of the value with leading zeros to at least `width` digits, `width` at most 20: 7 in width 2 is `07`.
 #[inline(always)] // nearly all widths are constants
 pub fn push_padded<const CAP: usize>(out: &mut ArrayString<CAP>, value: u64, width: usize)
@@ -87,12 +154,16 @@ pub fn push_padded<const CAP: usize>(out: &mut ArrayString<CAP>, value: u64, wid
     ensures len { array_string_len out.new
         ≡ array_string_len out.old + max width (length (decimal value)) }
 {
-    if width == 2 && value < 100 {
-        push_two(out, value);
+    if width < 2 {
+        push_num(out, value);
+    } else if width == 2 {
+        push_at_least_two(out, value);
     } else if width == 3 && value < 1000 {
         push_three(out, value);
     } else if width == 4 && value < 10_000 {
         push_four(out, value);
+    } else if width == 6 && value < 1_000_000 {
+        push_six(out, value);
     } else {
         push_filled(out, value, width);
     }
@@ -130,9 +201,9 @@ fn without_zeros(value: u64, width: usize) -> (u64, usize)
     (left, places)
 }
 
-/// Appends the decimal digits of the value as `push_padded` does, without the zeros at their end: 250 in width 6 is `00025`, and
-/// of 0 nothing is left.
-pub fn push_trimmed<const CAP: usize>(out: &mut ArrayString<CAP>, value: u64, width: usize)
+/// The same of a number that ends in a zero.
+#[inline(never)]
+fn push_shortened<const CAP: usize>(out: &mut ArrayString<CAP>, value: u64, width: usize)
     requires width { width ≤ 20 }
     requires room { array_string_len out.old + max width (length (decimal value)) ≤ CAP }
     ensures bytes { out.new.bytes ≡ out.old.bytes ++ trimmed_digits (padded_digits width value) }
@@ -141,6 +212,23 @@ pub fn push_trimmed<const CAP: usize>(out: &mut ArrayString<CAP>, value: u64, wi
 {
     if value != 0 {
         let (left, places) = without_zeros(value, width);
-        push_filled(out, left, places);
+        push_padded(out, left, places);
+    }
+}
+
+/// Appends the decimal digits of the value as `push_padded` does, without the zeros at their end: 250 in width 6 is `00025`, and
+/// of 0 nothing is left.
+#[inline(always)] // nearly all widths are constants, and nine fractions of ten end in no zero
+pub fn push_trimmed<const CAP: usize>(out: &mut ArrayString<CAP>, value: u64, width: usize)
+    requires width { width ≤ 20 }
+    requires room { array_string_len out.old + max width (length (decimal value)) ≤ CAP }
+    ensures bytes { out.new.bytes ≡ out.old.bytes ++ trimmed_digits (padded_digits width value) }
+    ensures len { array_string_len out.new
+        ≤ array_string_len out.old + max width (length (decimal value)) }
+{
+    if value % 10 == 0 {
+        push_shortened(out, value, width);
+    } else {
+        push_padded(out, value, width);
     }
 }
