@@ -1,38 +1,36 @@
 //! A fraction in the next smaller unit, rounded.
-ghost use Rattle.std.specs.Prelude.{◌≡◌, ◌+◌, ◌*◌, ◌/◌, ◌^◌, ◌<◌, ◌≤◌, length};
+ghost use Rattle.std.specs.Prelude.{◌≡◌, ◌+◌, ◌*◌, ◌^◌, ◌<◌, ◌≤◌};
 ghost use Rattle.std.specs.Char.{digit_value};
-ghost use Rattle.scan_core.specs.Digits.{AreDigits, number_of};
+ghost use Rattle.scan_core.specs.Digits.{AreDigits};
 ghost use Rattle.scan_core.specs.Shares.{rounded};
 
+use crate::looked::Looked;
+use crate::looked_digits::looked_fraction;
+use crate::steps::Steps;
+use std::marker::Brand;
+use std::sync::ledger::{Blank, Ledger};
+
 /// The fraction of a unit that the digits behind the point write, in the next smaller unit, of which `scale` make
-/// one, rounded half away from zero: `25` of 60 is 15. The half is added where the last quotient by ten is taken,
-/// at the first digit.
+/// one, rounded half away from zero: `25` of 60 is 15.
 pub(crate) fn rounded_fraction(fraction: &[u8], scale: u64) -> u64
     requires digits { AreDigits fraction.now }
     requires scale { scale ≤ 1_000_000 }
     ensures { result ≡ rounded scale fraction.now }
 {
-    match fraction {
-        [] => 0,
-        [first, rest @ ..] => {
-            let tenths = u64::from(*first - b'0') * scale + cut_fraction(rest, scale);
-            (tenths + 5) / 10
-        }
-    }
+    rounded_alone::<Brand>(fraction, scale, Blank::new(1))
 }
 
-/// The same fraction, cut to the number below it: `29` of 60 is 17. Each digit from the right takes the tenth of
-/// what stands behind it, so that the number of all digits is never formed.
-fn cut_fraction(fraction: &[u8], scale: u64) -> u64
+/// The same with a counter of its own.
+fn rounded_alone<L: Ledger>(fraction: &[u8], scale: u64, blank: Blank) -> u64
+    requires name { blank.name ≡ L.name }
+    requires parts { blank.parts ≡ L.parts }
+    requires some { 0 < L.parts }
     requires digits { AreDigits fraction.now }
     requires scale { scale ≤ 1_000_000 }
-    ensures { result ≡ number_of fraction.now * scale / 10 ^ length fraction.now }
+    ensures { result ≡ rounded scale fraction.now }
 {
-    let mut carry = 0;
-    for digit in fraction.iter().rev() {
-        carry = (u64::from(*digit - b'0') * scale + carry) / 10;
-    }
-    carry
+    let text = Looked::of_bytes(fraction);
+    looked_fraction(&text, 0, text.len(), scale, &mut Steps::<L>::new(blank))
 }
 
 /// A digit in the next smaller unit, before the quotient by ten, with the carry of the digits behind it.
