@@ -81,7 +81,7 @@ fn push_digit<const CAP: usize>(out: &mut ArrayString<CAP>, value: u64)
 
 /// Appends a number below 100 in two digits: 7 is `07`.
 ///
-/// Fields of dates and clocks are so narrow that `itoa`, which writes no leading zeros, costs several times as much as the digits.
+/// Fields of dates and clocks have leading zeros, which `itoa` doesn't write.
 #[inline(always)]
 pub fn push_two<const CAP: usize>(out: &mut ArrayString<CAP>, value: u64)
     requires value { value < 100 }
