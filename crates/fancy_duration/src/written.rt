@@ -35,18 +35,53 @@ fn push_seconds<const CAP: usize>(out: &mut ArrayString<CAP>, secs: u64)
     ensures bytes { out.new.bytes ≡ out.old.bytes ++ counts_behind seconds_of false long_parts secs }
     ensures len { array_string_len out.new ≤ array_string_len out.old + 51 }
 {
-    let begun = push_count(out, false, secs / DurationPart::Years.seconds(), DurationPart::Years);
+    let begun = push_count(
+        out,
+        false,
+        secs / DurationPart::Years.seconds(),
+        DurationPart::Years,
+    );
     let left = secs % DurationPart::Years.seconds();
-    let begun = push_small(out, begun, left / DurationPart::Months.seconds(), DurationPart::Months);
+    let begun = push_small(
+        out,
+        begun,
+        left / DurationPart::Months.seconds(),
+        DurationPart::Months,
+    );
     let left = left % DurationPart::Months.seconds();
-    let begun = push_small(out, begun, left / DurationPart::Weeks.seconds(), DurationPart::Weeks);
+    let begun = push_small(
+        out,
+        begun,
+        left / DurationPart::Weeks.seconds(),
+        DurationPart::Weeks,
+    );
     let left = left % DurationPart::Weeks.seconds();
-    let begun = push_small(out, begun, left / DurationPart::Days.seconds(), DurationPart::Days);
+    let begun = push_small(
+        out,
+        begun,
+        left / DurationPart::Days.seconds(),
+        DurationPart::Days,
+    );
     let left = left % DurationPart::Days.seconds();
-    let begun = push_small(out, begun, left / DurationPart::Hours.seconds(), DurationPart::Hours);
+    let begun = push_small(
+        out,
+        begun,
+        left / DurationPart::Hours.seconds(),
+        DurationPart::Hours,
+    );
     let left = left % DurationPart::Hours.seconds();
-    let begun = push_small(out, begun, left / DurationPart::Minutes.seconds(), DurationPart::Minutes);
-    push_small(out, begun, left % DurationPart::Minutes.seconds(), DurationPart::Seconds);
+    let begun = push_small(
+        out,
+        begun,
+        left / DurationPart::Minutes.seconds(),
+        DurationPart::Minutes,
+    );
+    push_small(
+        out,
+        begun,
+        left % DurationPart::Minutes.seconds(),
+        DurationPart::Seconds,
+    );
 }
 
 /// Appends the counts of milliseconds down to nanoseconds that are above 0, behind a space where a count stands before them.
@@ -57,7 +92,12 @@ fn push_nanos<const CAP: usize>(out: &mut ArrayString<CAP>, begun: bool, nanos: 
     ensures len { array_string_len out.new ≤ array_string_len out.old + 18 }
 {
     let begun = push_small(out, begun, nanos / 1_000_000, DurationPart::Milliseconds);
-    let begun = push_small(out, begun, nanos % 1_000_000 / 1_000, DurationPart::Microseconds);
+    let begun = push_small(
+        out,
+        begun,
+        nanos % 1_000_000 / 1_000,
+        DurationPart::Microseconds,
+    );
     push_small(out, begun, nanos % 1_000, DurationPart::Nanoseconds);
 }
 

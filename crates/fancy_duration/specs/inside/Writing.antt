@@ -1,10 +1,28 @@
--- What the loops over the ten parts have still to sum and to write.
-use Rattle.std.specs.Prelude.{ℕ, ◌/◌, ◌%◌, ◌||◌, not, Bool, List, [], ◌∷◌, ◌++◌, filter, decimal, ◌==◌, if◌then◌else◌}
-use Rattle.std.specs.List.{list_any}
+-- What the loops over the ten parts have still to sum, and what the writers put.
+use Rattle.std.specs.Prelude.{ℕ, ◌/◌, ◌%◌, ◌^◌, ◌||◌, ◌&&◌, not, nat_lt, Bool, true, List, [], ◌∷◌, ◌++◌, filter, map, codes, decimal, ◌==◌, if◌then◌else◌}
+use Rattle.std.specs.List.{join_with_byte, list_any}
 use Rattle.fancy_duration.specs.declared.part.DurationPart.{DurationPart}
 use Rattle.fancy_duration.specs.declared.part.DurationPart.TheVariants.{Years, Months, Weeks, Days, Hours, Minutes, Seconds, Milliseconds, Microseconds, Nanoseconds}
 use Rattle.fancy_duration.specs.Parts.{unit_of, weight_of, is_part}
-use Rattle.fancy_duration.specs.Breakdown.{counts_of, nanos_in}
+use Rattle.fancy_duration.specs.Breakdown.{PartCount, breakdown, counts_of, nanos_in}
+
+-- a count and its unit
+abbrev pub piece : PartCount → List ℕ
+piece c = decimal c.count ++ unit_of c.part
+
+-- the counts above 0
+abbrev pub above_zero : List PartCount → List PartCount
+above_zero counts = filter (λ c. nat_lt 0 c.count) counts
+
+-- the written text by the counts of the ten parts
+unfoldable pub length_steps : ℕ → List ℕ
+length_steps nanos =
+    if nanos == 0 then codes "0" else join_with_byte 32 (map piece (above_zero (breakdown nanos)))
+
+-- each count is in 64 bits
+abbrev pub counts_fit : List PartCount → Bool
+counts_fit [] = true
+counts_fit (c ∷ counts) = nat_lt c.count (2 ^ 64) && counts_fit counts
 
 -- the nanoseconds of the kept parts among these
 unfoldable pub kept_in : List DurationPart → List DurationPart → ℕ → ℕ
