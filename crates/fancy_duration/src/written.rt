@@ -8,7 +8,7 @@ ghost use Rattle.fancy_duration.specs.Times.{nanos_of};
 ghost use Rattle.fancy_duration.specs.Written.{length_text};
 ghost use Rattle.fancy_duration.specs.inside.Writing.{count_behind, counts_behind, long_parts, seconds_of, short_parts};
 
-use crate::DurationPart;
+use crate::DurationPart as Part;
 use arrayvec::ArrayString;
 use scan_core::{push_num, push_text};
 use std::alloc::{AllocError, Global};
@@ -35,53 +35,18 @@ fn push_seconds<const CAP: usize>(out: &mut ArrayString<CAP>, secs: u64)
     ensures bytes { out.new.bytes ≡ out.old.bytes ++ counts_behind seconds_of false long_parts secs }
     ensures len { array_string_len out.new ≤ array_string_len out.old + 51 }
 {
-    let begun = push_count(
-        out,
-        false,
-        secs / DurationPart::Years.seconds(),
-        DurationPart::Years,
-    );
-    let left = secs % DurationPart::Years.seconds();
-    let begun = push_small(
-        out,
-        begun,
-        left / DurationPart::Months.seconds(),
-        DurationPart::Months,
-    );
-    let left = left % DurationPart::Months.seconds();
-    let begun = push_small(
-        out,
-        begun,
-        left / DurationPart::Weeks.seconds(),
-        DurationPart::Weeks,
-    );
-    let left = left % DurationPart::Weeks.seconds();
-    let begun = push_small(
-        out,
-        begun,
-        left / DurationPart::Days.seconds(),
-        DurationPart::Days,
-    );
-    let left = left % DurationPart::Days.seconds();
-    let begun = push_small(
-        out,
-        begun,
-        left / DurationPart::Hours.seconds(),
-        DurationPart::Hours,
-    );
-    let left = left % DurationPart::Hours.seconds();
-    let begun = push_small(
-        out,
-        begun,
-        left / DurationPart::Minutes.seconds(),
-        DurationPart::Minutes,
-    );
-    push_small(
-        out,
-        begun,
-        left % DurationPart::Minutes.seconds(),
-        DurationPart::Seconds,
-    );
+    let begun = push_count(out, false, secs / Part::Years.seconds(), Part::Years);
+    let left = secs % Part::Years.seconds();
+    let begun = push_small(out, begun, left / Part::Months.seconds(), Part::Months);
+    let left = left % Part::Months.seconds();
+    let begun = push_small(out, begun, left / Part::Weeks.seconds(), Part::Weeks);
+    let left = left % Part::Weeks.seconds();
+    let begun = push_small(out, begun, left / Part::Days.seconds(), Part::Days);
+    let left = left % Part::Days.seconds();
+    let begun = push_small(out, begun, left / Part::Hours.seconds(), Part::Hours);
+    let left = left % Part::Hours.seconds();
+    let begun = push_small(out, begun, left / Part::Minutes.seconds(), Part::Minutes);
+    push_small(out, begun, left % Part::Minutes.seconds(), Part::Seconds);
 }
 
 /// Appends the counts of milliseconds down to nanoseconds that are above 0, behind a space where a count stands before them.
@@ -91,14 +56,9 @@ fn push_nanos<const CAP: usize>(out: &mut ArrayString<CAP>, begun: bool, nanos: 
     ensures bytes { out.new.bytes ≡ out.old.bytes ++ counts_behind weight_of begun short_parts nanos }
     ensures len { array_string_len out.new ≤ array_string_len out.old + 18 }
 {
-    let begun = push_small(out, begun, nanos / 1_000_000, DurationPart::Milliseconds);
-    let begun = push_small(
-        out,
-        begun,
-        nanos % 1_000_000 / 1_000,
-        DurationPart::Microseconds,
-    );
-    push_small(out, begun, nanos % 1_000, DurationPart::Nanoseconds);
+    let begun = push_small(out, begun, nanos / 1_000_000, Part::Milliseconds);
+    let begun = push_small(out, begun, nanos % 1_000_000 / 1_000, Part::Microseconds);
+    push_small(out, begun, nanos % 1_000, Part::Nanoseconds);
 }
 
 /// Appends a count below 1000 as [`push_count`] does.
@@ -108,7 +68,7 @@ fn push_small<const CAP: usize>(
     out: &mut ArrayString<CAP>,
     begun: bool,
     count: u64,
-    part: DurationPart,
+    part: Part,
 ) -> bool
     requires small { count < 1_000 }
     requires room { array_string_len out.old + 6 ≤ CAP }
@@ -125,7 +85,7 @@ fn push_count<const CAP: usize>(
     out: &mut ArrayString<CAP>,
     begun: bool,
     count: u64,
-    part: DurationPart,
+    part: Part,
 ) -> bool
     requires room { array_string_len out.old + (length (decimal count) + 3) ≤ CAP }
     ensures bytes { out.new.bytes ≡ out.old.bytes ++ count_behind begun count part }
