@@ -14,8 +14,6 @@ min_digits (d ∷ ds) n m =
     same_push n m d = omega arith
 
 -- one more digit at a held number
-pub min_digit : (d n next m : ℕ) (ds : List ℕ) → next ≡ min (min (n * 10) m + digit_value d) m
+pub min_digit : (d n next m : ℕ) (ds : List ℕ) → next ≡ min (n * 10 + digit_value d) m
     → min (digits_value_after 10 next ds) m ≡ min (digits_value_after 10 n (d ∷ ds)) m
-min_digit d n next m ds e =
-    let same : next ≡ min (n * 10 + digit_value d) m = omega arith in
-    rw same (min_digits ds (n * 10 + digit_value d) m)
+min_digit d n next m ds e = rw e (min_digits ds (n * 10 + digit_value d) m)

@@ -1,5 +1,5 @@
 //! The items of a text, from left to right, and their sum.
-ghost use Rattle.std.specs.Prelude.{◌≡◌, ◌≢◌, ℕ, ◌<◌, [], ◌∷◌, length};
+ghost use Rattle.std.specs.Prelude.{◌≡◌, ◌≢◌, ℕ, ◌+◌, ◌*◌, ◌<◌, [], ◌∷◌, length};
 ghost use Rattle.std.specs.Prelude.{IfOk, IfSome, IfNone, IsErrOf, ◌↔◌};
 ghost use Rattle.std.specs.Char.{is_ascii_digit as is_digit};
 ghost use Rattle.scan_core.specs.Digits.{number_of};
@@ -66,7 +66,7 @@ fn next_item(text: &[u8]) -> Option<(u128, &[u8], &[u8])>
 }
 
 /// The number that the digits at a text's front write, as `u128` holds it or `u128::MAX`, and what follows them.
-pub(crate) fn split_number(text: &[u8]) -> (u128, &[u8])
+fn split_number(text: &[u8]) -> (u128, &[u8])
     ensures number { result.0 ≡ capped (number_of (leading is_digit text.now)) }
     ensures rest { result.1.now ≡ behind is_digit text.now }
 {
@@ -76,12 +76,24 @@ pub(crate) fn split_number(text: &[u8]) -> (u128, &[u8])
         if !first.is_ascii_digit() {
             break;
         }
-        number = number
-            .saturating_mul(10)
-            .saturating_add(u128::from(*first - b'0'));
+        number = with_digit(number, *first - b'0');
         rest = tail;
     }
     (number, rest)
+}
+
+/// A number with one more digit, as `u128` holds it or `u128::MAX`.
+#[inline(always)]
+fn with_digit(number: u128, digit: u8) -> u128
+    requires { digit < 10 }
+    ensures { result ≡ capped (number * 10 + digit) }
+{
+    // Nearly all numbers are far below the bound, and a product that is tested costs several times as much.
+    if number < u128::MAX / 10 {
+        number * 10 + u128::from(digit)
+    } else {
+        number.saturating_mul(10).saturating_add(u128::from(digit))
+    }
 }
 
 /// The one or two letters at a text's front, or none, and what follows them.

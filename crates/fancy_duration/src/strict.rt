@@ -6,8 +6,8 @@ ghost use Rattle.scan_core.specs.Fronts.{behind};
 ghost use Rattle.fancy_duration.specs.inside.Reading.{HasCounts};
 
 use crate::DurationPart;
-use crate::read::{split_number, split_unit};
-use scan_core::is_blank;
+use crate::read::split_unit;
+use scan_core::{is_blank, split_digits};
 
 /// True exactly for the strict texts.
 pub(crate) fn is_strict(text: &str) -> bool
@@ -36,7 +36,7 @@ fn strip_count(text: &[u8]) -> Option<&[u8]>
     ensures shorter { IfSome result (λ rest. length rest.now < length text.now) }
     ensures none { IfNone result (HasCounts text.now → text.now ≡ []) }
 {
-    let (_, behind) = split_number(text);
+    let (_, behind) = split_digits(text);
     if behind.len() == text.len() {
         return None;
     }

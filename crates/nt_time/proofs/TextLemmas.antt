@@ -47,7 +47,7 @@ numeral_of_text text n has =
     let e = digits_of_text text has.0 has.1 has.3 in
     rw e (has.1, has.2)
 
-text_of_numeral : (text : List ℕ) → IsNumeral 10 (without_leading_plus text)
+pub text_of_numeral : (text : List ℕ) → IsNumeral 10 (without_leading_plus text)
     → IsTextOf text (digits_value 10 (without_leading_plus text))
 text_of_numeral [] has = absurd (omega arith)
 text_of_numeral (c ∷ cs) has = ⊎_elim

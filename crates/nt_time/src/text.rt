@@ -1,7 +1,7 @@
 //! File times as texts: the raw count in decimal.
-ghost use Rattle.std.specs.Prelude.{◌≡◌, ◌↔◌, Some, decimal, IsTrue};
+ghost use Rattle.std.specs.Prelude.{◌≡◌, ◌↔◌, ℕ, ◌^◌, ◌<◌, Some, decimal, IsTrue};
 ghost use Rattle.std.specs.Str.Parse.{IsNumeral, without_leading_plus};
-ghost use Rattle.nt_time.specs.Text.{IsReadFrom};
+ghost use Rattle.nt_time.specs.Text.{IsTextOf, IsReadFrom};
 
 use crate::FileTime;
 use crate::error::{ParseFileTimeCause, ParseFileTimeError};
@@ -29,17 +29,25 @@ impl FromStr for FileTime {
     ghost from_str_gives = { IsReadFrom };
 
     fn from_str(src: &str) -> Result<FileTime, ParseFileTimeError> {
-        if src.is_empty() {
-            return Err(ParseFileTimeError::new(ParseFileTimeCause::Empty));
-        }
-        // A bad digit behind too many digits is a bad digit: the size comes last.
-        if !is_number(src.as_bytes()) {
-            return Err(ParseFileTimeError::new(ParseFileTimeCause::InvalidDigit));
-        }
         match src.parse::<u64>() {
             Ok(raw) => Ok(FileTime::new(raw)),
-            Err(_) => Err(ParseFileTimeError::new(ParseFileTimeCause::Overflow)),
+            Err(_) => Err(ParseFileTimeError::new(cause_of(src))),
         }
+    }
+}
+
+/// Why a text is no raw count of 64 bits.
+fn cause_of(text: &str) -> ParseFileTimeCause
+    requires { ¬ ((n : ℕ) × IsTextOf text.now n × (n < 2 ^ 64)) }
+    ensures { IsReadFrom text.now (Err result) }
+{
+    if text.is_empty() {
+        ParseFileTimeCause::Empty
+    } else if is_number(text.as_bytes()) {
+        ParseFileTimeCause::Overflow
+    } else {
+        // A bad digit behind too many digits is a bad digit: the size comes last.
+        ParseFileTimeCause::InvalidDigit
     }
 }
 
