@@ -21,7 +21,8 @@ pub(crate) enum Misread {
 }
 
 /// The tally of the counts of all items in front, up to the end; each count is turned first where `turned`.
-#[inline(always)]
+// one copy for both styles: of two, neither would have its items and their tally inlined, and so in registers
+#[inline(never)]
 pub(crate) fn tally_items<L: Ledger>(
     names: NameSet,
     turned: bool,
