@@ -320,42 +320,6 @@ impl Counted {
         self.take_whole(names, turned, negative, whole, scan, steps)
     }
 
-    /// Counts the item in front: a sign and digits begin both kinds, and a colon behind them tells a clock.
-    #[inline(always)]
-    fn take_ahead<L: Ledger>(
-        &mut self,
-        names: NameSet,
-        turned: bool,
-        scan: &mut Scan<'_>,
-        steps: &mut Steps<L>,
-    ) -> Step
-        requires room { self.old.tally.totals.adds + length (ahead scan.old) < 2 ^ 63 }
-        ensures room { LeavesRoom (self.old.tally.totals.adds + length (ahead scan.old))
-            (self.new.tally.totals.adds + length (ahead scan.new)) result }
-        ensures step { (counts : List Count) → IsCounted self.old (turned_counts turned counts)
-            → IsStep (names_in names) turned scan.new.text (ahead scan.old) (ahead scan.new)
-            counts self.new result }
-        ensures same { scan.new.text ≡ scan.old.text }
-        ensures spends { Spends steps.old (ahead scan.old) steps.new (ahead scan.new) }
-    {
-        let negative = sign(true, scan, steps);
-        let whole = scan.digits(steps);
-        if !scan.next_if(b':', steps) {
-            return self.take_named(names, turned, negative, whole, scan, steps);
-        }
-        match clock_behind(negative, whole, scan, steps) {
-            Some(clock) => {
-                let negative = turn(turned, clock.negative);
-                if self.count_clock(scan.text(), Clock { negative, ..clock }, steps) {
-                    Step::Taken
-                } else {
-                    Step::NoItem
-                }
-            }
-            None => Step::NoItem,
-        }
-    }
-
     /// Counts the item in front, which is passed, with the style's names; each count is turned first where `turned`.
     #[inline(always)]
     pub(crate) fn take_item<L: Ledger>(
@@ -374,10 +338,22 @@ impl Counted {
         ensures same { scan.new.text ≡ scan.old.text }
         ensures spends { Spends steps.old (ahead scan.old) steps.new (ahead scan.new) }
     {
-        // scanned on a copy, whose place stays in registers from byte to byte
-        let mut here = scan.here();
-        let step = self.take_ahead(names, turned, &mut here, steps);
-        *scan = here;
-        step
+        // a sign and digits begin both kinds, and a colon behind them tells a clock
+        let negative = sign(true, scan, steps);
+        let whole = scan.digits(steps);
+        if !scan.next_if(b':', steps) {
+            return self.take_named(names, turned, negative, whole, scan, steps);
+        }
+        match clock_behind(negative, whole, scan, steps) {
+            Some(clock) => {
+                let negative = turn(turned, clock.negative);
+                if self.count_clock(scan.text(), Clock { negative, ..clock }, steps) {
+                    Step::Taken
+                } else {
+                    Step::NoItem
+                }
+            }
+            None => Step::NoItem,
+        }
     }
 }

@@ -1,4 +1,4 @@
--- Answers to the goals of `counted::Counted::take_ahead`.
+-- Answers to the goals of `counted::Counted::take_item`.
 use Rattle.std.proofs.Common.{◌≢◌, List, Some, ◌++◌, ap, arith, inl, inr, refl, subst, sym, ◌∙◌}
 use Rattle.scan_core.specs.Count.{Count}
 use Rattle.scan_core.specs.Runs.{digits_of}
@@ -11,7 +11,7 @@ use Rattle.pg_interval_2.specs.Turned.{turned_counts}
 use Rattle.pg_interval_2.proofs.CountedFacts.{clock_long, turned_has}
 use Rattle.pg_interval_2.proofs.NamedSteps.{item_clock, item_named}
 use Rattle.pg_interval_2.proofs.Turning.{clock-turned, distinct-turned, turned-append, turned_fields}
-use Rattle.pg_interval_2.proofs.counted.Counted.take_ahead.Goals as goal
+use Rattle.pg_interval_2.proofs.counted.Counted.take_item.Goals as goal
 
 pub returns-then-not-next_if-clause-step : goal.returns-then-not-next_if-clause-step
 returns-then-not-next_if-clause-step g c =
