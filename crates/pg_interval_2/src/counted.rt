@@ -321,9 +321,8 @@ impl Counted {
     }
 
     /// Counts the clock whose hours stand before the colon that the scan has passed, and answers whether it did.
-    // out of line, as few items are a clock: no other sets up places for its fields
-    #[inline(never)]
-    fn take_clock<L: Ledger>(
+    #[inline(always)]
+    fn count_ahead<L: Ledger>(
         &mut self,
         turned: bool,
         negative: bool,
@@ -350,6 +349,35 @@ impl Counted {
             }
             None => false,
         }
+    }
+
+    /// The same on a copy of the scan, whose place stays in registers from byte to byte.
+    // out of line, as few items are a clock: no other sets up places for its fields
+    #[inline(never)]
+    fn take_clock<L: Ledger>(
+        &mut self,
+        turned: bool,
+        negative: bool,
+        hours: Run,
+        scan: &mut Scan<'_>,
+        steps: &mut Steps<L>,
+    ) -> bool
+        requires hours { IsRun scan.old.text hours }
+        requires room { self.old.tally.totals.adds + length (ahead scan.old) < 2 ^ 63 }
+        ensures room { result ≡ true → self.new.tally.totals.adds + length (ahead scan.new)
+            ≤ self.old.tally.totals.adds + length (ahead scan.old) }
+        ensures step { (names : NameSetValue) (counts : List Count)
+            → IsCounted self.old (turned_counts turned counts)
+            → IsItemStep (names_in names) turned scan.new.text
+            (read_clock negative (digits_of scan.old.text hours) (ahead scan.old))
+            (ahead scan.new) counts self.new (clock_step result) }
+        ensures same { scan.new.text ≡ scan.old.text }
+        ensures spends { Spends steps.old (ahead scan.old) steps.new (ahead scan.new) }
+    {
+        let mut here = scan.here();
+        let taken = self.count_ahead(turned, negative, hours, &mut here, steps);
+        *scan = here;
+        taken
     }
 
     /// Counts the item in front, which is passed, with the style's names; each count is turned first where `turned`.

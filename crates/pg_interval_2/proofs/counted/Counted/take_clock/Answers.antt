@@ -1,16 +1,15 @@
 -- Answers to the goals of `counted::Counted::take_clock`.
-use Rattle.scan_core.specs.Scanning.{ahead}
+use Rattle.std.proofs.Common.{subst}
+use Rattle.scan_core.specs.Runs.{digits_of}
+use Rattle.scan_core.specs.Scanning.{Place, ahead}
+use Rattle.pg_interval_2.specs.inside.CountedItems.{IsItemStep, clock_step}
+use Rattle.pg_interval_2.specs.inside.ItemReading.{read_clock}
 use Rattle.pg_interval_2.specs.inside.NameSets.{names_in}
-use Rattle.pg_interval_2.specs.Turned.{turned_counts}
-use Rattle.pg_interval_2.proofs.CountedFacts.{turned_has}
-use Rattle.pg_interval_2.proofs.Turning.{turned_fields}
-use Rattle.pg_interval_2.proofs.TurnedClocks.{clock_counted}
 use Rattle.pg_interval_2.proofs.counted.Counted.take_clock.Goals as goal
 
-pub returns-in-Some-clause-step : goal.returns-in-Some-clause-step
-returns-in-Some-clause-step g c =
+pub returns-clause-step : goal.returns-clause-step
+returns-clause-step g c =
     λ names counts h.
-    let read = c.in-Some.ensures.read in
-    let has = turned_has c.args.turned c.clock_behind.new.scan.text c.text.result.now c.in-Some.clock read.0 c.turn-negative.result c.text.ensures c.turn-negative.ensures read.2 in
-    clock_counted (names_in names) c.args.turned c.clock_behind.new.scan.text (ahead c.clock_behind.new.scan) _ read.0 counts c.count_clock.new.self c.count_clock.result read.1
-    (c.count_clock.ensures.counted (turned_fields c.args.turned read.0) has (turned_counts c.args.turned counts) h)
+    let taken = c.count_ahead-taken in
+    subst (λ (p : Place). IsItemStep (names_in names) c.args.turned taken.new.scan.text (read_clock c.args.negative (digits_of p.text c.args.hours) (ahead p)) (ahead taken.new.scan) counts taken.new.self (clock_step taken.result)) c.here-here.ensures
+    (taken.ensures.step names counts h)
