@@ -44,6 +44,7 @@ pub mod SqlSpelled
 pub mod SqlReadBack
 pub mod SqlFound
 pub mod SqlShape
+pub mod TurnedClocks
 pub mod Turning
 pub mod UnitWords
 pub mod ClockFacts

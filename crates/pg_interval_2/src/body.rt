@@ -21,8 +21,31 @@ pub(crate) enum Misread {
 }
 
 /// The tally of the counts of all items in front, up to the end; each count is turned first where `turned`.
-#[inline(always)]
+// one copy for both styles: of two, neither would have its items and their tally inlined, and so in registers
+#[inline(never)]
 pub(crate) fn tally_items<L: Ledger>(
+    names: NameSet,
+    turned: bool,
+    scan: &mut Scan<'_>,
+    steps: &mut Steps<L>,
+) -> Result<Tally, Misread>
+    requires { length scan.old.text < 2 ^ 63 }
+    ensures ok { IfOk result (IsItemsTally (names_in names) turned (ahead scan.old)) }
+    ensures err { IfErr result (IsMisread (names_in names) scan.old.at (ahead scan.old)) }
+    ensures done { IfOk result (λ _. ahead scan.new ≡ []) }
+    ensures same { scan.new.text ≡ scan.old.text }
+    ensures spends { Spends steps.old (ahead scan.old) steps.new (ahead scan.new) }
+{
+    // scanned on a copy, whose place stays in registers from item to item
+    let mut here = scan.here();
+    let tally = tally_ahead(names, turned, &mut here, steps);
+    *scan = here;
+    tally
+}
+
+/// The same on a scan of the caller's own.
+#[inline(always)]
+fn tally_ahead<L: Ledger>(
     names: NameSet,
     turned: bool,
     scan: &mut Scan<'_>,

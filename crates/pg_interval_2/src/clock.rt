@@ -59,6 +59,7 @@ pub(crate) fn clock_behind<L: Ledger>(
     ensures shorter { IfSome result (λ clock.
         (clock.fraction.end - clock.fraction.start) + length (ahead scan.new)
         ≤ length (ahead scan.old)) }
+    ensures long { IfSome result (λ _. length (ahead scan.new) + 3 ≤ length (ahead scan.old)) }
     ensures ticks { steps.new + unseen (ahead scan.new) ≡ steps.old + unseen (ahead scan.old) }
 {
     let minutes = scan.digits(steps);

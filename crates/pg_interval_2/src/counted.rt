@@ -1,13 +1,14 @@
 //! The tally of items in which no unit may be counted twice.
-ghost use Rattle.std.specs.Prelude.{◌≡◌, ◌≢◌, ◌+◌, ◌-◌, ◌<◌, ◌≤◌, ◌^◌, ◌==◌, ◌&&◌, [], List, ℕ, Some, length};
+ghost use Rattle.std.specs.Prelude.{◌≡◌, ◌≢◌, ◌+◌, ◌-◌, ◌<◌, ◌≤◌, ◌^◌, ◌==◌, ◌&&◌, true, [], List, ℕ, Some, length};
 ghost use Rattle.scan_core.specs.Count.{Count};
 ghost use Rattle.scan_core.specs.Digits.{number_of};
 ghost use Rattle.scan_core.specs.Runs.{IsRun, IsWord, digits_of, letters_of};
 ghost use Rattle.scan_core.specs.Scanning.{Spends, ahead, front_byte};
-ghost use Rattle.pg_interval_2.specs.inside.CountedItems.{CountsAll, CountsNamed, CountsOne, CountsPerhaps, IsCounted, IsItemStep, IsStep, LeavesRoom};
-ghost use Rattle.pg_interval_2.specs.inside.ItemReading.{ClockFields, clock_of, read_named};
+ghost use Rattle.pg_interval_2.specs.inside.CountedItems.{CountsAll, CountsNamed, CountsOne, CountsPerhaps, IsCounted, IsItemStep, IsStep, LeavesRoom, clock_step};
+ghost use Rattle.pg_interval_2.specs.inside.ItemReading.{ClockFields, clock_of, read_clock, read_named};
 ghost use Rattle.pg_interval_2.specs.inside.ItemViews.{AreClockRuns, HasFields};
 ghost use Rattle.pg_interval_2.specs.inside.NamedUnits.{unit_named};
+ghost use Rattle.pg_interval_2.specs.declared.unit_names.NameSet.{NameSet as NameSetValue};
 ghost use Rattle.pg_interval_2.specs.inside.NameSets.{names_in};
 ghost use Rattle.pg_interval_2.specs.inside.Reading.{IsDecimal, count_with, numeral_in};
 ghost use Rattle.pg_interval_2.specs.Turned.{turned_counts};
@@ -130,8 +131,7 @@ impl Counted {
     }
 
     /// Counts a clock's fields that aren't 0, and answers false where the unit of one was counted before.
-    // out of line for the same reason as `count_decimal`
-    #[inline(never)]
+    #[inline(always)]
     fn count_clock<L: Ledger>(
         &mut self,
         text: &Looked<'_>,
@@ -320,40 +320,64 @@ impl Counted {
         self.take_whole(names, turned, negative, whole, scan, steps)
     }
 
-    /// Counts the item in front: a sign and digits begin both kinds, and a colon behind them tells a clock.
+    /// Counts the clock whose hours stand before the colon that the scan has passed, and answers whether it did.
     #[inline(always)]
-    fn take_ahead<L: Ledger>(
+    fn count_ahead<L: Ledger>(
         &mut self,
-        names: NameSet,
         turned: bool,
+        negative: bool,
+        hours: Run,
         scan: &mut Scan<'_>,
         steps: &mut Steps<L>,
-    ) -> Step
+    ) -> bool
+        requires hours { IsRun scan.old.text hours }
         requires room { self.old.tally.totals.adds + length (ahead scan.old) < 2 ^ 63 }
-        ensures room { LeavesRoom (self.old.tally.totals.adds + length (ahead scan.old))
-            (self.new.tally.totals.adds + length (ahead scan.new)) result }
-        ensures step { (counts : List Count) → IsCounted self.old (turned_counts turned counts)
-            → IsStep (names_in names) turned scan.new.text (ahead scan.old) (ahead scan.new)
-            counts self.new result }
+        ensures room { result ≡ true → self.new.tally.totals.adds + length (ahead scan.new)
+            ≤ self.old.tally.totals.adds + length (ahead scan.old) }
+        ensures step { (names : NameSetValue) (counts : List Count)
+            → IsCounted self.old (turned_counts turned counts)
+            → IsItemStep (names_in names) turned scan.new.text
+            (read_clock negative (digits_of scan.old.text hours) (ahead scan.old))
+            (ahead scan.new) counts self.new (clock_step result) }
         ensures same { scan.new.text ≡ scan.old.text }
         ensures spends { Spends steps.old (ahead scan.old) steps.new (ahead scan.new) }
     {
-        let negative = sign(true, scan, steps);
-        let whole = scan.digits(steps);
-        if !scan.next_if(b':', steps) {
-            return self.take_named(names, turned, negative, whole, scan, steps);
-        }
-        match clock_behind(negative, whole, scan, steps) {
+        match clock_behind(negative, hours, scan, steps) {
             Some(clock) => {
                 let negative = turn(turned, clock.negative);
-                if self.count_clock(scan.text(), Clock { negative, ..clock }, steps) {
-                    Step::Taken
-                } else {
-                    Step::NoItem
-                }
+                self.count_clock(scan.text(), Clock { negative, ..clock }, steps)
             }
-            None => Step::NoItem,
+            None => false,
         }
+    }
+
+    /// The same on a copy of the scan, whose place stays in registers from byte to byte.
+    // out of line, as few items are a clock: no other sets up places for its fields
+    #[inline(never)]
+    fn take_clock<L: Ledger>(
+        &mut self,
+        turned: bool,
+        negative: bool,
+        hours: Run,
+        scan: &mut Scan<'_>,
+        steps: &mut Steps<L>,
+    ) -> bool
+        requires hours { IsRun scan.old.text hours }
+        requires room { self.old.tally.totals.adds + length (ahead scan.old) < 2 ^ 63 }
+        ensures room { result ≡ true → self.new.tally.totals.adds + length (ahead scan.new)
+            ≤ self.old.tally.totals.adds + length (ahead scan.old) }
+        ensures step { (names : NameSetValue) (counts : List Count)
+            → IsCounted self.old (turned_counts turned counts)
+            → IsItemStep (names_in names) turned scan.new.text
+            (read_clock negative (digits_of scan.old.text hours) (ahead scan.old))
+            (ahead scan.new) counts self.new (clock_step result) }
+        ensures same { scan.new.text ≡ scan.old.text }
+        ensures spends { Spends steps.old (ahead scan.old) steps.new (ahead scan.new) }
+    {
+        let mut here = scan.here();
+        let taken = self.count_ahead(turned, negative, hours, &mut here, steps);
+        *scan = here;
+        taken
     }
 
     /// Counts the item in front, which is passed, with the style's names; each count is turned first where `turned`.
@@ -374,10 +398,15 @@ impl Counted {
         ensures same { scan.new.text ≡ scan.old.text }
         ensures spends { Spends steps.old (ahead scan.old) steps.new (ahead scan.new) }
     {
-        // scanned on a copy, whose place stays in registers from byte to byte
-        let mut here = scan.here();
-        let step = self.take_ahead(names, turned, &mut here, steps);
-        *scan = here;
-        step
+        // a sign and digits begin both kinds, and a colon behind them tells a clock
+        let negative = sign(true, scan, steps);
+        let whole = scan.digits(steps);
+        if !scan.next_if(b':', steps) {
+            return self.take_named(names, turned, negative, whole, scan, steps);
+        }
+        let mut behind = scan.here();
+        let taken = self.take_clock(turned, negative, whole, &mut behind, steps);
+        *scan = behind;
+        if taken { Step::Taken } else { Step::NoItem }
     }
 }

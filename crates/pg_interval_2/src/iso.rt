@@ -1,12 +1,13 @@
 //! The ISO style: `P1Y2M3DT4H5M6S`.
-ghost use Rattle.std.specs.Prelude.{◌≡◌, ◌+◌, ◌*◌, ◌-◌, ◌<◌, ◌≤◌, ◌^◌, true, false, None, Some, length, IfSome, IfNone, IfOk, IfErr};
+ghost use Rattle.std.specs.Prelude.{◌≡◌, ◌+◌, ◌*◌, ◌-◌, ◌<◌, ◌≤◌, ◌^◌, ◌||◌, not, true, false, None, Some, length, IfSome, IfNone, IfOk, IfErr};
 ghost use Rattle.scan_core.specs.Scanning.{Spends, ahead, unseen};
 ghost use Rattle.pg_interval_2.specs.Denotes.{Denotes, HasNoShape, NoPlace, Refuses};
 ghost use Rattle.pg_interval_2.specs.Iso.{IsIso, unit_in};
-ghost use Rattle.pg_interval_2.specs.inside.IsoShapes.{IsIsoEither};
+ghost use Rattle.pg_interval_2.specs.inside.IsoShapes.{IsIsoEither, iso_shape, not_in_iso};
 ghost use Rattle.pg_interval_2.specs.inside.IsoTally.{IsSpelled, StopsBehindPairs, TakesPairs, ends_pairs};
 ghost use Rattle.pg_interval_2.specs.Messages.{not_iso};
 ghost use Rattle.pg_interval_2.specs.inside.Reading.{IsDecimal, count_with, numeral_in, read_pair};
+ghost use Rattle.pg_interval_2.specs.inside.Tallies.{IsTallyOf};
 ghost use Rattle.pg_interval_2.specs.declared.style.Style.TheVariants.{Iso};
 ghost use Rattle.pg_interval_2.specs.Styles.{Answers};
 
@@ -116,7 +117,7 @@ fn take_pairs<L: Ledger>(
 
 /// What the text spells, or None exactly where it has no shape.
 #[inline(always)]
-pub(crate) fn spelled<L: Ledger>(text: &Looked<'_>, steps: &mut Steps<L>) -> Option<OrderedTally>
+fn spelled<L: Ledger>(text: &Looked<'_>, steps: &mut Steps<L>) -> Option<OrderedTally>
     ensures some { IfSome result (IsSpelled text.now) }
     ensures none { IfNone result (HasNoShape IsIsoEither text.now) }
     ensures most { steps.new ≤ steps.old + 2 * length text.now }
@@ -156,9 +157,69 @@ pub(crate) fn spelled<L: Ledger>(text: &Looked<'_>, steps: &mut Steps<L>) -> Opt
     }
 }
 
-/// What `Interval::from_iso` answers, with at most two looks a byte, and with one at least where it is Ok.
-// a function of its own: where the style is named, `read_counted` is this call alone
+/// Whether a text in ISO style is in the style: in the strict one only where its units stand in order.
+#[inline(always)]
+fn suits(strict: bool, in_order: bool) -> bool
+    ensures { result ≡ (in_order || not strict) }
+{
+    in_order || !strict
+}
+
+/// The tally of the counts that the text spells, or None exactly where it isn't in the style.
+#[inline(always)]
+fn tally_of<L: Ledger>(strict: bool, text: &Looked<'_>, steps: &mut Steps<L>) -> Option<Tally>
+    ensures some { IfSome result (IsTallyOf (iso_shape strict) text.now) }
+    ensures none { IfNone result (HasNoShape (iso_shape strict) text.now) }
+    ensures most { steps.new ≤ steps.old + 2 * length text.now }
+    ensures least { IfSome result (λ _. steps.old + length text.now ≤ steps.new) }
+{
+    match spelled(text, steps) {
+        Some(spelled) => {
+            if suits(strict, spelled.in_order) {
+                Some(spelled.tally)
+            } else {
+                None
+            }
+        }
+        None => None,
+    }
+}
+
+/// The message of a text that isn't in the style.
+fn not_in(strict: bool) -> &'static str
+    ensures { result.now ≡ not_in_iso strict }
+{
+    if strict {
+        "not a strict iso interval"
+    } else {
+        "not an iso interval"
+    }
+}
+
+/// What `Interval::from_iso` answers, or where `strict` what `Interval::from_iso_strict` does, with at most two looks a byte,
+/// and with one at least where it is Ok.
+// one copy for both styles, with the tally in a place of its own; out of line, so that where the style is named
+// `read_counted` is this call alone
 #[inline(never)]
+pub(crate) fn read_either<L: Ledger>(
+    strict: bool,
+    text: &Looked<'_>,
+    steps: &mut Steps<L>,
+) -> Result<Interval, ParseError>
+    ensures ok { IfOk result (λ t. Denotes (iso_shape strict) text.now t) }
+    ensures err { IfErr result
+        (λ e. Refuses (iso_shape strict) NoPlace (not_in_iso strict) text.now e) }
+    ensures most { steps.new ≤ steps.old + 2 * length text.now }
+    ensures least { IfOk result (λ _. steps.old + length text.now ≤ steps.new) }
+{
+    match tally_of(strict, text, steps) {
+        Some(tally) => tally.answer(),
+        None => Err(ParseError::InvalidInterval(not_in(strict))),
+    }
+}
+
+/// What `Interval::from_iso` answers.
+#[inline(always)]
 pub(crate) fn read_iso<L: Ledger>(
     text: &Looked<'_>,
     steps: &mut Steps<L>,
@@ -168,10 +229,7 @@ pub(crate) fn read_iso<L: Ledger>(
     ensures most { steps.new ≤ steps.old + 2 * length text.now }
     ensures least { IfOk result (λ _. steps.old + length text.now ≤ steps.new) }
 {
-    match spelled(text, steps) {
-        Some(spelled) => spelled.tally.answer(),
-        None => Err(ParseError::InvalidInterval("not an iso interval")),
-    }
+    read_either(false, text, steps)
 }
 
 impl Interval {

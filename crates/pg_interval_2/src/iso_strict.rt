@@ -1,46 +1,23 @@
 //! The strict ISO style, `P1Y2M3W4DT5H6M7S`: texts in ISO style whose units stand in one order.
-ghost use Rattle.std.specs.Prelude.{◌≡◌, ◌+◌, ◌*◌, ◌≤◌, length, IfSome, IfNone, IfOk, IfErr};
-ghost use Rattle.pg_interval_2.specs.Denotes.{Denotes, HasNoShape, NoPlace, Refuses};
+ghost use Rattle.std.specs.Prelude.{◌≡◌, ◌+◌, ◌*◌, ◌≤◌, length, IfOk, IfErr};
+ghost use Rattle.pg_interval_2.specs.Denotes.{Denotes, NoPlace, Refuses};
 ghost use Rattle.pg_interval_2.specs.IsoStrict.{IsIsoStrict};
 ghost use Rattle.pg_interval_2.specs.inside.IsoShapes.{IsStrictEither};
 ghost use Rattle.pg_interval_2.specs.Messages.{not_iso_strict};
-ghost use Rattle.pg_interval_2.specs.inside.Tallies.{IsTallyOf};
 ghost use Rattle.pg_interval_2.specs.declared.style.Style.TheVariants.{IsoStrict};
 ghost use Rattle.pg_interval_2.specs.Styles.{Answers};
 
 use crate::error::ParseError;
 use crate::interval::Interval;
-use crate::iso::spelled;
+use crate::iso::read_either;
 use crate::reading::read_alone;
 use crate::style::Style;
-use crate::tally::Tally;
 use scan_core::{Looked, Steps};
 use std::marker::Brand;
 use std::sync::ledger::{Blank, Ledger};
 
-/// The tally of the counts that the text spells, or None exactly where it isn't in the style.
-#[inline(always)]
-fn tally_of<L: Ledger>(text: &Looked<'_>, steps: &mut Steps<L>) -> Option<Tally>
-    ensures some { IfSome result (IsTallyOf IsStrictEither text.now) }
-    ensures none { IfNone result (HasNoShape IsStrictEither text.now) }
-    ensures most { steps.new ≤ steps.old + 2 * length text.now }
-    ensures least { IfSome result (λ _. steps.old + length text.now ≤ steps.new) }
-{
-    match spelled(text, steps) {
-        Some(spelled) => {
-            if spelled.in_order {
-                Some(spelled.tally)
-            } else {
-                None
-            }
-        }
-        None => None,
-    }
-}
-
 /// What `Interval::from_iso_strict` answers, with at most two looks a byte, and with one at least where it is Ok.
-// a function of its own: where the style is named, `read_counted` is this call alone
-#[inline(never)]
+#[inline(always)]
 pub(crate) fn read_iso_strict<L: Ledger>(
     text: &Looked<'_>,
     steps: &mut Steps<L>,
@@ -50,10 +27,7 @@ pub(crate) fn read_iso_strict<L: Ledger>(
     ensures most { steps.new ≤ steps.old + 2 * length text.now }
     ensures least { IfOk result (λ _. steps.old + length text.now ≤ steps.new) }
 {
-    match tally_of(text, steps) {
-        Some(tally) => tally.answer(),
-        None => Err(ParseError::InvalidInterval("not a strict iso interval")),
-    }
+    read_either(true, text, steps)
 }
 
 impl Interval {

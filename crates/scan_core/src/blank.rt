@@ -6,5 +6,9 @@ ghost use Rattle.scan_core.specs.Blanks.{is_blank};
 pub fn is_blank(byte: u8) -> bool
     ensures { result ≡ is_blank byte }
 {
+    // nearly all bytes are above the blanks
+    if byte > b' ' {
+        return false;
+    }
     byte == b' ' || (9..=13).contains(&byte)
 }

@@ -90,7 +90,7 @@ impl Totals {
         ensures kept { result ≡ false → self.new ≡ self.old }
     {
         if whole >= FEW {
-            return self.add_some(share_of(negative, whole, next, unit));
+            return self.add_many(negative, whole, next, unit);
         }
         match unit {
             Unit::Year => self.add(share_of_few(negative, whole, next, Unit::Year)),
@@ -102,6 +102,29 @@ impl Totals {
             Unit::Second => self.add(share_of_few(negative, whole, next, Unit::Second)),
         }
         true
+    }
+
+    /// The same of any number of units.
+    // out of line, so that no count of few units sets up a place for the share that this one answers
+    #[inline(never)]
+    fn add_many(&mut self, negative: bool, whole: u64, next: u64, unit: Unit) -> bool
+        requires room { self.old.adds < 2 ^ 63 }
+        requires next { next ≤ scale_of unit }
+        ensures fits { IsTrue result
+            ↔ IsTrue (fits_type (main_part unit)
+            (signed negative (magnitude (main_part unit) unit whole next))) }
+        ensures months { IsTrue result →
+            self.new.months ≡ self.old.months
+            +ℤ signed negative (magnitude Months unit whole next) }
+        ensures days { IsTrue result →
+            self.new.days ≡ self.old.days +ℤ signed negative (magnitude Days unit whole next) }
+        ensures micros { IsTrue result →
+            self.new.micros ≡ self.old.micros
+            +ℤ signed negative (magnitude Micros unit whole next) }
+        ensures adds { IsTrue result → self.new.adds ≡ self.old.adds + 1 }
+        ensures kept { result ≡ false → self.new ≡ self.old }
+    {
+        self.add_some(share_of(negative, whole, next, unit))
     }
 
     /// Adds the share, if any, and answers whether one is there.

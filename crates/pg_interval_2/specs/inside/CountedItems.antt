@@ -84,6 +84,11 @@ IsItemStep names turned text item rest counts new (step.BadName word) =
     IsBadStep names text item rest counts word
 IsItemStep names turned text item rest counts new step.NoItem = IsNoItem item counts
 
+-- the step of a clock that was counted, or of no item
+abbrev pub clock_step : Bool → Step
+clock_step true = step.Taken
+clock_step false = step.NoItem
+
 -- what a step says of the bytes, behind these counts
 abbrev pub IsStep : (TimeUnit → List (List ℕ)) → Bool → List ℕ → List ℕ → List ℕ → List Count
     → Counted → Step → Type 0

@@ -5,6 +5,7 @@ use Rattle.scan_core.specs.Join.{IsJoin}
 use Rattle.scan_core.specs.declared.share.Unit.{Unit as TimeUnit}
 use Rattle.pg_interval_2.specs.Iso.{unit_in, IsPair}
 use Rattle.pg_interval_2.specs.IsoStrict.{AreInOrder}
+use Rattle.pg_interval_2.specs.Messages.{not_iso, not_iso_strict}
 use Rattle.pg_interval_2.specs.inside.UnitsInOrder.{units_in_order}
 
 -- the units before the `T`, and behind it
@@ -46,3 +47,13 @@ IsStrictEither text counts =
     ⊎ ((timed : IsDateAndTime unit_in text counts)
     × AreInOrder (units_in_order false) timed.date_counts
     × AreInOrder (units_in_order true) timed.time_counts × (timed.time ≢ []))
+
+-- the counts of a text in ISO style, or in the strict one
+abbrev pub iso_shape : Bool → List ℕ → List Count → Type 0
+iso_shape false = IsIsoEither
+iso_shape true = IsStrictEither
+
+-- the message of a text that isn't in it
+abbrev pub not_in_iso : Bool → List ℕ
+not_in_iso false = not_iso
+not_in_iso true = not_iso_strict

@@ -1,4 +1,4 @@
--- Answers to the goals of `body::tally_items`.
+-- Answers to the goals of `body::tally_ahead`.
 use Rattle.std.proofs.Common.{◌≡◌, ℕ, ◌-◌, List, ap, arith, length, length-drop, ◌∙◌}
 use Rattle.std.proofs.lemmas.Bool.{false≢true}
 use Rattle.scan_core.specs.Scanning.{ahead}
@@ -7,7 +7,7 @@ use Rattle.pg_interval_2.specs.inside.NameSets.{names_in}
 use Rattle.pg_interval_2.proofs.ItemEnds.{bad_next, name_within, text_unspelled}
 use Rattle.pg_interval_2.proofs.ItemSteps.{after-le, none_taken, one_taken, taken_shorter}
 use Rattle.pg_interval_2.proofs.UnitNameFacts.{set_names}
-use Rattle.pg_interval_2.proofs.body.tally_items.Goals as goal
+use Rattle.pg_interval_2.proofs.body.tally_ahead.Goals as goal
 
 pub loop-names-init : goal.loop-names-init
 loop-names-init g c =

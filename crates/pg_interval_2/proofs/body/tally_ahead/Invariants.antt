@@ -1,9 +1,9 @@
--- The invariant and the measure of the loop of `body::tally_items`.
+-- The invariant and the measure of the loop of `body::tally_ahead`.
 use Rattle.std.proofs.Common.{◌≡◌, ◌+◌, ◌≤◌, length}
 use Rattle.scan_core.specs.Scanning.{Spends, ahead}
 use Rattle.pg_interval_2.specs.inside.NameSets.{names_in}
 use Rattle.pg_interval_2.proofs.ItemSteps.{ItemsTaken}
-use Rattle.pg_interval_2.proofs.body.tally_items.Given as goal
+use Rattle.pg_interval_2.proofs.body.tally_ahead.Given as goal
 
 abbrev pub invariant-loop-names : goal.invariant-loop-names
 invariant-loop-names g l = record {
