@@ -5,6 +5,7 @@ ghost use Rattle.std.specs.Duration.{as_nanos};
 ghost use Rattle.std.specs.Ordering.{nat_cmp};
 ghost use Rattle.std.specs.declared.time.Duration.{Duration};
 ghost use Rattle.fancy_duration.specs.declared.error.FancyError.{FancyError as AnyError};
+ghost use Rattle.fancy_duration.specs.declared.fancy.FancyDuration.{FancyDuration as Wrapped};
 ghost use Rattle.fancy_duration.specs.declared.part.DurationPart.{DurationPart as AnyPart};
 ghost use Rattle.fancy_duration.specs.Parts.{rank_of};
 ghost use Rattle.fancy_duration.specs.Items.{Item, HasItems};
@@ -18,7 +19,7 @@ ghost use Rattle.fancy_duration.specs.Spelled.{SpellsLength};
 ghost use Rattle.fancy_duration.specs.Collisions.{MonthsStandAlone, Collide};
 ghost use Rattle.fancy_duration.specs.Durations.{duration_times};
 
-use crate::{DurationPart, FancyError};
+use crate::{AsTimes, DurationPart, FancyDuration, FancyError};
 
 /// Parts are equal where they are one, and ordered from the greatest to the least: years come first.
 pub fn parts_are_ordered_from_the_greatest()
@@ -96,4 +97,9 @@ pub fn strict_texts_spell_their_sums()
 /// Refusals are equal where they are one.
 pub fn equal_refusals_say_the_same()
     ensures { (a b : AnyError) → IsTrue (⟦<FancyError as PartialEq>⟧.eq a b) ↔ (a ≡ b) }
+{}
+
+/// Short durations are equal where the wrapped ones are.
+pub fn equality_is_that_of_the_wrapped<D: AsTimes + Copy + PartialEq>()
+    ensures { (a b : Wrapped D) → ⟦<FancyDuration<D> as PartialEq>⟧.eq a b ≡ D.eq a.0 b.0 }
 {}

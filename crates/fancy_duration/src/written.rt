@@ -32,7 +32,8 @@ pub(crate) fn push_length<const CAP: usize>(out: &mut ArrayString<CAP>, secs: u6
 #[tactic(auto, using(crate::proofs::Writers::short_years, crate::proofs::Writers::short_count))]
 fn push_seconds<const CAP: usize>(out: &mut ArrayString<CAP>, secs: u64)
     requires room { array_string_len out.old + 51 ≤ CAP }
-    ensures bytes { out.new.bytes ≡ out.old.bytes ++ counts_behind seconds_of false long_parts secs }
+    ensures bytes { out.new.bytes
+        ≡ out.old.bytes ++ counts_behind seconds_of false long_parts secs }
     ensures len { array_string_len out.new ≤ array_string_len out.old + 51 }
 {
     let begun = push_count(out, false, secs / Part::Years.seconds(), Part::Years);
@@ -53,7 +54,8 @@ fn push_seconds<const CAP: usize>(out: &mut ArrayString<CAP>, secs: u64)
 fn push_nanos<const CAP: usize>(out: &mut ArrayString<CAP>, begun: bool, nanos: u64)
     requires sub_second { nanos < 1_000_000_000 }
     requires room { array_string_len out.old + 18 ≤ CAP }
-    ensures bytes { out.new.bytes ≡ out.old.bytes ++ counts_behind weight_of begun short_parts nanos }
+    ensures bytes { out.new.bytes
+        ≡ out.old.bytes ++ counts_behind weight_of begun short_parts nanos }
     ensures len { array_string_len out.new ≤ array_string_len out.old + 18 }
 {
     let begun = push_small(out, begun, nanos / 1_000_000, Part::Milliseconds);
