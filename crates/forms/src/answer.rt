@@ -7,7 +7,8 @@ ghost use Rattle.forms.specs.Answers.{bytes_of};
 ghost use Rattle.forms.specs.Names.{is_counted};
 ghost use Rattle.forms.specs.ReadBack.{Turns};
 ghost use Rattle.forms.specs.Replies.{IsAnswer, IsReply, answer_text, is_refusal};
-ghost use Rattle.forms.specs.inside.Putting.{Gains, Puts};
+ghost use Rattle.forms.specs.Putting.{Puts};
+ghost use Rattle.forms.specs.inside.Putting.{Gains};
 
 use crate::cause::Cause;
 use crate::form::Form;

@@ -6,8 +6,8 @@ ghost use Rattle.forms.specs.declared.value.Value.{Value as AnyValue};
 ghost use Rattle.forms.specs.Answers.{bytes_of};
 ghost use Rattle.forms.specs.Forms.{Reads, Writes};
 ghost use Rattle.forms.specs.Names.{is_counted};
+ghost use Rattle.forms.specs.Putting.{Puts};
 ghost use Rattle.forms.specs.Values.{IsWithinBounds};
-ghost use Rattle.forms.specs.inside.Putting.{Puts};
 
 use crate::cause::Cause;
 use crate::form::{Form, fancy, file_time, intervals, iso_date, iso_date_time, iso_duration, toml};
@@ -61,7 +61,11 @@ pub fn write_value(form: Form, value: Value) -> Result<Short, Cause>
     ensures len { IfOk result (λ out. array_string_len out ≤ 96) }
 {
     all_lawful();
-    write(form, value)
+    let mut out = Short::new();
+    match push_value(form, value, &mut out) {
+        Ok(()) => Ok(out),
+        Err(cause) => Err(cause),
+    }
 }
 
 /// What the form's reader answers.
@@ -122,8 +126,9 @@ fn read_by_looks<L: Ledger>(
     }
 }
 
-/// Appends the text that `write_value` answers, or nothing where it refuses.
-pub(crate) fn push_value<const CAP: usize>(
+/// Appends the text that [`write_value`] answers to a text that has room for 96 bytes more, or nothing where it refuses, for the same
+/// cause: of `Value::Instant(0)` in `Form::FileTime` it makes `at 116444736000000000` of `at `. It takes no memory.
+pub fn push_value<const CAP: usize>(
     form: Form,
     value: Value,
     out: &mut ArrayString<CAP>,
@@ -134,53 +139,16 @@ pub(crate) fn push_value<const CAP: usize>(
     ensures len { array_string_len out.new ≤ array_string_len out.old + 96 }
 {
     match form {
+        Form::FileTime => file_time::push(value, out),
+        Form::IsoDateTime => iso_date_time::push(value, out),
+        Form::IsoDate => iso_date::push(value, out),
+        Form::IsoDuration => iso_duration::push(value, out),
+        Form::Toml => toml::push(value, out),
+        Form::Fancy => fancy::push(value, out),
         Form::PgIso => intervals::push(Style::Iso, value, out),
         Form::Postgres => intervals::push(Style::Postgres, value, out),
         Form::PgVerbose => intervals::push(Style::Verbose, value, out),
         Form::PgSql => intervals::push(Style::Sql, value, out),
         Form::IsoStrict => intervals::push(Style::IsoStrict, value, out),
-        Form::FileTime
-        | Form::IsoDateTime
-        | Form::IsoDate
-        | Form::IsoDuration
-        | Form::Toml
-        | Form::Fancy => push_written(form, value, out),
-    }
-}
-
-/// Appends the text that the form's writer makes beside it.
-fn push_written<const CAP: usize>(
-    form: Form,
-    value: Value,
-    out: &mut ArrayString<CAP>,
-) -> Result<(), Cause>
-    requires within { IsWithinBounds value }
-    requires room { array_string_len out.old + 96 ≤ CAP }
-    ensures answer { Puts (Writes form value) out.old.bytes out.new.bytes result }
-    ensures len { array_string_len out.new ≤ array_string_len out.old + 96 }
-{
-    let text = write(form, value)?;
-    out.push_str(text.as_str());
-    Ok(())
-}
-
-/// What the form's writer answers.
-fn write(form: Form, value: Value) -> Result<Short, Cause>
-    requires { IsWithinBounds value }
-    ensures answer { Writes form value (bytes_of result) }
-    ensures len { IfOk result (λ out. array_string_len out ≤ 96) }
-{
-    match form {
-        Form::FileTime => file_time::write(value),
-        Form::IsoDateTime => iso_date_time::write(value),
-        Form::IsoDate => iso_date::write(value),
-        Form::IsoDuration => iso_duration::write(value),
-        Form::Toml => toml::write(value),
-        Form::Fancy => fancy::write(value),
-        Form::PgIso => intervals::write(Style::Iso, value),
-        Form::Postgres => intervals::write(Style::Postgres, value),
-        Form::PgVerbose => intervals::write(Style::Verbose, value),
-        Form::PgSql => intervals::write(Style::Sql, value),
-        Form::IsoStrict => intervals::write(Style::IsoStrict, value),
     }
 }

@@ -3,11 +3,11 @@ ghost use Rattle.std.specs.Prelude.{◌≡◌, ◌+◌, ◌*◌, ◌<◌, ◌≤
 ghost use Rattle.arrayvec.specs.ArrayString.{array_string_len};
 ghost use Rattle.pg_interval_2.specs.Denotes.{Denotes};
 ghost use Rattle.pg_interval_2.specs.Styles.{Shape, style_text};
-ghost use Rattle.forms.specs.Answers.{Is, ReadsBy, WritesBy, bytes_of};
+ghost use Rattle.forms.specs.Answers.{Is, ReadsBy, WritesBy};
+ghost use Rattle.forms.specs.Putting.{Puts};
 ghost use Rattle.forms.specs.Values.{IsWithinBounds};
 ghost use Rattle.forms.specs.form.Intervals.{worth, held, interval_of, interval_of_length};
 ghost use Rattle.forms.specs.inside.Lawful.{Lawful};
-ghost use Rattle.forms.specs.inside.Putting.{Puts};
 ghost use Rattle.forms.specs.inside.Readers.{IsNoInterval};
 ghost use Rattle.forms.specs.declared.form.Form.{Form as AnyForm};
 
@@ -17,7 +17,7 @@ use arrayvec::ArrayString;
 use pg_interval_2::laws::{
     denoted_interval_is_in_range, text_has_one_list_of_counts, written_text_is_read_back,
 };
-use pg_interval_2::{Interval, Short, Style};
+use pg_interval_2::{Interval, Style};
 use scan_core::{Looked, Steps};
 use std::marker::Brand;
 use std::sync::ledger::{Blank, Ledger};
@@ -104,16 +104,6 @@ fn interval_counted<L: Ledger>(
         Err(error) if error.is_range() => Err(Cause::Range),
         Err(_) => Err(Cause::Syntax),
     }
-}
-
-/// The written text of a triple, or of a length in days and microseconds.
-pub fn write(style: Style, value: Value) -> Result<Short, Cause>
-    requires { IsWithinBounds value }
-    ensures answer { WritesBy (Is held) (style_text style) value (bytes_of result) }
-    ensures len { IfOk result (λ out. array_string_len out ≤ 96) }
-{
-    let interval = interval_for(value)?;
-    Ok(interval.text(style))
 }
 
 /// Appends the written text of a triple, or of a length in days and microseconds.
