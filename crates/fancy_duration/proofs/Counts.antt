@@ -16,8 +16,19 @@ use Rattle.fancy_duration.specs.Strict.{IsCount, IsStrict}
 use Rattle.scan_core.specs.Fronts.{leading, behind}
 use Rattle.fancy_duration.specs.inside.Reading.{unit_front, unit_behind, HasCounts}
 use Rattle.fancy_duration.proofs.Fronts.{length-unit_behind, unit_front_some}
-use Rattle.fancy_duration.proofs.Writers.{unit_some}
 use Rattle.fancy_duration.proofs.ItemLists.{unit_joins, digits_split, begins_without, unit_splits, unit_begins, is_digit-from}
+
+unit_some : (part : DurationPart) → 0 < length (unit_of part)
+unit_some Years = omega arith
+unit_some Months = omega arith
+unit_some Weeks = omega arith
+unit_some Days = omega arith
+unit_some Hours = omega arith
+unit_some Minutes = omega arith
+unit_some Seconds = omega arith
+unit_some Milliseconds = omega arith
+unit_some Microseconds = omega arith
+unit_some Nanoseconds = omega arith
 
 digit_not_letter : (d : ℕ) → is_digit d ≡ true → is_letter d ≡ false
 digit_not_letter d e = grind (arith, nat_tests)

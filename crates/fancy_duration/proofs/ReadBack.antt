@@ -1,21 +1,21 @@
 -- What the written text of a length is read as.
-use Rattle.std.proofs.Common.{◌≡◌, ◌↔◌, ℕ, ◌+◌, ◌*◌, ◌^◌, ◌<◌, ◌≤◌, Bool, true, false, ◌&&◌, ◌||◌, nat_lt, List, [], ◌∷◌, codes, refl, sym, ◌∙◌, ap, subst, ⊎_elim, inl, inr, arith}
+use Rattle.std.proofs.Common.{◌≡◌, ◌↔◌, ℕ, ◌+◌, ◌*◌, ◌/◌, ◌%◌, ◌^◌, ◌<◌, ◌≤◌, Bool, true, false, ◌&&◌, ◌||◌, nat_lt, List, [], ◌∷◌, drop, codes, refl, sym, ◌∙◌, ap, subst, ⊎_elim, inl, inr, arith}
 use Rattle.std.specs.Prelude.{◌⊎◌}
 use Rattle.std.proofs.Math.Bool.{and-true}
-use Rattle.std.proofs.lemmas.Bool.{and_parts, or_parts, and_right, ltb-true, ltb-false, cases_lt}
+use Rattle.std.proofs.Math.Nat.{div-le_self, mod-le}
+use Rattle.std.proofs.lemmas.Bool.{and_parts, and_from, or_parts, and_right, ltb-true, ltb-false, lt-ltb, cases_lt}
 use Rattle.fancy_duration.specs.declared.part.DurationPart.{DurationPart}
 use Rattle.fancy_duration.specs.declared.part.DurationPart.TheVariants.{Years, Months, Weeks, Days, Hours, Minutes, Seconds, Milliseconds, Microseconds, Nanoseconds}
 use Rattle.fancy_duration.specs.Parts.{all_parts, weight_of, unit_of}
 use Rattle.fancy_duration.specs.Times.{nanos_of}
 use Rattle.fancy_duration.specs.Sums.{is_long, long_follows, weight_in, total, SumsTo}
 use Rattle.fancy_duration.specs.Meanings.{Denotes}
-use Rattle.fancy_duration.specs.Breakdown.{PartCount, breakdown, nanos_in, count_of}
+use Rattle.fancy_duration.specs.Breakdown.{PartCount, breakdown, counts_of, nanos_in, count_of}
 use Rattle.fancy_duration.specs.Written.{length_text}
 use Rattle.fancy_duration.specs.inside.Writing.{counts_fit}
 use Rattle.fancy_duration.specs.inside.Reading.{items_of}
 use Rattle.fancy_duration.specs.Collisions.{MonthsStandAlone}
 use Rattle.fancy_duration.proofs.Breakdowns.{nanos_in-counts_of}
-use Rattle.fancy_duration.proofs.Writers.{room_at_start}
 use Rattle.fancy_duration.proofs.ItemLists.{items_unique}
 use Rattle.fancy_duration.proofs.Totals.{sum_unique, sum_exists}
 use Rattle.fancy_duration.proofs.Texts.{items_in, written_items, total-cons, long-cons}
@@ -141,9 +141,17 @@ fits_ten y mo w d h mi s ms us ns e =
       total_below_months w d h mi s ms us ns (ltb-true w (2 ^ 64) pw.0) (ltb-true d (2 ^ 64) pd.0) (ltb-true h (2 ^ 64) ph.0) (ltb-true mi (2 ^ 64) pmi.0) (ltb-true s (2 ^ 64) ps.0) (ltb-true ms (2 ^ 64) pms.0) (ltb-true us (2 ^ 64) pus.0) (ltb-true ns (2 ^ 64) pns.0),
     )
 
+fits_below : (parts : List DurationPart) (left : ℕ) → left < 2 ^ 64 → counts_fit (counts_of parts left) ≡ true
+fits_below [] left h = refl
+fits_below (part ∷ parts) left h =
+    and_from (nat_lt (left / weight_of part) (2 ^ 64)) _ (lt-ltb (left / weight_of part) (2 ^ 64) (omega (arith, div-le_self left (weight_of part))))
+    (fits_below parts (left % weight_of part) (omega (arith, mod-le left (weight_of part))))
+
 pub breakdown_fits : (n : ℕ) → n < 2 ^ 64 * 1_000_000_000 → counts_fit (breakdown n) ≡ true
 unfolding breakdown
-breakdown_fits n h = (room_at_start n h).fit
+breakdown_fits n h =
+    and_from (nat_lt (n / weight_of Years) (2 ^ 64)) _ (lt-ltb (n / weight_of Years) (2 ^ 64) (omega arith))
+    (fits_below (drop 1 all_parts) (n % weight_of Years) (omega arith))
 
 -- the sum of what is written of a length: by how much it falls short where no long part follows the months
 record Reads (n : ℕ) : Type 0 where

@@ -1,146 +1,152 @@
--- The writer's loop over the ten parts, and the text that it makes.
-use Rattle.std.proofs.Common.{◌≡◌, ◌≢◌, ℕ, ◌+◌, ◌*◌, ◌/◌, ◌%◌, ◌^◌, ◌<◌, ◌≤◌, true, false, nat_lt, nat_eq, List, [], ◌∷◌, ◌++◌, length, drop, map, decimal, codes, refl, ◌∙◌, ap, subst, arith, length-append, append_assoc}
+-- What the writers put is the written text.
+use Rattle.std.proofs.Common.{true≢false, ◌≡◌, ◌≢◌, ℕ, zero, suc, ◌+◌, ◌*◌, ◌/◌, ◌%◌, ◌^◌, ◌<◌, ◌≤◌, ◌==◌, Bool, true, false, not, ◌||◌, nat_eq, List, [], ◌∷◌, ◌++◌, length, decimal, codes, refl, sym, ◌∙◌, ap, arith, append_assoc, append-nil, if◌then◌else◌}
 use Rattle.std.specs.List.{join_with_byte}
-use Rattle.std.proofs.lemmas.Bool.{and_parts, and_from, ltb-true, lt-ltb, ne_eqb}
+use Rattle.std.proofs.lemmas.Bool.{ne_eqb}
+use Rattle.std.proofs.lemmas.Nat.{div-add-mod'}
+use Rattle.std.specs.Prelude.{⊤}
 use Rattle.std.proofs.lemmas.Fmt.{length-decimal-le}
-use Rattle.fancy_duration.proofs.Breakdowns.{parts_end}
 use Rattle.fancy_duration.specs.declared.part.DurationPart.{DurationPart}
 use Rattle.fancy_duration.specs.declared.part.DurationPart.TheVariants.{Years, Months, Weeks, Days, Hours, Minutes, Seconds, Milliseconds, Microseconds, Nanoseconds}
 use Rattle.fancy_duration.specs.Parts.{all_parts, weight_of, unit_of}
-use Rattle.fancy_duration.specs.Breakdown.{PartCount, counts_of, breakdown}
-use Rattle.fancy_duration.specs.Written.{length_text}
-use Rattle.fancy_duration.specs.inside.Writing.{piece, above_zero, length_steps}
-use Rattle.fancy_duration.proofs.WrittenSteps.{length_in_steps}
-use Rattle.fancy_duration.specs.inside.Writing.{spaced, with_count, with_counts, with_parts, counts_fit, HasRoom}
+use Rattle.fancy_duration.specs.Times.{nanos_of}
+use Rattle.fancy_duration.specs.Written.{length_text, length_words}
+use Rattle.fancy_duration.specs.inside.Writing.{count_behind, counts_behind, long_parts, short_parts, seconds_of}
 
--- one step of the loop
-pub with_parts-none : (out : List ℕ) (i left : ℕ) → 10 ≤ i → with_parts out (drop i all_parts) left ≡ out
-unfolding with_parts
-with_parts-none out i left h = rw (parts_end i h)
+-- counts are short
+pub short_count : (n : ℕ) → n < 1_000 → length (decimal n) ≤ 3
+short_count n h = length-decimal-le 3 n (omega arith) h (omega arith)
 
-pub writes_part : (parts more : List DurationPart) (part : DurationPart) (out out' : List ℕ) (left weight count left' : ℕ)
-    → parts ≡ part ∷ more → weight ≡ weight_of part → count ≡ left / weight → left' ≡ left % weight
-    → out' ≡ with_count out count part → with_parts out' more left' ≡ with_parts out parts left
-unfolding with_parts
-writes_part parts more part out out' left weight count left' split w c l o = rw (o, c, l, w, split)
+pub short_years : (n : ℕ) → n < 10 ^ 12 → length (decimal n) ≤ 12
+short_years n h = length-decimal-le 12 n (omega arith) h (omega arith)
 
-room_head : (len : ℕ) (part : DurationPart) (more : List DurationPart) (left : ℕ)
-    → HasRoom len (part ∷ more) left
-    → (left / weight_of part < 2 ^ 64) × (len + (length (decimal (left / weight_of part)) + 3) ≤ 95)
-room_head len part more left room = (ltb-true _ _ (and_parts _ _ room.fit).0, omega (arith, room.room))
+-- words, each behind a space
+abbrev spaced : List (List ℕ) → List ℕ
+spaced [] = []
+spaced (word ∷ words) = 32 ∷ (word ++ spaced words)
 
-room_tail : (len len' : ℕ) (part : DurationPart) (more : List DurationPart) (left : ℕ)
-    → len' ≤ len + (length (decimal (left / weight_of part)) + 3) → HasRoom len (part ∷ more) left
-    → HasRoom len' more (left % weight_of part)
-room_tail len len' part more left grown room = record { room = omega (arith, room.room); fit = (and_parts (nat_lt (left / weight_of part) (2 ^ 64)) _ room.fit).1 }
+joined : (word : List ℕ) (words : List (List ℕ)) → join_with_byte 32 (word ∷ words) ≡ word ++ spaced words
+joined word [] = sym (append-nil word)
+joined word (next ∷ words) = ap (λ (rest : List ℕ). word ++ (32 ∷ rest)) (joined next words)
 
-pub room_for_part : (len : ℕ) (parts more : List DurationPart) (part : DurationPart) (left weight : ℕ)
-    → parts ≡ part ∷ more → weight ≡ weight_of part → HasRoom len parts left
-    → (left / weight < 2 ^ 64) × (len + (length (decimal (left / weight)) + 3) ≤ 95)
-room_for_part len parts more part left weight split w room =
-    let P : List DurationPart → Type 0 = λ ps. HasRoom len ps left in
-    rw w (room_head len part more left (subst P split room))
+-- the words behind a count, or behind none
+abbrev behind : Bool → List (List ℕ) → List ℕ
+behind true words = spaced words
+behind false words = join_with_byte 32 words
 
-pub room_after_part : (len len' : ℕ) (parts more : List DurationPart) (part : DurationPart) (left weight left' : ℕ)
-    → parts ≡ part ∷ more → weight ≡ weight_of part → left' ≡ left % weight
-    → len' ≤ len + (length (decimal (left / weight)) + 3) → HasRoom len parts left
-    → HasRoom len' more left'
-room_after_part len len' parts more part left weight left' split w l grown room =
-    let P : List DurationPart → Type 0 = λ ps. HasRoom len ps left in
-    rw (l, w) (room_tail len len' part more left (rw w at grown) (subst P split room))
+none_more : (begun : Bool) (words : List (List ℕ)) → behind (begun || false) words ≡ behind begun words
+none_more true words = refl
+none_more false words = refl
 
--- the room for a length of fewer than 2^64 seconds
-short_count : (left weight : ℕ) → left / weight < 1000 → length (decimal (left / weight)) ≤ 3
-short_count left weight h = length-decimal-le 3 (left / weight) (omega arith) h (omega arith)
+some_more : (begun : Bool) (word : List ℕ) (words : List (List ℕ))
+    → ((if begun then 32 ∷ [] else []) ++ word) ++ behind (begun || true) words ≡ behind begun (word ∷ words)
+some_more true word words = refl
+some_more false word words = sym (joined word words)
 
-fit_cons : (part : DurationPart) (more : List DurationPart) (left : ℕ)
-    → left / weight_of part < 2 ^ 64 → counts_fit (counts_of more (left % weight_of part)) ≡ true
-    → counts_fit (counts_of (part ∷ more) left) ≡ true
-fit_cons part more left h e = and_from (nat_lt (left / weight_of part) (2 ^ 64)) _ (lt-ltb (left / weight_of part) (2 ^ 64) h) e
-
-pub room_at_start : (nanos : ℕ) → nanos < 2 ^ 64 * 1_000_000_000 → HasRoom 0 all_parts nanos
-room_at_start nanos h =
-    let months = nanos % weight_of Years in
-    let weeks = months % weight_of Months in
-    let days = weeks % weight_of Weeks in
-    let hours = days % weight_of Days in
-    let minutes = hours % weight_of Hours in
-    let seconds = minutes % weight_of Minutes in
-    let millis = seconds % weight_of Seconds in
-    let micros = millis % weight_of Milliseconds in
-    let nanos' = micros % weight_of Microseconds in
-    let y : nanos / weight_of Years < 10 ^ 12 = omega arith in
-    let mo : months / weight_of Months < 1000 = omega arith in
-    let w : weeks / weight_of Weeks < 1000 = omega arith in
-    let d : days / weight_of Days < 1000 = omega arith in
-    let ho : hours / weight_of Hours < 1000 = omega arith in
-    let mi : minutes / weight_of Minutes < 1000 = omega arith in
-    let s : seconds / weight_of Seconds < 1000 = omega arith in
-    let ms : millis / weight_of Milliseconds < 1000 = omega arith in
-    let us : micros / weight_of Microseconds < 1000 = omega arith in
-    let ns : nanos' / weight_of Nanoseconds < 1000 = omega arith in
-    let years_len : length (decimal (nanos / weight_of Years)) ≤ 12 = length-decimal-le 12 (nanos / weight_of Years) (omega arith) y (omega arith) in
-    record {
-      room = omega (arith, years_len, short_count months _ mo, short_count weeks _ w, short_count days _ d, short_count hours _ ho, short_count minutes _ mi, short_count seconds _ s, short_count millis _ ms, short_count micros _ us, short_count nanos' _ ns);
-      fit = fit_cons Years (drop 1 all_parts) nanos (omega arith) (fit_cons Months (drop 2 all_parts) months (omega arith) (fit_cons Weeks (drop 3 all_parts) weeks (omega arith) (fit_cons Days (drop 4 all_parts) days (omega arith) (fit_cons Hours (drop 5 all_parts) hours (omega arith) (fit_cons Minutes (drop 6 all_parts) minutes (omega arith) (fit_cons Seconds (drop 7 all_parts) seconds (omega arith) (fit_cons Milliseconds (drop 8 all_parts) millis (omega arith) (fit_cons Microseconds (drop 9 all_parts) micros (omega arith) (fit_cons Nanoseconds [] nanos' (omega arith) refl)))))))));
-    }
-
--- the counts above 0, joined by spaces
-join_twice : (x y : List ℕ) (rest : List (List ℕ))
-    → join_with_byte 32 ((x ++ (32 ∷ y)) ∷ rest) ≡ join_with_byte 32 (x ∷ y ∷ rest)
-join_twice x y [] = refl
-join_twice x y (z ∷ rest) = append_assoc x (32 ∷ y) (32 ∷ join_with_byte 32 (z ∷ rest))
-
-spaced_append : (b : ℕ) (bs ys : List ℕ) → spaced (b ∷ bs) ++ ys ≡ (b ∷ bs) ++ (32 ∷ ys)
-spaced_append b bs ys = append_assoc (b ∷ bs) (32 ∷ []) ys
-
-with_counts_more : (b : ℕ) (bs : List ℕ) (counts : List PartCount)
-    → with_counts (b ∷ bs) counts ≡ join_with_byte 32 ((b ∷ bs) ∷ map piece (above_zero counts))
-unfolding with_count
-with_counts_more b bs [] = refl
-with_counts_more b bs (c ∷ counts) =
-    elim (nat_lt 0 c.count) as (λ t. nat_lt 0 c.count ≡ t → with_counts (b ∷ bs) (c ∷ counts) ≡ join_with_byte 32 ((b ∷ bs) ∷ map piece (above_zero (c ∷ counts)))) [
-      | true ↦ λ e. simp e (ap (λ out. with_counts out counts) (spaced_append b bs (piece c)) ∙ with_counts_more b (bs ++ (32 ∷ piece c)) counts ∙ join_twice (b ∷ bs) (piece c) (map piece (above_zero counts)))
-      | false ↦ λ e. simp e (with_counts_more b bs counts)
+one_more : (begun : Bool) (n : ℕ) (part : DurationPart) (words : List (List ℕ))
+    → count_behind begun n part ++ behind (begun || not (n == 0)) words
+    ≡ behind begun ((if n == 0 then [] else ((decimal n ++ unit_of part) ∷ [])) ++ words)
+unfolding count_behind
+one_more begun n part words =
+    elim (nat_eq n 0) as (λ t. nat_eq n 0 ≡ t → count_behind begun n part ++ behind (begun || not (n == 0)) words ≡ behind begun ((if n == 0 then [] else ((decimal n ++ unit_of part) ∷ [])) ++ words)) [
+      | true ↦ λ e. simp e (none_more begun words)
+      | false ↦ λ e. simp e (some_more begun (decimal n ++ unit_of part) words)
     ] refl
 
-with_counts_some : (out : List ℕ) (counts : List PartCount) → 0 < length out
-    → with_counts out counts ≡ join_with_byte 32 (out ∷ map piece (above_zero counts))
-with_counts_some [] counts h = absurd (omega arith)
-with_counts_some (b ∷ bs) counts h = with_counts_more b bs counts
+counts_are : (begun : Bool) (parts : List DurationPart) (left : ℕ)
+    → counts_behind weight_of begun parts left ≡ behind begun (length_words parts left)
+counts_are true [] left = refl
+counts_are false [] left = refl
+counts_are begun (part ∷ parts) left =
+    let n = left / weight_of part in
+    let rest = left % weight_of part in
+    ap (λ (more : List ℕ). count_behind begun n part ++ more) (counts_are (begun || not (n == 0)) parts rest)
+    ∙ one_more begun n part (length_words parts rest)
 
-pub unit_some : (part : DurationPart) → 0 < length (unit_of part)
-unit_some Years = omega arith
-unit_some Months = omega arith
-unit_some Weeks = omega arith
-unit_some Days = omega arith
-unit_some Hours = omega arith
-unit_some Minutes = omega arith
-unit_some Seconds = omega arith
-unit_some Milliseconds = omega arith
-unit_some Microseconds = omega arith
-unit_some Nanoseconds = omega arith
+-- a length of whole seconds and nanoseconds below a second, by a part of whole seconds
+cut : (part : DurationPart) (secs ns : ℕ) → weight_of part ≡ seconds_of part * 1_000_000_000 → ns < 1_000_000_000
+    → ((secs * 1_000_000_000 + ns) / weight_of part ≡ secs / seconds_of part) × ((secs * 1_000_000_000 + ns) % weight_of part ≡ secs % seconds_of part * 1_000_000_000 + ns)
+cut Years secs ns whole h = (omega arith, omega arith)
+cut Months secs ns whole h = (omega arith, omega arith)
+cut Weeks secs ns whole h = (omega arith, omega arith)
+cut Days secs ns whole h = (omega arith, omega arith)
+cut Hours secs ns whole h = (omega arith, omega arith)
+cut Minutes secs ns whole h = (omega arith, omega arith)
+cut Seconds secs ns whole h = (omega arith, omega arith)
+cut Milliseconds secs ns whole h = absurd (omega (arith, whole))
+cut Microseconds secs ns whole h = absurd (omega (arith, whole))
+cut Nanoseconds secs ns whole h = absurd (omega (arith, whole))
 
-piece_some : (c : PartCount) → 0 < length (piece c)
-piece_some c = omega (arith, length-append (decimal c.count) (unit_of c.part), unit_some c.part)
+-- what the parts leave of whole seconds, and whether a count stands behind them
+abbrev seconds_after : List DurationPart → ℕ → ℕ
+seconds_after [] secs = secs
+seconds_after (part ∷ parts) secs = seconds_after parts (secs % seconds_of part)
 
-with_counts_none : (counts : List PartCount)
-    → with_counts [] counts ≡ join_with_byte 32 (map piece (above_zero counts))
-unfolding with_count
-with_counts_none [] = refl
-with_counts_none (c ∷ counts) =
-    elim (nat_lt 0 c.count) as (λ t. nat_lt 0 c.count ≡ t → with_counts [] (c ∷ counts) ≡ join_with_byte 32 (map piece (above_zero (c ∷ counts)))) [
-      | true ↦ λ e. simp e (with_counts_some (piece c) counts (piece_some c))
-      | false ↦ λ e. simp e (with_counts_none counts)
-    ] refl
+abbrev begun_after : Bool → List DurationPart → ℕ → Bool
+begun_after begun [] secs = begun
+begun_after begun (part ∷ parts) secs = begun_after (begun || not (secs / seconds_of part == 0)) parts (secs % seconds_of part)
 
-pub with_parts-zero : (out : List ℕ) (nanos : ℕ) → nanos ≡ 0
-    → with_parts [] all_parts nanos ++ codes "0" ≡ length_text nanos
-unfolding with_parts with_count length_steps breakdown
-with_parts-zero out nanos e = rw (length_in_steps nanos, e)
+abbrev AreWhole : List DurationPart → Type 0
+AreWhole [] = ⊤
+AreWhole (part ∷ parts) = (weight_of part ≡ seconds_of part * 1_000_000_000) × AreWhole parts
 
-pub with_parts-written : (nanos : ℕ) → nanos ≢ 0 → with_parts [] all_parts nanos ≡ length_text nanos
-unfolding with_parts length_steps breakdown
-with_parts-written nanos h =
-    let e : nat_eq nanos 0 ≡ false = ne_eqb nanos 0 h in
-    rw (length_in_steps nanos) (simp e (with_counts_none (counts_of all_parts nanos)))
+in_seconds : (begun : Bool) (parts : List DurationPart) (secs ns : ℕ) → AreWhole parts → ns < 1_000_000_000
+    → counts_behind weight_of begun (parts ++ short_parts) (secs * 1_000_000_000 + ns)
+    ≡ counts_behind seconds_of begun parts secs ++ counts_behind weight_of (begun_after begun parts secs) short_parts (seconds_after parts secs * 1_000_000_000 + ns)
+in_seconds begun [] secs ns whole h = refl
+in_seconds begun (part ∷ parts) secs ns whole h =
+    let n = secs / seconds_of part in
+    let rest = secs % seconds_of part in
+    let both = cut part secs ns whole.0 h in
+    let first : counts_behind weight_of begun (part ∷ (parts ++ short_parts)) (secs * 1_000_000_000 + ns)
+    ≡ count_behind begun n part ++ counts_behind weight_of (begun || not (n == 0)) (parts ++ short_parts) (rest * 1_000_000_000 + ns)
+    = rw (both.0, both.1) refl in
+    first
+    ∙ ap (λ (more : List ℕ). count_behind begun n part ++ more) (in_seconds (begun || not (n == 0)) parts rest ns whole.1 h)
+    ∙ sym (append_assoc (count_behind begun n part) (counts_behind seconds_of (begun || not (n == 0)) parts rest) (counts_behind weight_of (begun_after begun (part ∷ parts) secs) short_parts (seconds_after (part ∷ parts) secs * 1_000_000_000 + ns)))
+
+not_none : (n : ℕ) → nat_eq (suc n) 0 ≡ false
+not_none n = ne_eqb (suc n) 0 (λ e. omega (arith, e))
+
+-- where no count stands behind the parts, they leave all
+left_whole : (n d q : ℕ) → q ≡ n / d → q ≡ 0 → n % d ≡ n
+left_whole n d q e none = omega (arith, div-add-mod' n d, ap (λ (k : ℕ). k * d) (sym e ∙ none))
+
+none_begun : (parts : List DurationPart) (begun : Bool) (secs : ℕ) → begun_after begun parts secs ≡ false
+    → (begun ≡ false) × (seconds_after parts secs ≡ secs)
+none_begun [] begun secs e = (e, refl)
+none_begun (part ∷ parts) begun secs e =
+    let later = none_begun parts (begun || not (secs / seconds_of part == 0)) (secs % seconds_of part) e in
+    let both = neither begun (secs / seconds_of part) later.0 in
+    (both.0, later.1 ∙ left_whole secs (seconds_of part) (secs / seconds_of part) refl both.1)
+  where
+    neither : (begun : Bool) (n : ℕ) → (begun || not (n == 0)) ≡ false → (begun ≡ false) × (n ≡ 0)
+    neither true n e = absurd (let h : true ≡ false = e in cc)
+    neither false zero e = (refl, refl)
+    neither false (suc n) e = absurd (true≢false (sym (ap not (not_none n)) ∙ e))
+
+still_begun : (parts : List DurationPart) (secs : ℕ) → begun_after true parts secs ≡ true
+still_begun [] secs = refl
+still_begun (part ∷ parts) secs = still_begun parts (secs % seconds_of part)
+
+begun_by_seconds : (secs : ℕ) (t : Bool) → begun_after false long_parts secs ≡ t → t ≡ not (secs == 0)
+begun_by_seconds zero t e = sym e
+begun_by_seconds (suc secs) true e = sym (ap not (not_none secs))
+begun_by_seconds (suc secs) false e =
+    let nothing : seconds_after long_parts (suc secs) ≡ 0 = omega arith in
+    absurd (omega (arith, nothing, (none_begun long_parts false (suc secs) e).1))
+
+-- the counts of whole seconds, then those below a second
+pub pushed : (secs ns : ℕ) → ns < 1_000_000_000 → (nanos_of (secs, ns) ≢ 0)
+    → counts_behind seconds_of false long_parts secs ++ counts_behind weight_of (not (secs == 0)) short_parts ns ≡ length_text (nanos_of (secs, ns))
+unfolding length_text
+pushed secs ns h some =
+    let none_left : seconds_after long_parts secs * 1_000_000_000 + ns ≡ ns = omega arith in
+    let e : nat_eq (nanos_of (secs, ns)) 0 ≡ false = ne_eqb (nanos_of (secs, ns)) 0 some in
+    let whole : counts_behind weight_of false all_parts (secs * 1_000_000_000 + ns) ≡ join_with_byte 32 (length_words all_parts (secs * 1_000_000_000 + ns)) = counts_are false all_parts (secs * 1_000_000_000 + ns) in
+    let split = in_seconds false long_parts secs ns (refl, (refl, (refl, (refl, (refl, (refl, (refl, tt))))))) h in
+    let same = ap (λ (t : Bool). counts_behind seconds_of false long_parts secs ++ counts_behind weight_of t short_parts (seconds_after long_parts secs * 1_000_000_000 + ns)) (begun_by_seconds secs (begun_after false long_parts secs) refl) in
+    simp e (ap (λ (n : ℕ). counts_behind seconds_of false long_parts secs ++ counts_behind weight_of (not (secs == 0)) short_parts n) (sym none_left) ∙ sym same ∙ sym split ∙ whole)
+
+pub pushed_nothing : (secs ns : ℕ) → secs ≡ 0 → ns ≡ 0 → codes "0" ≡ length_text (nanos_of (secs, ns))
+unfolding length_text
+pushed_nothing secs ns e f = rw (e, f) refl

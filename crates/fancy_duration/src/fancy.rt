@@ -1,5 +1,5 @@
 //! Lengths that are read and written as short texts.
-ghost use Rattle.std.specs.Prelude.{◌≡◌, ◌≢◌, ℕ, ◌+◌, ◌*◌, ◌^◌, ◌<◌, ◌≤◌, ◌↔◌};
+ghost use Rattle.std.specs.Prelude.{◌≡◌, ◌≢◌, ℕ, ◌+◌, ◌*◌, ◌^◌, ◌<◌, ◌≤◌, ◌++◌, ◌↔◌};
 ghost use Rattle.std.specs.Prelude.{IfOk, IsErrOf, Some, IsTrue};
 ghost use Rattle.std.specs.String.{string_bytes};
 ghost use Rattle.arrayvec.specs.ArrayString.{array_string_len};
@@ -13,8 +13,9 @@ ghost use Rattle.fancy_duration.specs.Collisions.{MonthsStandAlone};
 use crate::breakdown::{have_months_alone, kept_nanos, leading_nanos};
 use crate::read::read_times;
 use crate::strict::is_strict;
-use crate::written::{without_spaces, written_text};
+use crate::written::{push_length, without_spaces};
 use crate::{AsTimes, DurationPart, FancyError};
+use arrayvec::ArrayString;
 use scan_core::Short;
 use std::alloc::{AllocError, Global};
 use std::fmt;
@@ -86,7 +87,21 @@ impl<D: AsTimes + Copy> FancyDuration<D> {
         ensures bytes { result.bytes ≡ length_text (nanos_of (D.times self.now.0)) }
         ensures short { array_string_len result ≤ 96 }
     {
-        written_text(self.nanos())
+        let mut out = Short::new();
+        self.push_text(&mut out);
+        out
+    }
+
+    /// Appends what [`text`](Self::text) answers to a text that has room for 96 bytes more: onto `in ` it makes
+    /// `in 1h 20m`.
+    pub fn push_text<const CAP: usize>(&self, out: &mut ArrayString<CAP>)
+        requires room { array_string_len out.old + 96 ≤ CAP }
+        ensures bytes { out.new.bytes
+            ≡ out.old.bytes ++ length_text (nanos_of (D.times self.now.0)) }
+        ensures len { array_string_len out.new ≤ array_string_len out.old + 96 }
+    {
+        let (secs, nanos) = self.0.as_times();
+        push_length(out, secs, nanos);
     }
 
     /// The written text: `3m 1w 2d 5m 24s`.

@@ -1,5 +1,6 @@
 //! The ten parts of a written length.
 ghost use Rattle.std.specs.Prelude.{◌≡◌, ◌≢◌, IfSome, IfNone};
+ghost use Rattle.fancy_duration.specs.inside.Writing.{seconds_of};
 ghost use Rattle.fancy_duration.specs.Parts.{unit_of, weight_of};
 
 /// One of the ten parts of a written duration, from the greatest to the least.
@@ -58,6 +59,14 @@ impl DurationPart {
             DurationPart::Microseconds => 1_000,
             DurationPart::Nanoseconds => 1,
         }
+    }
+
+    /// Whole seconds in one of the part, which are none below a second.
+    #[inline(always)] // so that a part's weight is a constant where the part is one
+    pub(crate) fn seconds(self) -> u64
+        ensures { result ≡ seconds_of self }
+    {
+        (self.nanos() / 1_000_000_000) as u64
     }
 
     /// The letters that stand behind a count of the part.

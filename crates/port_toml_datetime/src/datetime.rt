@@ -1,13 +1,14 @@
 //! Date-times of each kind.
-ghost use Rattle.std.specs.Prelude.{◌≡◌, ◌≤◌, Some, None};
+ghost use Rattle.std.specs.Prelude.{◌≡◌, ◌+◌, ◌≤◌, ◌++◌, Some, None};
 ghost use Rattle.arrayvec.specs.ArrayString.{array_string_len};
 ghost use Rattle.port_toml_datetime.specs.Datetimes.{datetime_of};
 ghost use Rattle.port_toml_datetime.specs.Reading.{IsReadFrom};
 ghost use Rattle.port_toml_datetime.specs.Texts.{text_of};
 
 use crate::read::read;
-use crate::text::datetime_text;
+use crate::text::push_datetime;
 use crate::{Date, DatetimeParseError, Offset, Time};
+use arrayvec::ArrayString;
 use scan_core::Short;
 use std::fmt;
 use std::fmt::Display;
@@ -44,7 +45,19 @@ impl Datetime {
         ensures bytes { result.bytes ≡ text_of self.now }
         ensures short { array_string_len result ≤ 43 }
     {
-        datetime_text(*self)
+        let mut out = Short::new();
+        self.push_text(&mut out);
+        out
+    }
+
+    /// Appends what [`Datetime::text`] answers to a text that has room for 43 bytes more: onto `at ` it makes
+    /// `at 07:32:00`.
+    pub fn push_text<const CAP: usize>(&self, out: &mut ArrayString<CAP>)
+        requires room { array_string_len out.old + 43 ≤ CAP }
+        ensures bytes { out.new.bytes ≡ out.old.bytes ++ text_of self.now }
+        ensures len { array_string_len out.new ≤ array_string_len out.old + 43 }
+    {
+        push_datetime(out, *self);
     }
 }
 

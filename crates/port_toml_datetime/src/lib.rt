@@ -9,7 +9,6 @@ mod date;
 mod datetime;
 mod error;
 pub mod laws;
-mod number_text;
 mod numbers;
 mod offset;
 mod read;

@@ -4,37 +4,52 @@ ghost use Rattle.arrayvec.specs.ArrayString.{array_string_len};
 ghost use Rattle.scan_core.specs.Padded.{padded_digits};
 ghost use Rattle.port_toml_datetime.specs.Texts.{full_date_text, delimiter_text, fraction_text, minutes_text, time_offset_text, part_text, partial_second_text, signed_text, text_of, partial_time_text};
 
-use crate::number_text::{push_four, push_fraction, push_two};
 use crate::{Date, Datetime, Offset, Time};
-use scan_core::{Short, push_text};
+use arrayvec::ArrayString;
+use scan_core::{Short, push_padded, push_text, push_trimmed};
 
 /// `YYYY-MM-DD`.
-#[tactic(auto, unfolding(crate::specs::Texts::full_date_text))]
-fn push_date(out: &mut Short, date: Date)
-    requires { array_string_len out.old + 13 ≤ 128 }
+#[tactic(auto, unfolding(crate::specs::Texts::full_date_text), using(crate::proofs::TextFacts::short_year, crate::proofs::TextFacts::short_hours))]
+fn push_date<const CAP: usize>(out: &mut ArrayString<CAP>, date: Date)
+    requires { array_string_len out.old + 13 ≤ CAP }
     ensures bytes { out.new.bytes ≡ out.old.bytes ++ full_date_text date }
     ensures len { array_string_len out.new ≤ array_string_len out.old + 13 }
 {
-    push_four(out, date.year);
+    push_padded(out, u64::from(date.year), 4);
     push_text(out, "-");
-    push_two(out, u16::from(date.month));
+    push_padded(out, u64::from(date.month), 2);
     push_text(out, "-");
-    push_two(out, u16::from(date.day));
+    push_padded(out, u64::from(date.day), 2);
 }
 
 /// A colon, and at least two digits.
-fn push_colon_two(out: &mut Short, value: u8)
-    requires { array_string_len out.old + 4 ≤ 128 }
+#[tactic(auto, using(crate::proofs::TextFacts::short_hours))]
+fn push_colon_two<const CAP: usize>(out: &mut ArrayString<CAP>, value: u8)
+    requires { array_string_len out.old + 4 ≤ CAP }
     ensures bytes { out.new.bytes ≡ out.old.bytes ++ (codes ":" ++ padded_digits 2 value) }
     ensures len { array_string_len out.new ≤ array_string_len out.old + 4 }
 {
     push_text(out, ":");
-    push_two(out, u16::from(value));
+    push_padded(out, u64::from(value), 2);
+}
+
+/// The digits of a nanosecond without the zeros at the end, at least one.
+#[tactic(auto, using(scan_core::proofs::DigitFacts::length_decimal_u32))]
+fn push_fraction<const CAP: usize>(out: &mut ArrayString<CAP>, nanosecond: u32)
+    requires { array_string_len out.old + 10 ≤ CAP }
+    ensures bytes { out.new.bytes ≡ out.old.bytes ++ fraction_text nanosecond }
+    ensures len { array_string_len out.new ≤ array_string_len out.old + 10 }
+{
+    if nanosecond == 0 {
+        out.push('0');
+    } else {
+        push_trimmed(out, u64::from(nanosecond), 9);
+    }
 }
 
 /// A point, and the digits of the nanoseconds.
-fn push_point_fraction(out: &mut Short, nanosecond: u32)
-    requires { array_string_len out.old + 11 ≤ 128 }
+fn push_point_fraction<const CAP: usize>(out: &mut ArrayString<CAP>, nanosecond: u32)
+    requires { array_string_len out.old + 11 ≤ CAP }
     ensures bytes { out.new.bytes ≡ out.old.bytes ++ (codes "." ++ fraction_text nanosecond) }
     ensures len { array_string_len out.new ≤ array_string_len out.old + 11 }
 {
@@ -43,8 +58,12 @@ fn push_point_fraction(out: &mut Short, nanosecond: u32)
 }
 
 /// The second and its fraction, where they are there.
-fn push_seconds(out: &mut Short, second: Option<u8>, nanosecond: Option<u32>)
-    requires { array_string_len out.old + 15 ≤ 128 }
+fn push_seconds<const CAP: usize>(
+    out: &mut ArrayString<CAP>,
+    second: Option<u8>,
+    nanosecond: Option<u32>,
+)
+    requires { array_string_len out.old + 15 ≤ CAP }
     ensures bytes { out.new.bytes ≡ out.old.bytes ++ partial_second_text second nanosecond }
     ensures len { array_string_len out.new ≤ array_string_len out.old + 15 }
 {
@@ -63,33 +82,34 @@ fn push_seconds(out: &mut Short, second: Option<u8>, nanosecond: Option<u32>)
 }
 
 /// `HH:MM`, and perhaps seconds and a fraction.
-#[tactic(auto, unfolding(crate::specs::Texts::partial_time_text))]
-fn push_time(out: &mut Short, time: Time)
-    requires { array_string_len out.old + 22 ≤ 128 }
+#[tactic(auto, unfolding(crate::specs::Texts::partial_time_text), using(crate::proofs::TextFacts::short_hours))]
+fn push_time<const CAP: usize>(out: &mut ArrayString<CAP>, time: Time)
+    requires { array_string_len out.old + 22 ≤ CAP }
     ensures bytes { out.new.bytes ≡ out.old.bytes ++ partial_time_text time }
     ensures len { array_string_len out.new ≤ array_string_len out.old + 22 }
 {
-    push_two(out, u16::from(time.hour));
+    push_padded(out, u64::from(time.hour), 2);
     push_colon_two(out, time.minute);
     push_seconds(out, time.second, time.nanosecond);
 }
 
 /// `HH:MM` of so many minutes.
-fn push_minutes(out: &mut Short, minutes: u16)
+#[tactic(auto, using(crate::proofs::TextFacts::short_hours, scan_core::proofs::DigitFacts::length_decimal_two))]
+fn push_minutes<const CAP: usize>(out: &mut ArrayString<CAP>, minutes: u16)
     requires minutes { minutes ≤ 32768 }
-    requires room { array_string_len out.old + 7 ≤ 128 }
+    requires room { array_string_len out.old + 6 ≤ CAP }
     ensures bytes { out.new.bytes ≡ out.old.bytes ++ minutes_text minutes }
     ensures len { array_string_len out.new ≤ array_string_len out.old + 6 }
 {
-    push_two(out, minutes / 60);
+    push_padded(out, u64::from(minutes / 60), 2);
     push_text(out, ":");
-    push_two(out, minutes % 60);
+    push_padded(out, u64::from(minutes % 60), 2);
 }
 
 /// A sign, and `HH:MM` of the magnitude.
 #[tactic(auto, using(crate::proofs::TextFacts::negative_text, crate::proofs::TextFacts::positive_text))]
-fn push_signed(out: &mut Short, minutes: i16)
-    requires { array_string_len out.old + 8 ≤ 128 }
+fn push_signed<const CAP: usize>(out: &mut ArrayString<CAP>, minutes: i16)
+    requires { array_string_len out.old + 7 ≤ CAP }
     ensures bytes { out.new.bytes ≡ out.old.bytes ++ signed_text minutes }
     ensures len { array_string_len out.new ≤ array_string_len out.old + 7 }
 {
@@ -104,8 +124,8 @@ fn push_signed(out: &mut Short, minutes: i16)
 
 /// `Z`, or a sign and `HH:MM`.
 #[tactic(auto, unfolding(crate::specs::Texts::time_offset_text))]
-fn push_offset(out: &mut Short, offset: Offset)
-    requires { array_string_len out.old + 8 ≤ 128 }
+fn push_offset<const CAP: usize>(out: &mut ArrayString<CAP>, offset: Offset)
+    requires { array_string_len out.old + 7 ≤ CAP }
     ensures bytes { out.new.bytes ≡ out.old.bytes ++ time_offset_text offset }
     ensures len { array_string_len out.new ≤ array_string_len out.old + 7 }
 {
@@ -116,8 +136,8 @@ fn push_offset(out: &mut Short, offset: Offset)
 }
 
 /// The date, where there is one.
-fn push_part_date(out: &mut Short, date: Option<Date>)
-    requires { array_string_len out.old + 13 ≤ 128 }
+fn push_part_date<const CAP: usize>(out: &mut ArrayString<CAP>, date: Option<Date>)
+    requires { array_string_len out.old + 13 ≤ CAP }
     ensures bytes { out.new.bytes ≡ out.old.bytes ++ part_text full_date_text date }
     ensures len { array_string_len out.new ≤ array_string_len out.old + 13 }
 {
@@ -127,8 +147,12 @@ fn push_part_date(out: &mut Short, date: Option<Date>)
 }
 
 /// `T`, where there are a date and a time.
-fn push_delimiter(out: &mut Short, date: Option<Date>, time: Option<Time>)
-    requires { array_string_len out.old + 1 ≤ 128 }
+fn push_delimiter<const CAP: usize>(
+    out: &mut ArrayString<CAP>,
+    date: Option<Date>,
+    time: Option<Time>,
+)
+    requires { array_string_len out.old + 1 ≤ CAP }
     ensures bytes { out.new.bytes ≡ out.old.bytes ++ delimiter_text date time }
     ensures len { array_string_len out.new ≤ array_string_len out.old + 1 }
 {
@@ -140,8 +164,8 @@ fn push_delimiter(out: &mut Short, date: Option<Date>, time: Option<Time>)
 }
 
 /// The time, where there is one.
-fn push_part_time(out: &mut Short, time: Option<Time>)
-    requires { array_string_len out.old + 22 ≤ 128 }
+fn push_part_time<const CAP: usize>(out: &mut ArrayString<CAP>, time: Option<Time>)
+    requires { array_string_len out.old + 22 ≤ CAP }
     ensures bytes { out.new.bytes ≡ out.old.bytes ++ part_text partial_time_text time }
     ensures len { array_string_len out.new ≤ array_string_len out.old + 22 }
 {
@@ -151,8 +175,8 @@ fn push_part_time(out: &mut Short, time: Option<Time>)
 }
 
 /// The offset, where there is one.
-fn push_part_offset(out: &mut Short, offset: Option<Offset>)
-    requires { array_string_len out.old + 8 ≤ 128 }
+fn push_part_offset<const CAP: usize>(out: &mut ArrayString<CAP>, offset: Option<Offset>)
+    requires { array_string_len out.old + 7 ≤ CAP }
     ensures bytes { out.new.bytes ≡ out.old.bytes ++ part_text time_offset_text offset }
     ensures len { array_string_len out.new ≤ array_string_len out.old + 7 }
 {
@@ -190,14 +214,13 @@ pub(crate) fn offset_text(offset: Offset) -> Short
 
 /// The parts that are there, with `T` between a date and a time.
 #[tactic(auto, unfolding(crate::specs::Texts::text_of))]
-pub(crate) fn datetime_text(datetime: Datetime) -> Short
-    ensures bytes { result.bytes ≡ text_of datetime }
-    ensures short { array_string_len result ≤ 43 }
+pub(crate) fn push_datetime<const CAP: usize>(out: &mut ArrayString<CAP>, datetime: Datetime)
+    requires { array_string_len out.old + 43 ≤ CAP }
+    ensures bytes { out.new.bytes ≡ out.old.bytes ++ text_of datetime }
+    ensures len { array_string_len out.new ≤ array_string_len out.old + 43 }
 {
-    let mut out = Short::new();
-    push_part_date(&mut out, datetime.date);
-    push_delimiter(&mut out, datetime.date, datetime.time);
-    push_part_time(&mut out, datetime.time);
-    push_part_offset(&mut out, datetime.offset);
-    out
+    push_part_date(out, datetime.date);
+    push_delimiter(out, datetime.date, datetime.time);
+    push_part_time(out, datetime.time);
+    push_part_offset(out, datetime.offset);
 }
