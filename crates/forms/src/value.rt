@@ -1,5 +1,5 @@
 //! Values, which texts of all forms stand for, and the two tables of forms: how each reads a value, and how it writes one.
-ghost use Rattle.std.specs.Prelude.{◌≡◌, ◌+◌, ◌*◌, ◌≤◌, ◌↔◌, List, ℕ, Result as AnyResult, IfOk, IsTrue, length};
+ghost use Rattle.std.specs.Prelude.{◌≡◌, ◌+◌, ◌*◌, ◌<◌, ◌≤◌, ◌↔◌, List, ℕ, Result as AnyResult, IfOk, IsTrue, length};
 ghost use Rattle.arrayvec.specs.ArrayString.{array_string_len};
 ghost use Rattle.forms.specs.declared.cause.Cause.{Cause as AnyCause};
 ghost use Rattle.forms.specs.declared.value.Value.{Value as AnyValue};
@@ -15,7 +15,8 @@ use crate::laws::all_lawful;
 use arrayvec::ArrayString;
 use pg_interval_2::{Short, Style};
 use scan_core::{Looked, Steps};
-use std::sync::ledger::Ledger;
+use std::marker::Brand;
+use std::sync::ledger::{Blank, Ledger};
 
 /// What a text stands for. Moments and days count from 1970-01-01 in the Gregorian calendar, which is taken to go on before 1582.
 #[derive(Clone, Copy, Debug, PartialEq, Eq)]
@@ -76,15 +77,21 @@ fn read(form: Form, text: &str) -> Result<Value, Cause>
         Form::FileTime => file_time::read(text),
         Form::IsoDateTime => iso_date_time::read(text),
         Form::IsoDate => iso_date::read(text),
-        Form::IsoDuration => iso_duration::read(text),
         Form::Toml => toml::read(text),
         Form::Fancy => fancy::read(text),
-        Form::PgIso => intervals::read(Style::Iso, text),
-        Form::Postgres => intervals::read(Style::Postgres, text),
-        Form::PgVerbose => intervals::read(Style::Verbose, text),
-        Form::PgSql => intervals::read(Style::Sql, text),
-        Form::IsoStrict => intervals::read(Style::IsoStrict, text),
+        _ => read_alone::<Brand>(form, &Looked::new(text), Blank::new(1)),
     }
+}
+
+/// What the form's reader answers on a counted text, with a counter of its own.
+fn read_alone<L: Ledger>(form: Form, text: &Looked<'_>, blank: Blank) -> Result<Value, Cause>
+    requires name { blank.name ≡ L.name }
+    requires parts { blank.parts ≡ L.parts }
+    requires some { 0 < L.parts }
+    requires form { IsTrue (is_counted form) }
+    ensures { Reads form text.now result }
+{
+    read_by_looks(form, text, &mut Steps::<L>::new(blank))
 }
 
 /// What `read_value` answers on a counted text: of n bytes with at most 2n + 4 looks, and with n at least where it is Ok.
@@ -103,7 +110,7 @@ pub(crate) fn read_counted<L: Ledger>(
     read_by_looks(form, text, steps)
 }
 
-/// What the form's reader answers on a counted text.
+/// What the form's reader answers on a counted text: that of its style, or of ISO durations, the only others.
 fn read_by_looks<L: Ledger>(
     form: Form,
     text: &Looked<'_>,
@@ -114,15 +121,9 @@ fn read_by_looks<L: Ledger>(
     ensures most { steps.new ≤ steps.old + (2 * length text.now + 4) }
     ensures least { IfOk result (λ _. steps.old + length text.now ≤ steps.new) }
 {
-    match form {
-        Form::IsoDuration => iso_duration::read_counted(text, steps),
-        Form::PgIso => intervals::read_counted(Style::Iso, text, steps),
-        Form::Postgres => intervals::read_counted(Style::Postgres, text, steps),
-        Form::PgVerbose => intervals::read_counted(Style::Verbose, text, steps),
-        Form::PgSql => intervals::read_counted(Style::Sql, text, steps),
-        Form::IsoStrict => intervals::read_counted(Style::IsoStrict, text, steps),
-        Form::FileTime | Form::IsoDateTime | Form::IsoDate | Form::Toml | Form::Fancy =>
-            unreachable!(),
+    match form.style() {
+        Some(style) => intervals::read_counted(style, text, steps),
+        None => iso_duration::read_counted(text, steps),
     }
 }
 

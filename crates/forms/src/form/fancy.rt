@@ -43,7 +43,7 @@ pub fn push<const CAP: usize>(value: Value, out: &mut ArrayString<CAP>) -> Resul
 {
     match length_for(value) {
         Ok(nanos) => {
-            out.push_str(duration(nanos).text().as_str());
+            duration(nanos).push_text(out);
             Ok(())
         }
         Err(cause) => Err(cause),

@@ -24,23 +24,6 @@ use std::sync::ledger::{Blank, Ledger};
 
 const NANOSECONDS_A_DAY: u128 = 86_400_000_000_000;
 
-/// The triple that a text denotes in the style.
-pub fn read(style: Style, text: &str) -> Result<Value, Cause>
-    ensures { ReadsBy (Shape style) (Is worth) text.now result }
-{
-    read_alone::<Brand>(style, &Looked::new(text), Blank::new(1))
-}
-
-/// The same of a counted text, with a counter of its own.
-fn read_alone<L: Ledger>(style: Style, text: &Looked<'_>, blank: Blank) -> Result<Value, Cause>
-    requires name { blank.name ≡ L.name }
-    requires parts { blank.parts ≡ L.parts }
-    requires some { 0 < L.parts }
-    ensures { ReadsBy (Shape style) (Is worth) text.now result }
-{
-    read_counted(style, text, &mut Steps::<L>::new(blank))
-}
-
 /// The triple that a counted text denotes in the style: of n bytes with at most 2n + 4 looks, and with n at least where it is Ok.
 pub fn read_counted<L: Ledger>(
     style: Style,

@@ -14,27 +14,9 @@ use crate::value::Value;
 use arrayvec::ArrayString;
 use iso8601::{Duration, duration_counted};
 use scan_core::{Looked, Steps};
-use std::marker::Brand;
-use std::sync::ledger::{Blank, Ledger};
+use std::sync::ledger::Ledger;
 
 const NANOSECONDS_A_DAY: u128 = 86_400_000_000_000;
-
-/// The triple of a duration.
-pub fn read(text: &str) -> Result<Value, Cause>
-    ensures { Reads AnyForm.IsoDuration text.now result }
-{
-    read_alone::<Brand>(&Looked::new(text), Blank::new(1))
-}
-
-/// The same of a counted text, with a counter of its own.
-fn read_alone<L: Ledger>(text: &Looked<'_>, blank: Blank) -> Result<Value, Cause>
-    requires name { blank.name ≡ L.name }
-    requires parts { blank.parts ≡ L.parts }
-    requires some { 0 < L.parts }
-    ensures { Reads AnyForm.IsoDuration text.now result }
-{
-    read_counted(text, &mut Steps::<L>::new(blank))
-}
 
 /// The triple of a duration in a counted text: of n bytes with at most 2n looks, and with n at least where it is Ok.
 pub fn read_counted<L: Ledger>(text: &Looked<'_>, steps: &mut Steps<L>) -> Result<Value, Cause>

@@ -138,7 +138,7 @@ pub fn push<const CAP: usize>(value: Value, out: &mut ArrayString<CAP>) -> Resul
 {
     match datetime_for(value) {
         Ok(datetime) => {
-            out.push_str(datetime.text().as_str());
+            datetime.push_text(out);
             Ok(())
         }
         Err(cause) => Err(cause),
