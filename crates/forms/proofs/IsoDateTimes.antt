@@ -19,7 +19,7 @@ use Rattle.iso8601.specs.declared.types.Date.{Date}
 use Rattle.iso8601.specs.DateTimes.{IsDateTime}
 use Rattle.iso8601.specs.Moments.{IsMoment, IsMomentOf, offset_of}
 use Rattle.iso8601.specs.Ranges.{IsDateTimeInRange, HaveOneSign}
-use Rattle.iso8601.specs.Written.{year_text, date_text, time_of_day_text, two_wide, offset_text, time_text, date_time_text}
+use Rattle.iso8601.specs.Written.{year_text, date_text, date_time_text}
 use Rattle.scan_core.specs.Number.{minus}
 use Rattle.iso8601.specs.declared.types.Date.TheVariants.{YMD}
 use Rattle.iso8601.specs.declared.types.DateTime.{DateTime}

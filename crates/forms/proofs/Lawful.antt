@@ -132,7 +132,8 @@ pub exactly_turned : (from to : Form) → Lawful from → Lawful to → (text : 
 exactly_turned from to lf lt text result turned answer = (λ e. subst (Turns from to text) e turned, λ other. one_turn from to lf lt text result answer turned other)
 
 -- a text is written of what was read alone
-pub only_read : (P : Type 0) (to : Form) (read : Result Value Cause) (written : Result ArrayString Cause) → Then (Writes to) read (bytes_of written) → IfOk read (λ _. P) → IfOk written (λ _. P)
+pub only_read : (P : Type 0) (to : Form) (read : Result Value Cause) (written : Result ArrayString Cause)
+    → Then (Writes to) read (bytes_of written) → IfOk read (λ _. P) → IfOk written (λ _. P)
 only_read P to (Ok value) (Ok text) h p = p
 only_read P to (Err cause) (Ok text) h p = absurd (let e : Ok text.bytes ≡ Err cause = h in cc)
 only_read P to read (Err cause) h p = tt

@@ -34,11 +34,13 @@ one_form f g same =
     let both : Some f ≡ Some g = sym (finds_form f) ∙ (ap (λ (name : List ℕ). form_named name forms) same ∙ finds_form g) in cc
 
 -- what is tested of the first of these forms with the name
-tested_here : (test : Form → Bool) (g f : Form) (more : Option Form) (here : Bool) → cond here (Some g) more ≡ Some f → test g ≡ true → (more ≡ Some f → test f ≡ true) → test f ≡ true
+tested_here : (test : Form → Bool) (g f : Form) (more : Option Form) (here : Bool) → cond here (Some g) more ≡ Some f → test g ≡ true
+    → (more ≡ Some f → test f ≡ true) → test f ≡ true
 tested_here test g f more true found here later = let same : g ≡ f = cc in subst (λ (h : Form). test h ≡ true) same here
 tested_here test g f more false found here later = later found
 
-tested : (test : Form → Bool) (name : List ℕ) (all : List Form) (f : Form) → form_named name all ≡ Some f → list_all test all ≡ true → test f ≡ true
+tested : (test : Form → Bool) (name : List ℕ) (all : List Form) (f : Form) → form_named name all ≡ Some f → list_all test all ≡ true
+    → test f ≡ true
 tested test name [] f found h = absurd (let e : None ≡ Some f = found in cc)
 tested test name (g ∷ more) f found h =
     let parts = and_parts (test g) (list_all test more) h in

@@ -43,6 +43,7 @@ pub puts_none : {X : Type 0} (Holds : Value → Result X Cause → Type 0) (text
 puts_none Holds text_of value cause bytes held = record { answer = Err cause; is = (Err cause, held, refl); put = (refl, refl) }
 
 -- a text of one kind that was put there is one of another
-pub puts_so : (P Q : Result (List ℕ) Cause → Type 0) → ((answer : Result (List ℕ) Cause) → P answer → Q answer) → (before after : List ℕ) (result : Result ⊤ Cause) → Puts P before after result
+pub puts_so : (P Q : Result (List ℕ) Cause → Type 0) → ((answer : Result (List ℕ) Cause) → P answer → Q answer)
+    → (before after : List ℕ) (result : Result ⊤ Cause) → Puts P before after result
     → Puts Q before after result
 puts_so P Q so before after result puts = record { answer = puts.answer; is = so puts.answer puts.is; put = puts.put }

@@ -114,6 +114,7 @@ answers_turned in_range from to text answer =
     (answer_turned in_range from to text answer, by_styles in_range from to (style_of from) (style_of to) refl refl text answer)
 
 -- of the counted forms, durations of ISO 8601 alone have no style
-pub counted_alone : (form : Form) → IsTrue (is_counted form) → None ≡ style_of form → (text : List ℕ) (a : Result Value Cause) → Reads IsoDuration text a → Reads form text a
+pub counted_alone : (form : Form) → IsTrue (is_counted form) → None ≡ style_of form → (text : List ℕ) (a : Result Value Cause)
+    → Reads IsoDuration text a → Reads form text a
 counted_alone IsoDuration counted none text a h = h
 counted_alone _ counted none text a h = absurd (let e = counted in let f = none in cc)

@@ -11,7 +11,8 @@ kept : (a : Option (List ℕ)) (before : List ℕ) → Moves a a before [] befor
 kept a before = record { front = []; split = append-nil before; gained = Appends-nil a }
 
 -- what waits moved, and a text was put behind the rest
-pub put_behind : (a b : Option (List ℕ)) (before between text after : List ℕ) → KeepOrder → Moves a b before [] between → after ≡ between ++ text → Moves a b before text after
+pub put_behind : (a b : Option (List ℕ)) (before between text after : List ℕ) → KeepOrder → Moves a b before [] between
+    → after ≡ between ++ text → Moves a b before text after
 put_behind a b before between text after order moved put =
     order.next a b b before [] between text after moved (record { front = []; split = sym put; gained = Appends-nil b })
 

@@ -81,19 +81,24 @@ pub has_line : AreCalendarDates → (z : ℤ) → IsWritable z → (line : List 
 has_line laws z h = let text = has_text laws z h in (text.0 ++ codes "\n", (text.0, text.1, refl))
 
 -- what a writer put there where it refused nothing
-gained_by : (P : Result (List ℕ) Cause → Type 0) (answer : Result (List ℕ) Cause) (before after : List ℕ) → P answer → IsPut answer before after (Ok tt) → Gains (λ text. P (Ok text)) before after
+gained_by : (P : Result (List ℕ) Cause → Type 0) (answer : Result (List ℕ) Cause) (before after : List ℕ) → P answer
+    → IsPut answer before after (Ok tt) → Gains (λ text. P (Ok text)) before after
 gained_by P (Ok text) before after is put = (text, is, put.1)
 gained_by P (Err cause) before after is put = absurd (let e : Ok tt ≡ Err cause = put.0 in cc)
 
-pub gained : (P : Result (List ℕ) Cause → Type 0) (before after : List ℕ) → Puts P before after (Ok tt) → Gains (λ text. P (Ok text)) before after
+pub gained : (P : Result (List ℕ) Cause → Type 0) (before after : List ℕ) → Puts P before after (Ok tt)
+    → Gains (λ text. P (Ok text)) before after
 gained P before after puts = gained_by P puts.answer before after puts.is puts.put
 
 -- no writer refuses where there is a text
-refuses_none : (P : Result (List ℕ) Cause → Type 0) → ((a b : Result (List ℕ) Cause) → P a → P b → a ≡ b) → (text before after : List ℕ) (cause : Cause) → P (Ok text) → (answer : Result (List ℕ) Cause) → P answer → IsPut answer before after (Err cause) → ⊥
+refuses_none : (P : Result (List ℕ) Cause → Type 0) → ((a b : Result (List ℕ) Cause) → P a → P b → a ≡ b)
+    → (text before after : List ℕ) (cause : Cause) → P (Ok text) → (answer : Result (List ℕ) Cause) → P answer
+    → IsPut answer before after (Err cause) → ⊥
 refuses_none P one text before after cause has (Ok other) is put = let e : Err cause ≡ Ok tt = put.0 in cc
 refuses_none P one text before after cause has (Err other) is put = let e : Ok text ≡ Err other = one (Ok text) (Err other) has is in cc
 
-pub not_refused : (P : Result (List ℕ) Cause → Type 0) → ((a b : Result (List ℕ) Cause) → P a → P b → a ≡ b) → (text before after : List ℕ) (cause : Cause) → P (Ok text) → Puts P before after (Err cause) → ⊥
+pub not_refused : (P : Result (List ℕ) Cause → Type 0) → ((a b : Result (List ℕ) Cause) → P a → P b → a ≡ b)
+    → (text before after : List ℕ) (cause : Cause) → P (Ok text) → Puts P before after (Err cause) → ⊥
 not_refused P one text before after cause has puts = refuses_none P one text before after cause has puts.answer puts.is puts.put
 
 -- the texts of instants, each on a line of its own

@@ -1,5 +1,4 @@
 -- Answers to the goals of `answer::reply_counted`.
-use Rattle.std.proofs.Common.{◌+◌, ◌≤◌, length}
 use Rattle.forms.specs.Answers.{bytes_of}
 use Rattle.forms.proofs.Lawful.{exactly_turned, only_read}
 use Rattle.forms.proofs.answer.reply_counted.Goals as goal

@@ -1,5 +1,5 @@
 -- Answers to the goals of `value::write_value`.
-use Rattle.std.proofs.Common.{Ok, Err}
+use Rattle.std.proofs.Common.{Err}
 use Rattle.forms.specs.Forms.{Writes}
 use Rattle.forms.proofs.Lawful.{exactly_written}
 use Rattle.forms.proofs.Putting.{alone, refuses}
