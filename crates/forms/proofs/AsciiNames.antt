@@ -6,8 +6,8 @@ use Rattle.std.proofs.lemmas.Bool.{and_parts}
 use Rattle.std.proofs.lemmas.Bool.Decides.{nat_tests}
 use Rattle.std.proofs.lemmas.Str.{IsUtf8-append, IsUtf8-from_ascii, IsUtf8-past_char, encode_ascii}
 use Rattle.forms.specs.declared.form.Form.{Form}
-use Rattle.forms.specs.declared.form.Form.TheVariants.{FileTime, IsoDateTime, IsoDate, IsoDuration, Toml, Fancy, PgIso, Postgres, PgVerbose, PgSql, IsoStrict}
 use Rattle.forms.specs.Names.{name_of}
+use Rattle.forms.proofs.NamedForms.{each}
 use Rattle.forms.specs.Replies.{IsReply, IsRequest}
 use Rattle.forms.specs.TextReplies.{IsTextReply}
 use Rattle.forms.specs.inside.Requests.{HasNames, HasRequest, IsTail}
@@ -26,17 +26,7 @@ ascii (b ∷ bs) h zero = small_below b (and_parts (is_small b) (list_all is_sma
 ascii (b ∷ bs) h (suc i) = ascii bs (and_parts (is_small b) (list_all is_small bs) h).1 i
 
 pub small_name : (form : Form) → list_all is_small (name_of form) ≡ true
-small_name FileTime = refl
-small_name IsoDateTime = refl
-small_name IsoDate = refl
-small_name IsoDuration = refl
-small_name Toml = refl
-small_name Fancy = refl
-small_name PgIso = refl
-small_name Postgres = refl
-small_name PgVerbose = refl
-small_name PgSql = refl
-small_name IsoStrict = refl
+small_name = each (λ form. list_all is_small (name_of form)) refl
 
 -- bytes are UTF-8 behind ASCII exactly where the whole is
 

@@ -19,7 +19,7 @@ use Rattle.iso8601.specs.declared.types.Date.{Date}
 use Rattle.iso8601.specs.DateTimes.{IsDateTime}
 use Rattle.iso8601.specs.Moments.{IsMoment, IsMomentOf, offset_of}
 use Rattle.iso8601.specs.Ranges.{IsDateTimeInRange, HaveOneSign}
-use Rattle.iso8601.specs.Written.{year_text, date_text, time_of_day_text, two_wide, offset_text, time_text, date_time_text}
+use Rattle.iso8601.specs.Written.{year_text, date_text, date_time_text}
 use Rattle.scan_core.specs.Number.{minus}
 use Rattle.iso8601.specs.declared.types.Date.TheVariants.{YMD}
 use Rattle.iso8601.specs.declared.types.DateTime.{DateTime}
@@ -61,7 +61,7 @@ is_worth t m real of = inl (record { day = real.0; clock = real.2; offset = real
 pub is_out : (t : DateTime) → IsReal t → (IsMoment t → ⊥) → Worth t (Err Range)
 is_out t real isnt = inr (inr (real, (λ day. isnt (real.day, day, real.clock, real.offset)), refl))
 
--- ---- the text is short
+-- ---- the text of a date is short
 
 joined : (xs ys : List ℕ) (a b : ℕ) → length xs ≤ a → length ys ≤ b → length (xs ++ ys) ≤ a + b
 joined xs ys a b h k = let sum = length-append xs ys in omega arith
@@ -82,34 +82,12 @@ unfolding date_text
 date_short year month day y m d =
     joined (year_text year) _ 5 10 (year_short year y) (joined (codes "-") _ 1 9 (omega arith) (joined (padded_digits 2 month) _ 4 5 (small 2 month (omega arith) m) (joined (codes "-") (padded_digits 2 day) 1 4 (omega arith) (small 2 day (omega arith) d))))
 
-clock_short : (hour minute second millis : ℕ) → hour < 10 ^ 4 → minute < 10 ^ 4 → second < 10 ^ 4 → millis < 10 ^ 4 → length (time_of_day_text hour minute second millis) ≤ 19
-unfolding time_of_day_text
-clock_short hour minute second millis h m s f =
-    joined (padded_digits 2 hour) _ 4 15 (small 2 hour (omega arith) h)
-    (joined (codes ":") _ 1 14 (omega arith)
-    (joined (padded_digits 2 minute) _ 4 10 (small 2 minute (omega arith) m)
-    (joined (codes ":") _ 1 9 (omega arith)
-    (joined (padded_digits 2 second) _ 4 5 (small 2 second (omega arith) s) (joined (codes ".") (padded_digits 3 millis) 1 4 (omega arith) (small 3 millis (omega arith) f))))))
-
-offset_short : length (offset_text (pos 0) (pos 0)) ≤ 10
-unfolding offset_text two_wide
-offset_short = joined (codes "+") _ 1 9 (omega arith) (joined (padded_digits 2 0) _ 4 5 (small 2 0 (omega arith) (omega arith)) (joined (codes ":") (padded_digits 2 0) 1 4 (omega arith) (small 2 0 (omega arith) (omega arith))))
-
-pub short_text : (c : CivilDateTime) → length (date_time_text (utc c)) ≤ 96
-unfolding date_time_text time_text
-short_text c =
-    let year : IsYear c.date.year = c.date.year_in in
-    let month = c.date.month_in.1 in
-    let day = (date_in_range c.date).4 in
-    let hour = c.time.hour_in in
-    let minute = c.time.minute_in in
-    let second = c.time.second_in in
-    let subsec = c.time.subsec_in in
-    let date = date_short c.date.year c.date.month c.date.day (omega (arith, ints)) (omega arith) (omega arith) in
-    let clock = clock_short c.time.hour c.time.minute c.time.second (c.time.subsec_nanosecond / 1_000_000) (omega arith) (omega arith) (omega arith) (omega arith) in
-    let time = joined (time_of_day_text c.time.hour c.time.minute c.time.second (c.time.subsec_nanosecond / 1_000_000)) (offset_text (pos 0) (pos 0)) 19 10 clock offset_short in
-    let rest : length (codes "T" ++ time_text (utc c).time) ≤ 1 + (19 + 10) = joined (codes "T") (time_text (utc c).time) 1 (19 + 10) (omega arith) time in
-    let whole : length (date_time_text (utc c)) ≤ 15 + (1 + (19 + 10)) = joined (date_text (date_of c.date)) (codes "T" ++ time_text (utc c).time) 15 (1 + (19 + 10)) date rest in
+pub short_date : (c : CivilDate) → length (date_text (date_of c)) ≤ 28
+short_date c =
+    let year : IsYear c.year = c.year_in in
+    let month = c.month_in.1 in
+    let day = (date_in_range c).4 in
+    let date = date_short c.year c.month c.day (omega (arith, ints)) (omega arith) (omega arith) in
     omega arith
 
 -- ---- writing

@@ -1,10 +1,11 @@
 -- The laws of any form, from what its four words say of each other.
 use Rattle.std.proofs.Common.{◌≡◌, ℕ, Bool, true, false, cond, List, Result, Ok, Err, IfOk, refl, sym, ◌∙◌, ap, subst, inl, inr}
+use Rattle.arrayvec.specs.ArrayString.{ArrayString}
 use Rattle.forms.specs.declared.cause.Cause.{Cause}
 use Rattle.forms.specs.declared.cause.Cause.TheVariants.{Syntax}
 use Rattle.forms.specs.declared.form.Form.{Form}
 use Rattle.forms.specs.declared.value.Value.{Value}
-use Rattle.forms.specs.Answers.{Is, result_map, ReadsBy, WritesBy, Then}
+use Rattle.forms.specs.Answers.{Is, result_map, ReadsBy, WritesBy, Then, bytes_of}
 use Rattle.forms.specs.Forms.{Reads, Writes}
 use Rattle.forms.specs.ReadBack.{Turns, IsReadBack}
 use Rattle.forms.specs.Values.{IsWithinBounds, Same}
@@ -129,6 +130,13 @@ answer_back from to lf lt text out h = then_back from to lf lt text out h.0 h.1 
 -- a text's answer between two forms is this one, and no other
 pub exactly_turned : (from to : Form) → Lawful from → Lawful to → (text : List ℕ) (result : Result (List ℕ) Cause) → Turns from to text result → (answer : Result (List ℕ) Cause) → (result ≡ answer → Turns from to text answer) × (Turns from to text answer → result ≡ answer)
 exactly_turned from to lf lt text result turned answer = (λ e. subst (Turns from to text) e turned, λ other. one_turn from to lf lt text result answer turned other)
+
+-- a text is written of what was read alone
+pub only_read : (P : Type 0) (to : Form) (read : Result Value Cause) (written : Result ArrayString Cause)
+    → Then (Writes to) read (bytes_of written) → IfOk read (λ _. P) → IfOk written (λ _. P)
+only_read P to (Ok value) (Ok text) h p = p
+only_read P to (Err cause) (Ok text) h p = absurd (let e : Ok text.bytes ≡ Err cause = h in cc)
+only_read P to read (Err cause) h p = tt
 
 -- what is said of Ok is said of a result
 pub if_ok : {X : Type 0} (P : X → Type 0) (r : Result X Cause) → ((x : X) → r ≡ Ok x → P x) → IfOk r P

@@ -1,5 +1,5 @@
 -- What a reply is between two interval forms, and reading and writing in turn, say the same.
-use Rattle.std.proofs.Common.{◌≡◌, ℕ, Bool, true, false, List, Option, Some, None, Result, Ok, Err, refl, sym, ◌∙◌, ap, subst, inl, inr}
+use Rattle.std.proofs.Common.{◌≡◌, ℕ, Bool, true, false, List, Option, Some, None, Result, Ok, Err, IsTrue, refl, sym, ◌∙◌, ap, subst, inl, inr}
 use Rattle.scan_core.specs.Count.{Count}
 use Rattle.scan_core.specs.Sums.{fits}
 use Rattle.pg_interval_2.specs.declared.interval.Interval.{Interval}
@@ -10,11 +10,11 @@ use Rattle.pg_interval_2.specs.Styles.{Shape, style_text}
 use Rattle.forms.specs.declared.cause.Cause.{Cause}
 use Rattle.forms.specs.declared.cause.Cause.TheVariants.{Syntax, Range}
 use Rattle.forms.specs.declared.form.Form.{Form}
-use Rattle.forms.specs.declared.form.Form.TheVariants.{PgIso, Postgres, PgVerbose, PgSql, IsoStrict}
+use Rattle.forms.specs.declared.form.Form.TheVariants.{IsoDuration, PgIso, Postgres, PgVerbose, PgSql, IsoStrict}
 use Rattle.forms.specs.declared.value.Value.{Value}
 use Rattle.forms.specs.Answers.{Is, ReadsBy, result_map, WritesBy, Then}
-use Rattle.forms.specs.Forms.{Writes}
-use Rattle.forms.specs.Names.{style_of}
+use Rattle.forms.specs.Forms.{Reads, Writes}
+use Rattle.forms.specs.Names.{is_counted, style_of}
 use Rattle.forms.specs.ReadBack.{Turns}
 use Rattle.forms.specs.Replies.{IsIntervalAnswer, IsAnswer}
 use Rattle.forms.specs.form.Intervals.{worth, held}
@@ -112,3 +112,9 @@ pub answers_turned : ((s : Style) → IsDenotedInRange s) → (from to : Form) (
     → (IsAnswer from to text answer → Turns from to text answer) × (Turns from to text answer → IsAnswer from to text answer)
 answers_turned in_range from to text answer =
     (answer_turned in_range from to text answer, by_styles in_range from to (style_of from) (style_of to) refl refl text answer)
+
+-- of the counted forms, durations of ISO 8601 alone have no style
+pub counted_alone : (form : Form) → IsTrue (is_counted form) → None ≡ style_of form → (text : List ℕ) (a : Result Value Cause)
+    → Reads IsoDuration text a → Reads form text a
+counted_alone IsoDuration counted none text a h = h
+counted_alone _ counted none text a h = absurd (let e = counted in let f = none in cc)

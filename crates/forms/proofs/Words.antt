@@ -4,8 +4,8 @@ use Rattle.std.specs.Prelude.{unwrap_or}
 use Rattle.std.specs.List.{list_all}
 use Rattle.std.proofs.lemmas.Bool.{and_parts, eqb-false, not-true}
 use Rattle.forms.specs.declared.form.Form.{Form}
-use Rattle.forms.specs.declared.form.Form.TheVariants.{FileTime, IsoDateTime, IsoDate, IsoDuration, Toml, Fancy, PgIso, Postgres, PgVerbose, PgSql, IsoStrict}
 use Rattle.forms.specs.Names.{name_of}
+use Rattle.forms.proofs.NamedForms.{each}
 use Rattle.forms.specs.inside.Requests.{IsTail}
 use Rattle.forms.specs.inside.Reading.{behind, IsNamed}
 
@@ -14,17 +14,7 @@ is_no_space byte = not (byte == 32)
 
 -- no form's name has a space
 spaceless : (form : Form) → list_all is_no_space (name_of form) ≡ true
-spaceless FileTime = refl
-spaceless IsoDateTime = refl
-spaceless IsoDate = refl
-spaceless IsoDuration = refl
-spaceless Toml = refl
-spaceless Fancy = refl
-spaceless PgIso = refl
-spaceless Postgres = refl
-spaceless PgVerbose = refl
-spaceless PgSql = refl
-spaceless IsoStrict = refl
+spaceless = each (λ form. list_all is_no_space (name_of form)) refl
 
 same_behind : (r s : Option (List ℕ)) → behind r ≡ behind s → r ≡ s
 same_behind None None h = refl

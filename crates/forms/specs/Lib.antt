@@ -5,6 +5,7 @@ pub mod Waiting
 pub mod Lines
 pub mod Values
 pub mod Answers
+pub mod Putting
 pub mod form
 pub mod Names
 pub mod Forms

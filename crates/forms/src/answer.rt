@@ -3,18 +3,21 @@ ghost use Rattle.std.specs.Prelude.{◌≡◌, ◌+◌, ◌*◌, ◌<◌, ◌≤
 ghost use Rattle.std.specs.String.{string_bytes};
 ghost use Rattle.arrayvec.specs.ArrayString.{array_string_len};
 ghost use Rattle.forms.specs.declared.cause.Cause.{Cause as AnyCause};
-ghost use Rattle.forms.specs.Answers.{bytes_of};
+ghost use Rattle.forms.specs.Answers.{Then, bytes_of};
+ghost use Rattle.forms.specs.Forms.{Writes};
 ghost use Rattle.forms.specs.Names.{is_counted};
 ghost use Rattle.forms.specs.ReadBack.{Turns};
 ghost use Rattle.forms.specs.Replies.{IsAnswer, IsReply, answer_text, is_refusal};
-ghost use Rattle.forms.specs.inside.Putting.{Gains, Puts};
+ghost use Rattle.forms.specs.Values.{IsWithinBounds};
+ghost use Rattle.forms.specs.Putting.{Puts};
+ghost use Rattle.forms.specs.inside.Putting.{Gains};
 
 use crate::cause::Cause;
 use crate::form::Form;
 use crate::laws::{all_lawful, answers_are_readings_written};
 use crate::line::named_text;
 use crate::text_reply::push_text_reply;
-use crate::value::{push_value, read_counted, read_value};
+use crate::value::{Value, push_value, read_counted, read_value};
 use arrayvec::ArrayString;
 use scan_core::{Looked, Short, Steps};
 use std::alloc::Global;
@@ -46,7 +49,7 @@ pub fn reply(from: Form, to: Form, text: &str) -> Result<Short, Cause>
     }
     all_lawful();
     answers_are_readings_written();
-    turned(from, to, text)
+    written(to, read_value(from, text))
 }
 
 /// The answer of `reply` to a text that is seen by counted looks alone, from an interval form or `Form::IsoDuration`. It takes no
@@ -72,7 +75,7 @@ pub fn reply_counted<L: Ledger>(
 {
     all_lawful();
     answers_are_readings_written();
-    turned_counted(from, to, text, steps)
+    written(to, read_counted(from, text, steps))
 }
 
 /// The same with a counter of its own.
@@ -95,32 +98,34 @@ fn reply_alone<L: Ledger>(
     reply_counted(from, to, text, &mut Steps::<L>::new(blank))
 }
 
-/// The text of one form in another form.
-fn turned(from: Form, to: Form, text: &str) -> Result<Short, Cause>
-    ensures turned { Turns from to text.now (bytes_of result) }
+/// The written text of what was read, or the cause why there was nothing to read.
+fn written(to: Form, read: Result<Value, Cause>) -> Result<Short, Cause>
+    requires { IfOk read IsWithinBounds }
+    ensures answer { Then (Writes to) read (bytes_of result) }
     ensures len { IfOk result (λ out. array_string_len out ≤ 96) }
 {
     let mut out = Short::new();
-    push_turned(from, to, text, &mut out)?;
-    Ok(out)
+    match push_read(to, read, &mut out) {
+        Ok(()) => Ok(out),
+        Err(cause) => Err(cause),
+    }
 }
 
-/// The text of one form, read by counted looks, in another form.
-fn turned_counted<L: Ledger>(
-    from: Form,
+/// Appends the written text of what was read.
+fn push_read<const CAP: usize>(
     to: Form,
-    text: &Looked<'_>,
-    steps: &mut Steps<L>,
-) -> Result<Short, Cause>
-    requires { IsTrue (is_counted from) }
-    ensures turned { Turns from to text.now (bytes_of result) }
-    ensures len { IfOk result (λ out. array_string_len out ≤ 96) }
-    ensures most { steps.new ≤ steps.old + (2 * length text.now + 4) }
-    ensures least { IfOk result (λ _. steps.old + length text.now ≤ steps.new) }
+    read: Result<Value, Cause>,
+    out: &mut ArrayString<CAP>,
+) -> Result<(), Cause>
+    requires within { IfOk read IsWithinBounds }
+    requires room { array_string_len out.old + 96 ≤ CAP }
+    ensures answer { Puts (Then (Writes to) read) out.old.bytes out.new.bytes result }
+    ensures len { array_string_len out.new ≤ array_string_len out.old + 96 }
 {
-    let mut out = Short::new();
-    push_counted(from, to, text, steps, &mut out)?;
-    Ok(out)
+    match read {
+        Ok(value) => push_value(to, value, out),
+        Err(cause) => Err(cause),
+    }
 }
 
 /// Appends the text of one form in another form.
@@ -134,31 +139,7 @@ pub(crate) fn push_turned<const CAP: usize>(
     ensures turned { Puts (Turns from to text.now) out.old.bytes out.new.bytes result }
     ensures len { array_string_len out.new ≤ array_string_len out.old + 96 }
 {
-    match read_value(from, text) {
-        Ok(value) => push_value(to, value, out),
-        Err(cause) => Err(cause),
-    }
-}
-
-/// Appends the text of one form, read by counted looks, in another form.
-fn push_counted<L: Ledger, const CAP: usize>(
-    from: Form,
-    to: Form,
-    text: &Looked<'_>,
-    steps: &mut Steps<L>,
-    out: &mut ArrayString<CAP>,
-) -> Result<(), Cause>
-    requires form { IsTrue (is_counted from) }
-    requires room { array_string_len out.old + 96 ≤ CAP }
-    ensures turned { Puts (Turns from to text.now) out.old.bytes out.new.bytes result }
-    ensures len { array_string_len out.new ≤ array_string_len out.old + 96 }
-    ensures most { steps.new ≤ steps.old + (2 * length text.now + 4) }
-    ensures least { IfOk result (λ _. steps.old + length text.now ≤ steps.new) }
-{
-    match read_counted(from, text, steps) {
-        Ok(value) => push_value(to, value, out),
-        Err(cause) => Err(cause),
-    }
+    push_read(to, read_value(from, text), out)
 }
 
 /// The answer of `reply` as a `String`. `Refused` has its cause, exactly where `reply` refuses; `NoMemory` may stand

@@ -172,12 +172,7 @@ impl Form {
             Form::PgVerbose => Some(Style::Verbose),
             Form::PgSql => Some(Style::Sql),
             Form::IsoStrict => Some(Style::IsoStrict),
-            Form::FileTime
-            | Form::IsoDateTime
-            | Form::IsoDate
-            | Form::IsoDuration
-            | Form::Toml
-            | Form::Fancy => None,
+            _ => None,
         }
     }
 
@@ -192,7 +187,7 @@ impl Form {
             | Form::PgVerbose
             | Form::PgSql
             | Form::IsoStrict => true,
-            Form::FileTime | Form::IsoDateTime | Form::IsoDate | Form::Toml | Form::Fancy => false,
+            _ => false,
         }
     }
 }

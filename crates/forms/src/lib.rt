@@ -42,6 +42,6 @@ pub use pieces::answer_lines;
 pub use program::{run, top};
 pub use run_end::RunEnd;
 pub use text_reply::push_text_reply;
-pub use value::{Value, read_value, write_value};
+pub use value::{Value, push_value, read_value, write_value};
 pub use waiting::{Batch, flush, make_room, put_text};
 pub use writing::write_all;

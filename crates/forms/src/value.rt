@@ -1,13 +1,13 @@
 //! Values, which texts of all forms stand for, and the two tables of forms: how each reads a value, and how it writes one.
-ghost use Rattle.std.specs.Prelude.{◌≡◌, ◌+◌, ◌*◌, ◌≤◌, ◌↔◌, List, ℕ, Result as AnyResult, IfOk, IsTrue, length};
+ghost use Rattle.std.specs.Prelude.{◌≡◌, ◌+◌, ◌*◌, ◌<◌, ◌≤◌, ◌↔◌, List, ℕ, Result as AnyResult, IfOk, IsTrue, length};
 ghost use Rattle.arrayvec.specs.ArrayString.{array_string_len};
 ghost use Rattle.forms.specs.declared.cause.Cause.{Cause as AnyCause};
 ghost use Rattle.forms.specs.declared.value.Value.{Value as AnyValue};
 ghost use Rattle.forms.specs.Answers.{bytes_of};
 ghost use Rattle.forms.specs.Forms.{Reads, Writes};
 ghost use Rattle.forms.specs.Names.{is_counted};
+ghost use Rattle.forms.specs.Putting.{Puts};
 ghost use Rattle.forms.specs.Values.{IsWithinBounds};
-ghost use Rattle.forms.specs.inside.Putting.{Puts};
 
 use crate::cause::Cause;
 use crate::form::{Form, fancy, file_time, intervals, iso_date, iso_date_time, iso_duration, toml};
@@ -15,7 +15,8 @@ use crate::laws::all_lawful;
 use arrayvec::ArrayString;
 use pg_interval_2::{Short, Style};
 use scan_core::{Looked, Steps};
-use std::sync::ledger::Ledger;
+use std::marker::Brand;
+use std::sync::ledger::{Blank, Ledger};
 
 /// What a text stands for. Moments and days count from 1970-01-01 in the Gregorian calendar, which is taken to go on before 1582.
 #[derive(Clone, Copy, Debug, PartialEq, Eq)]
@@ -61,7 +62,11 @@ pub fn write_value(form: Form, value: Value) -> Result<Short, Cause>
     ensures len { IfOk result (λ out. array_string_len out ≤ 96) }
 {
     all_lawful();
-    write(form, value)
+    let mut out = Short::new();
+    match push_value(form, value, &mut out) {
+        Ok(()) => Ok(out),
+        Err(cause) => Err(cause),
+    }
 }
 
 /// What the form's reader answers.
@@ -72,15 +77,21 @@ fn read(form: Form, text: &str) -> Result<Value, Cause>
         Form::FileTime => file_time::read(text),
         Form::IsoDateTime => iso_date_time::read(text),
         Form::IsoDate => iso_date::read(text),
-        Form::IsoDuration => iso_duration::read(text),
         Form::Toml => toml::read(text),
         Form::Fancy => fancy::read(text),
-        Form::PgIso => intervals::read(Style::Iso, text),
-        Form::Postgres => intervals::read(Style::Postgres, text),
-        Form::PgVerbose => intervals::read(Style::Verbose, text),
-        Form::PgSql => intervals::read(Style::Sql, text),
-        Form::IsoStrict => intervals::read(Style::IsoStrict, text),
+        _ => read_alone::<Brand>(form, &Looked::new(text), Blank::new(1)),
     }
+}
+
+/// What the form's reader answers on a counted text, with a counter of its own.
+fn read_alone<L: Ledger>(form: Form, text: &Looked<'_>, blank: Blank) -> Result<Value, Cause>
+    requires name { blank.name ≡ L.name }
+    requires parts { blank.parts ≡ L.parts }
+    requires some { 0 < L.parts }
+    requires form { IsTrue (is_counted form) }
+    ensures { Reads form text.now result }
+{
+    read_by_looks(form, text, &mut Steps::<L>::new(blank))
 }
 
 /// What `read_value` answers on a counted text: of n bytes with at most 2n + 4 looks, and with n at least where it is Ok.
@@ -99,7 +110,7 @@ pub(crate) fn read_counted<L: Ledger>(
     read_by_looks(form, text, steps)
 }
 
-/// What the form's reader answers on a counted text.
+/// What the form's reader answers on a counted text: that of its style, or of ISO durations, the only others.
 fn read_by_looks<L: Ledger>(
     form: Form,
     text: &Looked<'_>,
@@ -110,20 +121,15 @@ fn read_by_looks<L: Ledger>(
     ensures most { steps.new ≤ steps.old + (2 * length text.now + 4) }
     ensures least { IfOk result (λ _. steps.old + length text.now ≤ steps.new) }
 {
-    match form {
-        Form::IsoDuration => iso_duration::read_counted(text, steps),
-        Form::PgIso => intervals::read_counted(Style::Iso, text, steps),
-        Form::Postgres => intervals::read_counted(Style::Postgres, text, steps),
-        Form::PgVerbose => intervals::read_counted(Style::Verbose, text, steps),
-        Form::PgSql => intervals::read_counted(Style::Sql, text, steps),
-        Form::IsoStrict => intervals::read_counted(Style::IsoStrict, text, steps),
-        Form::FileTime | Form::IsoDateTime | Form::IsoDate | Form::Toml | Form::Fancy =>
-            unreachable!(),
+    match form.style() {
+        Some(style) => intervals::read_counted(style, text, steps),
+        None => iso_duration::read_counted(text, steps),
     }
 }
 
-/// Appends the text that `write_value` answers, or nothing where it refuses.
-pub(crate) fn push_value<const CAP: usize>(
+/// Appends the text that [`write_value`] answers to a text that has room for 96 bytes more, or nothing where it refuses, for the same
+/// cause: of `Value::Instant(0)` in `Form::FileTime` it makes `at 116444736000000000` of `at `. It takes no memory.
+pub fn push_value<const CAP: usize>(
     form: Form,
     value: Value,
     out: &mut ArrayString<CAP>,
@@ -134,53 +140,16 @@ pub(crate) fn push_value<const CAP: usize>(
     ensures len { array_string_len out.new ≤ array_string_len out.old + 96 }
 {
     match form {
+        Form::FileTime => file_time::push(value, out),
+        Form::IsoDateTime => iso_date_time::push(value, out),
+        Form::IsoDate => iso_date::push(value, out),
+        Form::IsoDuration => iso_duration::push(value, out),
+        Form::Toml => toml::push(value, out),
+        Form::Fancy => fancy::push(value, out),
         Form::PgIso => intervals::push(Style::Iso, value, out),
         Form::Postgres => intervals::push(Style::Postgres, value, out),
         Form::PgVerbose => intervals::push(Style::Verbose, value, out),
         Form::PgSql => intervals::push(Style::Sql, value, out),
         Form::IsoStrict => intervals::push(Style::IsoStrict, value, out),
-        Form::FileTime
-        | Form::IsoDateTime
-        | Form::IsoDate
-        | Form::IsoDuration
-        | Form::Toml
-        | Form::Fancy => push_written(form, value, out),
-    }
-}
-
-/// Appends the text that the form's writer makes beside it.
-fn push_written<const CAP: usize>(
-    form: Form,
-    value: Value,
-    out: &mut ArrayString<CAP>,
-) -> Result<(), Cause>
-    requires within { IsWithinBounds value }
-    requires room { array_string_len out.old + 96 ≤ CAP }
-    ensures answer { Puts (Writes form value) out.old.bytes out.new.bytes result }
-    ensures len { array_string_len out.new ≤ array_string_len out.old + 96 }
-{
-    let text = write(form, value)?;
-    out.push_str(text.as_str());
-    Ok(())
-}
-
-/// What the form's writer answers.
-fn write(form: Form, value: Value) -> Result<Short, Cause>
-    requires { IsWithinBounds value }
-    ensures answer { Writes form value (bytes_of result) }
-    ensures len { IfOk result (λ out. array_string_len out ≤ 96) }
-{
-    match form {
-        Form::FileTime => file_time::write(value),
-        Form::IsoDateTime => iso_date_time::write(value),
-        Form::IsoDate => iso_date::write(value),
-        Form::IsoDuration => iso_duration::write(value),
-        Form::Toml => toml::write(value),
-        Form::Fancy => fancy::write(value),
-        Form::PgIso => intervals::write(Style::Iso, value),
-        Form::Postgres => intervals::write(Style::Postgres, value),
-        Form::PgVerbose => intervals::write(Style::Verbose, value),
-        Form::PgSql => intervals::write(Style::Sql, value),
-        Form::IsoStrict => intervals::write(Style::IsoStrict, value),
     }
 }

@@ -10,6 +10,12 @@ use Rattle.recurrence.specs.inside.Waiting.{KeepOrder, Puts, Fails}
 kept : (a : Option (List ℕ)) (before : List ℕ) → Moves a a before [] before
 kept a before = record { front = []; split = append-nil before; gained = Appends-nil a }
 
+-- what waits moved, and a text was put behind the rest
+pub put_behind : (a b : Option (List ℕ)) (before between text after : List ℕ) → KeepOrder → Moves a b before [] between
+    → after ≡ between ++ text → Moves a b before text after
+put_behind a b before between text after order moved put =
+    order.next a b b before [] between text after moved (record { front = []; split = sym put; gained = Appends-nil b })
+
 -- a front of a text is a front of a longer one
 pub front_of_longer : (a b : Option (List ℕ)) (text more : List ℕ) → AppendsFront a b text → AppendsFront a b (text ++ more)
 front_of_longer a b text more h = record {

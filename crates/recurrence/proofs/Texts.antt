@@ -1,5 +1,5 @@
 -- Each instant of whole milliseconds in the civil years has a written text.
-use Rattle.std.proofs.Common.{◌≡◌, inl, ℕ, ◌+◌, ◌*◌, ◌/◌, ◌%◌, List, [], ◌∷◌, ◌++◌, codes, ℤ, pos, Ok, refl, sym, arith}
+use Rattle.std.proofs.Common.{◌≡◌, inl, ℕ, ◌+◌, ◌*◌, ◌/◌, ◌%◌, List, [], ◌∷◌, ◌++◌, codes, ℤ, pos, Result, Ok, Err, refl, sym, arith}
 use Rattle.std.proofs.lemmas.Int.{ints}
 use Rattle.jiff_core.specs.Calendar.{IsYear}
 use Rattle.jiff_core.specs.Time.{time_nanos}
@@ -7,6 +7,8 @@ use Rattle.jiff_core.specs.DateTime.{civil_nanos}
 use Rattle.jiff_core.specs.declared.civil.datetime.DateTime.{DateTime as CivilDateTime}
 use Rattle.jiff_core.proofs.DateTimeLemmas.{civil_nanos-parts}
 use Rattle.forms.specs.Forms.{Writes}
+use Rattle.forms.specs.Putting.{IsPut, Puts}
+use Rattle.forms.specs.declared.cause.Cause.{Cause}
 use Rattle.forms.specs.declared.form.Form.TheVariants.{IsoDateTime}
 use Rattle.forms.specs.declared.value.Value.TheVariants.{Instant}
 use Rattle.iso8601.specs.declared.types.Date.TheVariants.{YMD}
@@ -16,6 +18,7 @@ use Rattle.forms.specs.form.IsoDateTime.{IsAt as IsMomentAt}
 use Rattle.recurrence.specs.inside.Steps.{AreCalendarDates}
 use Rattle.scan_core.specs.Join.{IsJoin}
 use Rattle.recurrence.specs.Replies.{IsInstantLine}
+use Rattle.recurrence.specs.inside.Waiting.{Gains}
 use Rattle.recurrence.specs.inside.Written.{IsInMillis, IsWritable, AreWritable}
 use Rattle.recurrence.proofs.CivilDays.{each_civil_instant}
 
@@ -73,6 +76,30 @@ has_text laws z h =
     let c = each_civil_instant z h.0 in
     let at = at_moment laws c.0 z c.1 (whole_subsec c.0 z c.1 h.1) in
     (_, (Ok (utc c.0), inl (utc c.0, 0, at, refl), refl))
+
+pub has_line : AreCalendarDates → (z : ℤ) → IsWritable z → (line : List ℕ) × IsInstantLine line z
+has_line laws z h = let text = has_text laws z h in (text.0 ++ codes "\n", (text.0, text.1, refl))
+
+-- what a writer put there where it refused nothing
+gained_by : (P : Result (List ℕ) Cause → Type 0) (answer : Result (List ℕ) Cause) (before after : List ℕ) → P answer
+    → IsPut answer before after (Ok tt) → Gains (λ text. P (Ok text)) before after
+gained_by P (Ok text) before after is put = (text, is, put.1)
+gained_by P (Err cause) before after is put = absurd (let e : Ok tt ≡ Err cause = put.0 in cc)
+
+pub gained : (P : Result (List ℕ) Cause → Type 0) (before after : List ℕ) → Puts P before after (Ok tt)
+    → Gains (λ text. P (Ok text)) before after
+gained P before after puts = gained_by P puts.answer before after puts.is puts.put
+
+-- no writer refuses where there is a text
+refuses_none : (P : Result (List ℕ) Cause → Type 0) → ((a b : Result (List ℕ) Cause) → P a → P b → a ≡ b)
+    → (text before after : List ℕ) (cause : Cause) → P (Ok text) → (answer : Result (List ℕ) Cause) → P answer
+    → IsPut answer before after (Err cause) → ⊥
+refuses_none P one text before after cause has (Ok other) is put = let e : Err cause ≡ Ok tt = put.0 in cc
+refuses_none P one text before after cause has (Err other) is put = let e : Ok text ≡ Err other = one (Ok text) (Err other) has is in cc
+
+pub not_refused : (P : Result (List ℕ) Cause → Type 0) → ((a b : Result (List ℕ) Cause) → P a → P b → a ≡ b)
+    → (text before after : List ℕ) (cause : Cause) → P (Ok text) → Puts P before after (Err cause) → ⊥
+not_refused P one text before after cause has puts = refuses_none P one text before after cause has puts.answer puts.is puts.put
 
 -- the texts of instants, each on a line of its own
 pub have_texts : AreCalendarDates → (instants : List ℤ) → AreWritable instants → (text : List ℕ) × IsJoin IsInstantLine text instants

@@ -1,5 +1,5 @@
 //! Writing the instants of a series, each on a line of its own.
-ghost use Rattle.std.specs.Prelude.{◌≡◌, ◌≤◌, ◌++◌, Ok, Some, codes, decimal, length, OnOk, OnErr};
+ghost use Rattle.std.specs.Prelude.{◌≡◌, ◌+◌, ◌≤◌, ◌++◌, Ok, Some, codes, decimal, length, OnOk, OnErr};
 ghost use Rattle.arrayvec.specs.ArrayString.{array_string_len};
 ghost use Rattle.scan_core.specs.Join.{IsJoin};
 ghost use Rattle.forms.specs.Forms.{Writes};
@@ -7,12 +7,13 @@ ghost use Rattle.forms.specs.Outside.{HasCause};
 ghost use Rattle.forms.specs.declared.form.Form.TheVariants.{IsoDateTime};
 ghost use Rattle.forms.specs.declared.value.Value.TheVariants.{Instant};
 ghost use Rattle.recurrence.specs.Replies.{IsInstantLine, stop_text};
-ghost use Rattle.recurrence.specs.inside.Waiting.{Puts, Fails, KeepOrder};
+ghost use Rattle.recurrence.specs.inside.Waiting.{Puts, Fails, Gains, KeepOrder};
 ghost use Rattle.recurrence.specs.inside.Written.{AreWritable, IsWritable};
 
 use crate::instant::civil_dates_are_calendar_dates;
 use crate::series::Series;
-use forms::{Batch, Failed, Form, Sink, Value, put_text, write_value};
+use arrayvec::ArrayString;
+use forms::{Batch, Failed, Form, Sink, Value, make_room, push_value, put_text};
 use scan_core::{Short, push_num};
 
 /// Texts that wait for one write are written in order.
@@ -49,30 +50,35 @@ fn put_instant<K: Sink>(sink: &mut K, batch: &mut Batch, instant: i128) -> Resul
         (K.held sink.old) (K.held sink.new) batch.old.bytes) }
     ensures cause { HasCause (K.faults sink.old) (K.faults sink.new) result }
 {
-    let line = instant_line(instant);
-    put_text(sink, batch, line.as_str())
+    texts_keep_their_order();
+    civil_dates_are_calendar_dates();
+    make_room(sink, batch, 97)?;
+    push_line(batch, instant);
+    Ok(())
 }
 
-/// The line of an instant.
-fn instant_line(instant: i128) -> Short
-    requires { IsWritable instant }
-    ensures line { IsInstantLine result.bytes instant }
-    ensures len { length result.bytes ≤ 97 }
+/// Appends the line of an instant.
+fn push_line<const CAP: usize>(batch: &mut ArrayString<CAP>, instant: i128)
+    requires writable { IsWritable instant }
+    requires room { array_string_len batch.old + 97 ≤ CAP }
+    ensures { Gains (λ text. IsInstantLine text instant) batch.old.bytes batch.new.bytes }
 {
-    let mut line = instant_text(instant);
-    line.push('\n');
-    line
+    push_instant(batch, instant);
+    batch.push('\n');
 }
 
-/// The written text of an instant.
-fn instant_text(instant: i128) -> Short
-    requires { IsWritable instant }
-    ensures written { Writes IsoDateTime (Instant instant) (Ok result.bytes) }
-    ensures len { array_string_len result ≤ 96 }
+/// Appends the written text of an instant.
+fn push_instant<const CAP: usize>(batch: &mut ArrayString<CAP>, instant: i128)
+    requires writable { IsWritable instant }
+    requires room { array_string_len batch.old + 96 ≤ CAP }
+    ensures written { Gains (λ text. Writes IsoDateTime (Instant instant) (Ok text))
+        batch.old.bytes batch.new.bytes }
+    ensures len { array_string_len batch.new ≤ array_string_len batch.old + 96 }
 {
     civil_dates_are_calendar_dates();
-    match write_value(Form::IsoDateTime, Value::Instant(instant)) {
-        Ok(text) => text,
+    forms::laws::values_have_one_writing();
+    match push_value(Form::IsoDateTime, Value::Instant(instant), batch) {
+        Ok(()) => {}
         Err(_) => unreachable!(),
     }
 }

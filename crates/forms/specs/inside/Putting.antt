@@ -1,21 +1,8 @@
--- What writers onto a text do: cited by private contracts alone.
-use Rattle.std.specs.Prelude.{◌≡◌, ℕ, ⊤, List, ◌++◌, Result, Ok, Err}
-use Rattle.forms.specs.declared.cause.Cause.{Cause}
+-- What is put onto a text in any case: cited by private contracts alone.
+use Rattle.std.specs.Prelude.{◌≡◌, ℕ, List, ◌++◌}
 
 -- some text of this kind was put behind what stood there
 pub record Gains (IsText : List ℕ → Type 0) (before after : List ℕ) : Type 0 where
   pub text : List ℕ
   pub is : IsText text
   pub gained : after ≡ before ++ text
-
--- the text of an answer was put behind what stood there, or nothing was, for its cause
-abbrev pub IsPut : Result (List ℕ) Cause → List ℕ → List ℕ → Result ⊤ Cause → Type 0
-IsPut (Ok text) before after result = (result ≡ Ok tt) × (after ≡ before ++ text)
-IsPut (Err cause) before after result = (result ≡ Err cause) × (after ≡ before)
-
--- the text of such an answer was put behind what stood there, or nothing was, for its cause
-pub record Puts (IsAnswer : Result (List ℕ) Cause → Type 0) (before after : List ℕ)
-    (result : Result ⊤ Cause) : Type 0 where
-  pub answer : Result (List ℕ) Cause
-  pub is : IsAnswer answer
-  pub put : IsPut answer before after result

@@ -1,11 +1,10 @@
 //! Short durations as a form.
-ghost use Rattle.std.specs.Prelude.{◌≡◌, ◌*◌, ◌^◌, ◌<◌, ◌≤◌, IfOk};
+ghost use Rattle.std.specs.Prelude.{◌≡◌, ◌+◌, ◌*◌, ◌^◌, ◌<◌, ◌≤◌, IfOk};
 ghost use Rattle.std.specs.Duration.{as_nanos};
 ghost use Rattle.arrayvec.specs.ArrayString.{array_string_len};
-ghost use Rattle.fancy_duration.specs.Written.{length_text};
 ghost use Rattle.forms.specs.declared.form.Form.{Form as AnyForm};
-ghost use Rattle.forms.specs.Answers.{bytes_of};
 ghost use Rattle.forms.specs.Forms.{Reads, Writes};
+ghost use Rattle.forms.specs.Putting.{Puts};
 ghost use Rattle.forms.specs.Values.{IsWithinBounds, nanos_of};
 ghost use Rattle.forms.specs.form.Fancy.{held, length_of};
 ghost use Rattle.forms.specs.inside.FancyParts.{length_of_triple};
@@ -13,8 +12,8 @@ ghost use Rattle.forms.specs.inside.Lawful.{Lawful};
 
 use crate::cause::Cause;
 use crate::value::Value;
+use arrayvec::ArrayString;
 use fancy_duration::FancyDuration;
-use scan_core::Short;
 use std::time::Duration;
 
 const NANOSECONDS_A_SECOND: u128 = 1_000_000_000;
@@ -35,14 +34,20 @@ pub fn read(text: &str) -> Result<Value, Cause>
     }
 }
 
-/// The written text of a length, or of a triple without months.
-pub fn write(value: Value) -> Result<Short, Cause>
-    requires { IsWithinBounds value }
-    ensures answer { Writes AnyForm.Fancy value (bytes_of result) }
-    ensures len { IfOk result (λ out. array_string_len out ≤ 96) }
+/// Appends the written text of a length, or of a triple without months.
+pub fn push<const CAP: usize>(value: Value, out: &mut ArrayString<CAP>) -> Result<(), Cause>
+    requires within { IsWithinBounds value }
+    requires room { array_string_len out.old + 96 ≤ CAP }
+    ensures answer { Puts (Writes AnyForm.Fancy value) out.old.bytes out.new.bytes result }
+    ensures len { array_string_len out.new ≤ array_string_len out.old + 96 }
 {
-    let nanos = length_for(value)?;
-    Ok(written(nanos))
+    match length_for(value) {
+        Ok(nanos) => {
+            duration(nanos).push_text(out);
+            Ok(())
+        }
+        Err(cause) => Err(cause),
+    }
 }
 
 /// The length of a value.
@@ -97,15 +102,6 @@ fn length_of(nanos: i128) -> Result<u128, Cause>
     } else {
         Err(Cause::Ambiguous)
     }
-}
-
-/// The written text of a length.
-fn written(nanos: u128) -> Short
-    requires { nanos < 2 ^ 64 * 1_000_000_000 }
-    ensures bytes { result.bytes ≡ length_text nanos }
-    ensures len { array_string_len result ≤ 96 }
-{
-    duration(nanos).text()
 }
 
 /// The short duration of a length.

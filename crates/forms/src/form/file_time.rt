@@ -1,19 +1,20 @@
 //! File times as a form.
-ghost use Rattle.std.specs.Prelude.{◌≡◌, ◌≤◌, ◌-ℤ◌, decimal, IfOk};
+ghost use Rattle.std.specs.Prelude.{◌≡◌, ◌+◌, ◌≤◌, ◌++◌, ◌-ℤ◌, decimal};
 ghost use Rattle.arrayvec.specs.ArrayString.{array_string_len};
 ghost use Rattle.nt_time.specs.FileTime.{unix_nanos};
 ghost use Rattle.forms.specs.declared.form.Form.{Form as AnyForm};
-ghost use Rattle.forms.specs.Answers.{bytes_of};
 ghost use Rattle.forms.specs.Forms.{Reads, Writes};
+ghost use Rattle.forms.specs.Putting.{Puts};
 ghost use Rattle.forms.specs.Values.{IsWithinBounds};
 ghost use Rattle.forms.specs.form.FileTime.{held, ticks_after};
 ghost use Rattle.forms.specs.inside.Lawful.{Lawful};
 
 use crate::cause::Cause;
 use crate::value::Value;
+use arrayvec::ArrayString;
 use nt_time::FileTime;
 use nt_time::error::ParseFileTimeCause;
-use scan_core::{Short, push_num};
+use scan_core::push_num;
 use std::str::FromStr;
 
 /// The value of a raw count in decimal.
@@ -29,14 +30,20 @@ pub fn read(text: &str) -> Result<Value, Cause>
     }
 }
 
-/// The raw count at an instant, in decimal.
-pub fn write(value: Value) -> Result<Short, Cause>
-    requires { IsWithinBounds value }
-    ensures answer { Writes AnyForm.FileTime value (bytes_of result) }
-    ensures len { IfOk result (λ out. array_string_len out ≤ 96) }
+/// Appends the raw count at an instant, in decimal.
+pub fn push<const CAP: usize>(value: Value, out: &mut ArrayString<CAP>) -> Result<(), Cause>
+    requires within { IsWithinBounds value }
+    requires room { array_string_len out.old + 96 ≤ CAP }
+    ensures answer { Puts (Writes AnyForm.FileTime value) out.old.bytes out.new.bytes result }
+    ensures len { array_string_len out.new ≤ array_string_len out.old + 96 }
 {
-    let ticks = file_time_of(value)?;
-    Ok(digits_of(ticks))
+    match file_time_of(value) {
+        Ok(ticks) => {
+            push_ticks(out, ticks);
+            Ok(())
+        }
+        Err(cause) => Err(cause),
+    }
 }
 
 /// The file time of a value, the count of ticks of 100 nanoseconds since 1601-01-01 00:00:00 UTC, which `write_value` writes: of the
@@ -53,14 +60,13 @@ pub fn file_time_of(value: Value) -> Result<u64, Cause>
     }
 }
 
-/// The decimal digits of a number.
-fn digits_of(number: u64) -> Short
-    ensures bytes { result.bytes ≡ decimal number }
-    ensures len { array_string_len result ≤ 20 }
+/// Appends the decimal digits of a number, of which 64 bits have 20 at most.
+fn push_ticks<const CAP: usize>(out: &mut ArrayString<CAP>, ticks: u64)
+    requires { array_string_len out.old + 20 ≤ CAP }
+    ensures bytes { out.new.bytes ≡ out.old.bytes ++ decimal ticks }
+    ensures len { array_string_len out.new ≤ array_string_len out.old + 20 }
 {
-    let mut out = Short::new();
-    push_num(&mut out, number);
-    out
+    push_num(out, ticks);
 }
 
 /// The count of ticks at an instant.

@@ -3,11 +3,11 @@ ghost use Rattle.std.specs.Prelude.{◌≡◌, ◌+◌, ◌*◌, ◌<◌, ◌≤
 ghost use Rattle.arrayvec.specs.ArrayString.{array_string_len};
 ghost use Rattle.pg_interval_2.specs.Denotes.{Denotes};
 ghost use Rattle.pg_interval_2.specs.Styles.{Shape, style_text};
-ghost use Rattle.forms.specs.Answers.{Is, ReadsBy, WritesBy, bytes_of};
+ghost use Rattle.forms.specs.Answers.{Is, ReadsBy, WritesBy};
+ghost use Rattle.forms.specs.Putting.{Puts};
 ghost use Rattle.forms.specs.Values.{IsWithinBounds};
 ghost use Rattle.forms.specs.form.Intervals.{worth, held, interval_of, interval_of_length};
 ghost use Rattle.forms.specs.inside.Lawful.{Lawful};
-ghost use Rattle.forms.specs.inside.Putting.{Puts};
 ghost use Rattle.forms.specs.inside.Readers.{IsNoInterval};
 ghost use Rattle.forms.specs.declared.form.Form.{Form as AnyForm};
 
@@ -17,29 +17,12 @@ use arrayvec::ArrayString;
 use pg_interval_2::laws::{
     denoted_interval_is_in_range, text_has_one_list_of_counts, written_text_is_read_back,
 };
-use pg_interval_2::{Interval, Short, Style};
+use pg_interval_2::{Interval, Style};
 use scan_core::{Looked, Steps};
 use std::marker::Brand;
 use std::sync::ledger::{Blank, Ledger};
 
 const NANOSECONDS_A_DAY: u128 = 86_400_000_000_000;
-
-/// The triple that a text denotes in the style.
-pub fn read(style: Style, text: &str) -> Result<Value, Cause>
-    ensures { ReadsBy (Shape style) (Is worth) text.now result }
-{
-    read_alone::<Brand>(style, &Looked::new(text), Blank::new(1))
-}
-
-/// The same of a counted text, with a counter of its own.
-fn read_alone<L: Ledger>(style: Style, text: &Looked<'_>, blank: Blank) -> Result<Value, Cause>
-    requires name { blank.name ≡ L.name }
-    requires parts { blank.parts ≡ L.parts }
-    requires some { 0 < L.parts }
-    ensures { ReadsBy (Shape style) (Is worth) text.now result }
-{
-    read_counted(style, text, &mut Steps::<L>::new(blank))
-}
 
 /// The triple that a counted text denotes in the style: of n bytes with at most 2n + 4 looks, and with n at least where it is Ok.
 pub fn read_counted<L: Ledger>(
@@ -104,16 +87,6 @@ fn interval_counted<L: Ledger>(
         Err(error) if error.is_range() => Err(Cause::Range),
         Err(_) => Err(Cause::Syntax),
     }
-}
-
-/// The written text of a triple, or of a length in days and microseconds.
-pub fn write(style: Style, value: Value) -> Result<Short, Cause>
-    requires { IsWithinBounds value }
-    ensures answer { WritesBy (Is held) (style_text style) value (bytes_of result) }
-    ensures len { IfOk result (λ out. array_string_len out ≤ 96) }
-{
-    let interval = interval_for(value)?;
-    Ok(interval.text(style))
 }
 
 /// Appends the written text of a triple, or of a length in days and microseconds.

@@ -1,11 +1,11 @@
 //! Dates of ISO 8601 as a form.
-ghost use Rattle.std.specs.Prelude.{◌≡◌, ◌≤◌, IfOk};
+ghost use Rattle.std.specs.Prelude.{◌≡◌, ◌+◌, ◌≤◌};
 ghost use Rattle.arrayvec.specs.ArrayString.{array_string_len};
 ghost use Rattle.jiff.specs.Words.{IsEpochDay};
 ghost use Rattle.jiff_core.specs.Date.{epoch_day};
 ghost use Rattle.forms.specs.declared.form.Form.{Form as AnyForm};
-ghost use Rattle.forms.specs.Answers.{bytes_of};
 ghost use Rattle.forms.specs.Forms.{Reads, Writes};
+ghost use Rattle.forms.specs.Putting.{Puts};
 ghost use Rattle.forms.specs.Values.{IsWithinBounds};
 ghost use Rattle.forms.specs.form.IsoDate.{Worth, Holds};
 ghost use Rattle.forms.specs.inside.CivilDates.{date_of};
@@ -13,10 +13,10 @@ ghost use Rattle.forms.specs.inside.Lawful.{Lawful};
 
 use crate::cause::Cause;
 use crate::value::Value;
+use arrayvec::ArrayString;
 use iso8601::Date;
 use iso8601::parsers::parse_date;
 use jiff_core::civil;
-use scan_core::Short;
 
 /// The day of a date.
 pub fn read(text: &str) -> Result<Value, Cause>
@@ -50,14 +50,20 @@ fn day_of(date: Date) -> Result<Value, Cause>
     }
 }
 
-/// The written text of a day, by year, month and day.
-pub fn write(value: Value) -> Result<Short, Cause>
-    requires { IsWithinBounds value }
-    ensures answer { Writes AnyForm.IsoDate value (bytes_of result) }
-    ensures len { IfOk result (λ out. array_string_len out ≤ 96) }
+/// Appends the written text of a day, by year, month and day.
+pub fn push<const CAP: usize>(value: Value, out: &mut ArrayString<CAP>) -> Result<(), Cause>
+    requires within { IsWithinBounds value }
+    requires room { array_string_len out.old + 96 ≤ CAP }
+    ensures answer { Puts (Writes AnyForm.IsoDate value) out.old.bytes out.new.bytes result }
+    ensures len { array_string_len out.new ≤ array_string_len out.old + 96 }
 {
-    let date = date_for(value)?;
-    Ok(date.text())
+    match date_for(value) {
+        Ok(date) => {
+            date.push_text(out);
+            Ok(())
+        }
+        Err(cause) => Err(cause),
+    }
 }
 
 /// The date of a value.

@@ -1,13 +1,13 @@
 //! Date-times of ISO 8601 as a form.
-ghost use Rattle.std.specs.Prelude.{◌≡◌, ◌↔◌, ◌<◌, ◌≤◌, pos, ◌-ℤ◌, ◌*ℤ◌, length, unsigned_abs, IsTrue, IfOk};
+ghost use Rattle.std.specs.Prelude.{◌≡◌, ◌↔◌, ◌+◌, ◌<◌, ◌≤◌, ◌++◌, pos, ◌-ℤ◌, ◌*ℤ◌, length, unsigned_abs, IsTrue, IfOk};
 ghost use Rattle.arrayvec.specs.ArrayString.{array_string_len};
 ghost use Rattle.jiff_core.specs.DateTime.{civil_nanos};
 ghost use Rattle.iso8601.specs.Moments.{offset_of};
-ghost use Rattle.iso8601.specs.Written.{date_time_text};
+ghost use Rattle.iso8601.specs.Written.{date_text, date_time_text};
 ghost use Rattle.forms.specs.declared.form.Form.{Form as AnyForm};
 ghost use Rattle.forms.specs.declared.value.Value.{Value as AnyValue};
-ghost use Rattle.forms.specs.Answers.{bytes_of};
 ghost use Rattle.forms.specs.Forms.{Reads, Writes};
+ghost use Rattle.forms.specs.Putting.{Puts};
 ghost use Rattle.forms.specs.Values.{IsWithinBounds};
 ghost use Rattle.forms.specs.form.IsoDateTime.{IsReal, Worth, Holds};
 ghost use Rattle.forms.specs.inside.CivilMoments.{utc, in_millis, HoldsCivil};
@@ -16,10 +16,11 @@ ghost use Rattle.forms.specs.inside.Lawful.{Lawful};
 use crate::cause::Cause;
 use crate::form::iso_date::date_of;
 use crate::value::Value;
+use arrayvec::ArrayString;
 use iso8601::parsers::parse_datetime;
-use iso8601::{DateTime, FixedMoment, Time};
+use iso8601::{Date, DateTime, FixedMoment, Time};
 use jiff_core::civil;
-use scan_core::Short;
+use scan_core::push_text;
 
 /// The moment of a date-time.
 pub fn read(text: &str) -> Result<Value, Cause>
@@ -85,30 +86,50 @@ fn is_less_than_a_day(seconds: i64) -> bool
     seconds.unsigned_abs() < 86_400
 }
 
-/// The written text of a moment, in UTC.
-pub fn write(value: Value) -> Result<Short, Cause>
-    requires { IsWithinBounds value }
-    ensures answer { Writes AnyForm.IsoDateTime value (bytes_of result) }
-    ensures len { IfOk result (λ out. array_string_len out ≤ 96) }
+/// Appends the written text of a moment, in UTC.
+pub fn push<const CAP: usize>(value: Value, out: &mut ArrayString<CAP>) -> Result<(), Cause>
+    requires within { IsWithinBounds value }
+    requires room { array_string_len out.old + 96 ≤ CAP }
+    ensures answer { Puts (Writes AnyForm.IsoDateTime value) out.old.bytes out.new.bytes result }
+    ensures len { array_string_len out.new ≤ array_string_len out.old + 96 }
 {
-    let datetime = datetime_for(value)?;
-    Ok(text_of(datetime))
+    match datetime_for(value) {
+        Ok(datetime) => {
+            push_text_of(out, datetime);
+            Ok(())
+        }
+        Err(cause) => Err(cause),
+    }
 }
 
-/// The text of a date-time that is short.
-fn text_of(datetime: DateTime) -> Short
-    requires { length (date_time_text datetime) ≤ 96 }
-    ensures bytes { result.bytes ≡ date_time_text datetime }
-    ensures len { array_string_len result ≤ 96 }
+/// Appends the text of a date-time whose date is short: as much room as a date-time with any fields has needs isn't there.
+#[tactic(auto, unfolding(iso8601::specs::Written::date_time_text))]
+fn push_text_of<const CAP: usize>(out: &mut ArrayString<CAP>, datetime: DateTime)
+    requires short { length (date_text datetime.date) ≤ 28 }
+    requires room { array_string_len out.old + 96 ≤ CAP }
+    ensures bytes { out.new.bytes ≡ out.old.bytes ++ date_time_text datetime }
+    ensures len { array_string_len out.new ≤ array_string_len out.old + 96 }
 {
-    datetime.text()
+    push_date(out, datetime.date);
+    push_text(out, "T");
+    datetime.time.push_text(out);
+}
+
+/// Appends a date that is short.
+fn push_date<const CAP: usize>(out: &mut ArrayString<CAP>, date: Date)
+    requires short { length (date_text date) ≤ 28 }
+    requires room { array_string_len out.old + 34 ≤ CAP }
+    ensures bytes { out.new.bytes ≡ out.old.bytes ++ date_text date }
+    ensures len { array_string_len out.new ≤ array_string_len out.old + 28 }
+{
+    date.push_text(out);
 }
 
 /// The date-time of a value.
 fn datetime_for(value: Value) -> Result<DateTime, Cause>
     requires { IsWithinBounds value }
     ensures held { Holds value result }
-    ensures short { IfOk result (λ datetime. length (date_time_text datetime) ≤ 96) }
+    ensures short { IfOk result (λ datetime. length (date_text datetime.date) ≤ 28) }
 {
     iso8601::laws::civil_dates_are_calendar_dates();
     iso8601::laws::years_and_weeks_follow_each_other();
@@ -121,7 +142,7 @@ fn datetime_for(value: Value) -> Result<DateTime, Cause>
 /// The date-time of a moment.
 fn datetime_at(nanos: i128) -> Result<DateTime, Cause>
     ensures held { HoldsCivil (AnyValue.Instant nanos) result }
-    ensures short { IfOk result (λ datetime. length (date_time_text datetime) ≤ 96) }
+    ensures short { IfOk result (λ datetime. length (date_text datetime.date) ≤ 28) }
 {
     match civil::DateTime::from_nanosecond(nanos) {
         Ok(civil) => in_millis(civil),
@@ -132,7 +153,7 @@ fn datetime_at(nanos: i128) -> Result<DateTime, Cause>
 /// The date-time in UTC, where its milliseconds are whole.
 fn in_millis(civil: civil::DateTime) -> Result<DateTime, Cause>
     ensures held { result ≡ in_millis civil }
-    ensures short { IfOk result (λ datetime. length (date_time_text datetime) ≤ 96) }
+    ensures short { IfOk result (λ datetime. length (date_text datetime.date) ≤ 28) }
 {
     if civil.time.subsec_nanosecond % 1_000_000 == 0 {
         Ok(utc(civil))
@@ -144,7 +165,7 @@ fn in_millis(civil: civil::DateTime) -> Result<DateTime, Cause>
 /// The date-time in UTC, without what is less than a millisecond.
 fn utc(civil: civil::DateTime) -> DateTime
     ensures utc { result ≡ utc civil }
-    ensures short { length (date_time_text result) ≤ 96 }
+    ensures short { length (date_text result.date) ≤ 28 }
 {
     DateTime {
         date: date_of(civil.date),

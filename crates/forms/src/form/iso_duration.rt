@@ -2,8 +2,8 @@
 ghost use Rattle.std.specs.Prelude.{◌≡◌, ◌+◌, ◌*◌, ◌/◌, ◌^◌, ◌<◌, ◌≤◌, IfOk, length};
 ghost use Rattle.arrayvec.specs.ArrayString.{array_string_len};
 ghost use Rattle.forms.specs.declared.form.Form.{Form as AnyForm};
-ghost use Rattle.forms.specs.Answers.{bytes_of};
 ghost use Rattle.forms.specs.Forms.{Reads, Writes};
+ghost use Rattle.forms.specs.Putting.{Puts};
 ghost use Rattle.forms.specs.Values.{IsWithinBounds};
 ghost use Rattle.forms.specs.form.IsoDuration.{triple_of, worth, duration_of, counts_of, held_triple, held_length, held};
 ghost use Rattle.forms.specs.inside.IsoParts.{micros_of};
@@ -11,29 +11,12 @@ ghost use Rattle.forms.specs.inside.Lawful.{Lawful};
 
 use crate::cause::Cause;
 use crate::value::Value;
+use arrayvec::ArrayString;
 use iso8601::{Duration, duration_counted};
-use scan_core::{Looked, Short, Steps};
-use std::marker::Brand;
-use std::sync::ledger::{Blank, Ledger};
+use scan_core::{Looked, Steps};
+use std::sync::ledger::Ledger;
 
 const NANOSECONDS_A_DAY: u128 = 86_400_000_000_000;
-
-/// The triple of a duration.
-pub fn read(text: &str) -> Result<Value, Cause>
-    ensures { Reads AnyForm.IsoDuration text.now result }
-{
-    read_alone::<Brand>(&Looked::new(text), Blank::new(1))
-}
-
-/// The same of a counted text, with a counter of its own.
-fn read_alone<L: Ledger>(text: &Looked<'_>, blank: Blank) -> Result<Value, Cause>
-    requires name { blank.name ≡ L.name }
-    requires parts { blank.parts ≡ L.parts }
-    requires some { 0 < L.parts }
-    ensures { Reads AnyForm.IsoDuration text.now result }
-{
-    read_counted(text, &mut Steps::<L>::new(blank))
-}
 
 /// The triple of a duration in a counted text: of n bytes with at most 2n looks, and with n at least where it is Ok.
 pub fn read_counted<L: Ledger>(text: &Looked<'_>, steps: &mut Steps<L>) -> Result<Value, Cause>
@@ -93,14 +76,20 @@ fn triple_of(months: u64, days: u64, micros: u64) -> Result<Value, Cause>
     })
 }
 
-/// The written text of a triple, or of a length in days and a time.
-pub fn write(value: Value) -> Result<Short, Cause>
-    requires { IsWithinBounds value }
-    ensures answer { Writes AnyForm.IsoDuration value (bytes_of result) }
-    ensures len { IfOk result (λ out. array_string_len out ≤ 96) }
+/// Appends the written text of a triple, or of a length in days and a time.
+pub fn push<const CAP: usize>(value: Value, out: &mut ArrayString<CAP>) -> Result<(), Cause>
+    requires within { IsWithinBounds value }
+    requires room { array_string_len out.old + 96 ≤ CAP }
+    ensures answer { Puts (Writes AnyForm.IsoDuration value) out.old.bytes out.new.bytes result }
+    ensures len { array_string_len out.new ≤ array_string_len out.old + 96 }
 {
-    let duration = duration_for(value)?;
-    Ok(duration.text())
+    match duration_for(value) {
+        Ok(duration) => {
+            duration.push_text(out);
+            Ok(())
+        }
+        Err(cause) => Err(cause),
+    }
 }
 
 /// The duration of a value.

@@ -1,12 +1,12 @@
 //! Date-times of TOML as a form.
-ghost use Rattle.std.specs.Prelude.{◌≡◌, ◌↔◌, ◌+◌, ◌*◌, ◌^◌, ◌<◌, ◌≤◌, ◌≤ℤ◌, pos, IsSome, IfSome, ◌+ℤ◌, ◌-ℤ◌, ◌*ℤ◌, IfOk};
+ghost use Rattle.std.specs.Prelude.{◌≡◌, ◌↔◌, ◌+◌, ◌*◌, ◌^◌, ◌<◌, ◌≤◌, ◌≤ℤ◌, pos, IsSome, IfSome, ◌+ℤ◌, ◌-ℤ◌, ◌*ℤ◌};
 ghost use Rattle.arrayvec.specs.ArrayString.{array_string_len};
 ghost use Rattle.jiff.specs.Words.{IsWithin};
 ghost use Rattle.port_toml_datetime.specs.WellFormed.{AreWellFormed, IsRealDay};
 ghost use Rattle.forms.specs.declared.form.Form.{Form as AnyForm};
 ghost use Rattle.forms.specs.declared.value.Value.{Value as AnyValue};
-ghost use Rattle.forms.specs.Answers.{bytes_of};
 ghost use Rattle.forms.specs.Forms.{Reads, Writes};
+ghost use Rattle.forms.specs.Putting.{Puts};
 ghost use Rattle.forms.specs.Values.{IsWithinBounds};
 ghost use Rattle.forms.specs.form.Toml.{clock, minutes_of, moment_of, dated_worth, worth_of, time_of, HoldsDay, HoldsDated, Holds};
 ghost use Rattle.forms.specs.inside.TomlParts.{fraction_of};
@@ -15,9 +15,9 @@ ghost use Rattle.forms.specs.inside.Lawful.{Lawful};
 
 use crate::cause::Cause;
 use crate::value::Value;
+use arrayvec::ArrayString;
 use jiff_core::civil;
 use port_toml_datetime::{Date, Datetime, Offset, Time};
-use scan_core::Short;
 use std::str::FromStr;
 
 const NANOSECONDS_A_DAY: i128 = 86_400_000_000_000;
@@ -129,14 +129,20 @@ fn instant_of(day: i32, minutes: i16, nanos: i64) -> i128
     day as i128 * NANOSECONDS_A_DAY + nanos as i128 - minutes as i128 * NANOSECONDS_A_MINUTE
 }
 
-/// The written text: with seconds, with a fraction where it isn't 0, and of a moment in UTC.
-pub fn write(value: Value) -> Result<Short, Cause>
-    requires { IsWithinBounds value }
-    ensures answer { Writes AnyForm.Toml value (bytes_of result) }
-    ensures len { IfOk result (λ out. array_string_len out ≤ 96) }
+/// Appends the written text: with seconds, with a fraction where it isn't 0, and of a moment in UTC.
+pub fn push<const CAP: usize>(value: Value, out: &mut ArrayString<CAP>) -> Result<(), Cause>
+    requires within { IsWithinBounds value }
+    requires room { array_string_len out.old + 96 ≤ CAP }
+    ensures answer { Puts (Writes AnyForm.Toml value) out.old.bytes out.new.bytes result }
+    ensures len { array_string_len out.new ≤ array_string_len out.old + 96 }
 {
-    let datetime = datetime_for(value)?;
-    Ok(datetime.text())
+    match datetime_for(value) {
+        Ok(datetime) => {
+            datetime.push_text(out);
+            Ok(())
+        }
+        Err(cause) => Err(cause),
+    }
 }
 
 /// The date-time of a value.

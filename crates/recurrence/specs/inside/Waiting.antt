@@ -1,5 +1,5 @@
 -- Texts of a kind that are put behind what waits for a sink: cited by private contracts alone.
-use Rattle.std.specs.Prelude.{ℕ, List, ◌++◌, Option}
+use Rattle.std.specs.Prelude.{◌≡◌, ℕ, List, ◌++◌, Option}
 use Rattle.std.specs.Io.KnownBytes.{Appends}
 use Rattle.forms.specs.Outside.{AppendsFront}
 use Rattle.forms.specs.Waiting.{Moves}
@@ -16,6 +16,10 @@ pub record KeepOrder : Type 0 where
       → Moves a b before text after → Appends b c after → Appends a c (before ++ text)
   pub flush_fails : (a b c : Option (List ℕ)) (before text after : List ℕ)
       → Moves a b before text after → AppendsFront b c after → AppendsFront a c (before ++ text)
+
+-- a text of this kind was put behind another
+abbrev pub Gains : (List ℕ → Type 0) → List ℕ → List ℕ → Type 0
+Gains IsText before after = (text : List ℕ) × IsText text × (after ≡ before ++ text)
 
 -- a text of this kind was put behind what waits
 abbrev pub Puts : (List ℕ → Type 0) → Option (List ℕ) → Option (List ℕ) → List ℕ → List ℕ

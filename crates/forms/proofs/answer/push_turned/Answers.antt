@@ -1,10 +1,12 @@
 -- Answers to the goals of `answer::push_turned`.
-use Rattle.std.proofs.Common.{Err, refl}
+use Rattle.std.proofs.Common.{refl}
+use Rattle.forms.specs.Answers.{Then}
+use Rattle.forms.specs.Forms.{Writes}
+use Rattle.forms.specs.ReadBack.{Turns}
+use Rattle.forms.proofs.Putting.{puts_so}
 use Rattle.forms.proofs.answer.push_turned.Goals as goal
 
-pub returns-in-Err-clause-turned : goal.returns-in-Err-clause-turned
-returns-in-Err-clause-turned g c = record {
-  answer = Err c.in-Err.cause;
-  is = (Err c.in-Err.cause, (c.in-Err.ensures.answer (Err c.in-Err.cause)).0 refl, refl);
-  put = (refl, refl);
-}
+pub returns-clause-turned : goal.returns-clause-turned
+returns-clause-turned g c =
+    let read = (c.read_value.ensures.answer c.read_value.result).0 refl in
+    puts_so (Then (Writes c.args.to) c.read_value.result) (Turns c.args.from c.args.to c.args.text.now) (λ answer h. (c.read_value.result, read, h)) _ _ _ c.push_read.ensures.answer

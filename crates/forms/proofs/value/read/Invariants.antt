@@ -1,5 +1,5 @@
--- The ghost members of the calls of `form::intervals::read`.
-use Rattle.forms.proofs.form.intervals.read.Given as goal
+-- The ghost members of the calls of `value::read`.
+use Rattle.forms.proofs.value.read.Given as goal
 
 abbrev pub ghosts-read_alone : goal.ghosts-read_alone
 ghosts-read_alone a = record { name = a.blank.name; parts = a.blank.parts }

@@ -1,5 +1,0 @@
--- The ghost members of the calls of `form::iso_duration::read`.
-use Rattle.forms.proofs.form.iso_duration.read.Given as goal
-
-abbrev pub ghosts-read_alone : goal.ghosts-read_alone
-ghosts-read_alone a = record { name = a.blank.name; parts = a.blank.parts }
