@@ -7,6 +7,15 @@ use pg_interval_2::Style;
 use schedule_check::{CheckError, Fault, check};
 use std::alloc::{AllocError, Global};
 
+/// The status where a read failed.
+const READ_FAULT: u8 = 3;
+
+/// The status where a write failed.
+const WRITE_FAULT: u8 = 4;
+
+/// The status where the input is too long for its command, whose call has no limit.
+const TOO_LONG: u8 = 5;
+
 /// Whether a line spells a row, and the program answers the row's words and input with the row's output and status.
 pub fn input_agrees(alloc: Global, line: &str) -> Result<bool, AllocError> {
     let mut fields = line.split('\t');
@@ -22,10 +31,12 @@ pub fn input_agrees(alloc: Global, line: &str) -> Result<bool, AllocError> {
     let Ok(status) = status.parse::<u8>() else {
         return Ok(false);
     };
-    let input = spelled(alloc, input.as_bytes())?;
-    let output = spelled(alloc, output.as_bytes())?;
+    let (Some(input), Some(output)) = (spelled(alloc, input)?, spelled(alloc, output)?) else {
+        return Ok(false);
+    };
     Ok(
         top_agrees(alloc, words, &input, &output, status)?
+            && fails_agree(alloc, words, &input, &output, status)?
             && call_agrees(alloc, words, &input, &output, status)?,
     )
 }
@@ -42,6 +53,37 @@ fn top_agrees(
     let mut sink = MemSink::new(alloc, output.len().saturating_add(1), 65_536, &[])?;
     let answer = top(alloc, words, &mut source, &mut sink);
     Ok(answer == status && sink.held() == output)
+}
+
+/// Whether a sink without room for the last byte of an output gains all others and the status is 4, and whether nothing is written and
+/// the status is 3 where the first read fails. Where nothing is written, or nothing read, neither can fail.
+fn fails_agree(
+    alloc: Global,
+    words: &str,
+    input: &[u8],
+    output: &[u8],
+    status: u8,
+) -> Result<bool, AllocError> {
+    let mut source = MemSource::new(alloc, input, 65_536, &[])?;
+    let room = output.len().saturating_sub(1);
+    let mut sink = MemSink::new(alloc, room, 65_536, &[])?;
+    let answer = top(alloc, words, &mut source, &mut sink);
+    let wanted = if output.is_empty() {
+        status
+    } else {
+        WRITE_FAULT
+    };
+    if answer != wanted || sink.held() != &output[..room] {
+        return Ok(false);
+    }
+    let mut source = MemSource::new(alloc, input, 65_536, &[0])?;
+    let mut sink = MemSink::new(alloc, output.len(), 65_536, &[])?;
+    let answer = top(alloc, words, &mut source, &mut sink);
+    Ok(if source.faults() == 0 {
+        answer == status && sink.held() == output
+    } else {
+        answer == READ_FAULT && sink.held().is_empty()
+    })
 }
 
 /// The answer of the command that the first word names.
@@ -63,6 +105,9 @@ fn call_agrees(
     output: &[u8],
     status: u8,
 ) -> Result<bool, AllocError> {
+    if status == TOO_LONG {
+        return Ok(true);
+    }
     if let Some(name) = words.strip_prefix("column ") {
         return column_agrees(alloc, name, input, output, status);
     }

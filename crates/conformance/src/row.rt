@@ -17,27 +17,54 @@ pub fn row_of(alloc: Global, text: &str) -> Result<Option<Row>, AllocError> {
         return Ok(None);
     };
     Ok(Some(Row {
-        line: spelled_line(alloc, line.as_bytes())?,
-        reply: spelled_line(alloc, reply.as_bytes())?,
+        line: spelled_line(alloc, line)?,
+        reply: spelled_line(alloc, reply)?,
     }))
 }
 
 /// The bytes that a field spells, and a line feed.
-fn spelled_line(alloc: Global, field: &[u8]) -> Result<Vec<u8>, AllocError> {
-    let mut bytes = spelled(alloc, field)?;
+fn spelled_line(alloc: Global, field: &str) -> Result<Vec<u8>, AllocError> {
+    let mut bytes = Vec::new(alloc);
+    push_spelled(&mut bytes, field)?;
     bytes.push(b'\n')?;
     Ok(bytes)
 }
 
-/// The bytes that a field spells.
-pub fn spelled(alloc: Global, field: &[u8]) -> Result<Vec<u8>, AllocError> {
+/// The bytes that a field of a whole input or output spells, in which `{x*1000}` is a piece a thousand times, or None where a repeated
+/// piece is not spelled so.
+pub fn spelled(alloc: Global, field: &str) -> Result<Option<Vec<u8>>, AllocError> {
     let mut bytes = Vec::new(alloc);
-    let mut rest = field;
+    let mut parts = field.split('{');
+    push_spelled(&mut bytes, parts.next().unwrap_or(""))?;
+    for part in parts {
+        let Some((piece, count, after)) = repeated(part) else {
+            return Ok(None);
+        };
+        let mut once = Vec::new(alloc);
+        push_spelled(&mut once, piece)?;
+        for _ in 0..count {
+            bytes.extend_from_slice(&once)?;
+        }
+        push_spelled(&mut bytes, after)?;
+    }
+    Ok(Some(bytes))
+}
+
+/// The piece, how often it stands, and what follows: of `x*1000}y` they are `x`, 1000 and `y`.
+fn repeated(part: &str) -> Option<(&str, u32, &str)> {
+    let (inside, after) = part.split_once('}')?;
+    let (piece, count) = inside.split_once('*')?;
+    Some((piece, count.parse::<u32>().ok()?, after))
+}
+
+/// Appends the bytes that a field spells.
+fn push_spelled(bytes: &mut Vec<u8>, field: &str) -> Result<(), AllocError> {
+    let mut rest = field.as_bytes();
     while let Some((byte, after)) = spelled_byte(rest) {
         bytes.push(byte)?;
         rest = after;
     }
-    Ok(bytes)
+    Ok(())
 }
 
 /// The byte that a field spells first, and what follows it: `\x0A` is one byte, and so are `\n` and `\t`, a line feed and a TAB. Each

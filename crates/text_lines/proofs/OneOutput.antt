@@ -38,7 +38,7 @@ one_unmarked true line f r g s (inl h) (inr k) = absurd (k.0 r h.0)
 one_unmarked true line f r g s (inr h) (inl k) = absurd (h.0 s k.0)
 one_unmarked true line f r g s (inr h) (inr k) = (h.1 ∙ sym k.1, h.2 ∙ sym k.2)
 
-one_end : (line b e c f : List ℕ) → IsBeforeEnd line b e → IsBeforeEnd line c f → (b ≡ c) × (e ≡ f)
+pub one_end : (line b e c f : List ℕ) → IsBeforeEnd line b e → IsBeforeEnd line c f → (b ≡ c) × (e ≡ f)
 one_end line b e c f (inl h) (inl k) = (append_cancel_right b c (codes "\r") (sym h.0 ∙ k.0), h.1 ∙ sym k.1)
 one_end line b e c f (inl h) (inr k) = absurd (k.0 b h.0)
 one_end line b e c f (inr h) (inl k) = absurd (h.0 c k.0)

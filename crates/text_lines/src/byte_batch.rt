@@ -1,5 +1,5 @@
 //! Bytes that wait for one write.
-ghost use Rattle.std.specs.Prelude.{◌≡◌};
+ghost use Rattle.std.specs.Prelude.{◌≡◌, ◌+◌, ◌≤◌, ◌++◌, length, take, drop};
 
 use forms::{Failed, Sink, Waits, write_all};
 use std::alloc::{AllocError, Global};
@@ -11,20 +11,22 @@ const WAITING: usize = 65_536;
 /// How many bytes there may be: those that wait, and the output for the longest line behind them.
 const ROOM: usize = 1_114_368;
 
-/// Bytes that wait for one write, with room for the output of a line behind them.
+/// Bytes that wait for one write, with room for the output of a line behind them: the first ones of a row of fixed length, so that to
+/// put bytes is to copy them and to count.
 #[derive(Drop)]
 pub struct ByteBatch {
-    bytes: Vec<u8>,
+    row: Vec<u8>,
+    len: usize,
 }
 
 impl Model for ByteBatch {
-    ghost use Rattle.std.specs.Prelude.{List, ℕ, ◌≤◌, vec_capacity};
+    ghost use Rattle.std.specs.Prelude.{◌≡◌, List, ℕ, ◌≤◌, take, vec_len};
 
     ghost Value = { List ℕ };
 
-    ghost view = { λ s. s.bytes.items };
+    ghost view = { λ s. take s.len s.row.items };
 
-    ghost invariant = { λ s. 1_114_368 ≤ vec_capacity s.bytes };
+    ghost invariant = { λ s. (s.len ≤ 1_114_368) × (vec_len s.row ≡ 1_114_368) };
 }
 
 impl ByteBatch {
@@ -37,7 +39,8 @@ impl ByteBatch {
         ensures { IfOk result (λ batch. batch ≡ []) }
     {
         Ok(ByteBatch {
-            bytes: Vec::with_capacity(alloc, ROOM)?,
+            row: vec![in alloc; 0; ROOM]?,
+            len: 0,
         })
     }
 
@@ -50,7 +53,7 @@ impl ByteBatch {
         ensures err { OnErr result (AppendsFront (K.held sink.old) (K.held sink.new) self.old) }
         ensures cause { HasCause (K.faults sink.old) (K.faults sink.new) result }
     {
-        if self.bytes.len() >= WAITING {
+        if self.len >= WAITING {
             return self.write_out(sink);
         }
         Ok(())
@@ -62,16 +65,18 @@ impl ByteBatch {
         requires { length self.old + length bytes.now ≤ 1_114_368 }
         ensures { self.new ≡ self.old ++ bytes.now }
     {
-        self.bytes.extend_from_slice(bytes).unwrap();
+        put_at(&mut self.row, self.len, bytes);
+        self.len += bytes.len();
     }
 
-    /// Puts a line feed behind what waits: one store, where a copy would be a call.
+    /// Puts a line feed behind what waits.
     #[inline(always)]
     pub fn push_feed(&mut self)
         requires { length self.old + 1 ≤ 1_114_368 }
         ensures { self.new ≡ self.old ++ codes "\n" }
     {
-        self.bytes.push(b'\n').unwrap();
+        self.row[self.len] = b'\n';
+        self.len += 1;
     }
 }
 
@@ -81,8 +86,18 @@ impl Waits for ByteBatch {
     ghost bytes = { λ batch. batch };
 
     fn write_out<K: Sink>(&mut self, sink: &mut K) -> Result<(), Failed> {
-        write_all(sink, &self.bytes)?;
-        self.bytes.clear();
+        write_all(sink, &self.row[..self.len])?;
+        self.len = 0;
         Ok(())
     }
+}
+
+/// Puts bytes at a place of a row.
+#[inline(always)]
+fn put_at(row: &mut [u8], at: usize, bytes: &[u8])
+    requires { at + length bytes.now ≤ length row.old }
+    ensures { row.new
+        ≡ take at row.old ++ (bytes.now ++ drop (at + length bytes.now) row.old) }
+{
+    row[at..at + bytes.len()].copy_from_slice(bytes);
 }

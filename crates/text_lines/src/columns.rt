@@ -1,6 +1,7 @@
 //! Lines of which a field or a word is a text.
-ghost use Rattle.std.specs.Prelude.{◌≡◌, ◌+◌, ◌≤◌, ◌++◌, List, ℕ, length, drop};
+ghost use Rattle.std.specs.Prelude.{◌≡◌, ◌+◌, ◌≤◌, ◌++◌, List, ℕ, codes, length, drop};
 ghost use Rattle.forms.specs.TextReplies.{IsTextReply};
+ghost use Rattle.text_lines.specs.Outputs.{IsBeforeEnd};
 ghost use Rattle.text_lines.specs.Answering.{SaysColumn};
 ghost use Rattle.text_lines.specs.inside.Answering.{PushesOutput};
 
@@ -62,10 +63,9 @@ fn push_line(
         return true;
     }
     let (front, rest) = split_mark(first, line);
-    let (body, end) = split_end(rest);
+    let (body, _) = split_end(rest);
     let Some((before, text, _)) = text_at(body, place) else {
-        batch.push(b"refused Line");
-        batch.push(end.as_bytes());
+        push_refused_line(rest, batch);
         return true;
     };
     let back = behind(rest, before.len() + text.len());
@@ -74,6 +74,18 @@ fn push_line(
     batch.push(back);
     batch.push_feed();
     refused
+}
+
+/// Appends the refusal of a line as a whole, and the line's end. As a call of its own it leaves the end out of sight of other lines.
+#[inline(never)]
+fn push_refused_line(line: &[u8], batch: &mut ByteBatch)
+    requires room { length batch.old + 14 ≤ 1_114_368 }
+    ensures told { (body end : List ℕ) × IsBeforeEnd line.now body end
+        × (batch.new ≡ batch.old ++ (codes "refused Line" ++ end)) }
+{
+    let (_, end) = split_end(line);
+    batch.push(b"refused Line");
+    batch.push(end.as_bytes());
 }
 
 /// What stands behind so many bytes.

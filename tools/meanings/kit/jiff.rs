@@ -10,6 +10,7 @@ impl SignedDuration {
     pub fn new(seconds: i64, nanos: i32) -> SignedDuration { SignedDuration(i128::from(seconds) * SECOND + i128::from(nanos)) }
     pub fn from_secs(seconds: i64) -> SignedDuration { SignedDuration::new(seconds, 0) }
     pub fn from_nanos(nanos: i64) -> SignedDuration { SignedDuration(nanos.into()) }
+    pub fn from_nanos_i128(nanos: i128) -> SignedDuration { SignedDuration(nanos) }
     pub fn checked_add(self, other: SignedDuration) -> Option<SignedDuration> {
         let sum = SignedDuration(self.0 + other.0);
         (SignedDuration::MIN..=SignedDuration::MAX).contains(&sum).then_some(sum)

@@ -1,17 +1,20 @@
 -- Answers to the goals of `columns::push_line`.
-use Rattle.std.proofs.Common.{◌≡◌, ◌+◌, ◌≤◌, ◌++◌, List, ℕ, codes, length, take, drop, refl, sym, ◌∙◌, ap, rules, arith, append_assoc}
+use Rattle.std.proofs.Common.{◌≡◌, ◌+◌, ◌≤◌, ◌++◌, List, ℕ, codes, length, take, drop, refl, sym, ◌∙◌, ap, subst, rules, arith, append_assoc}
 use Rattle.std.proofs.lemmas.List.{length-take-le, take_rest}
-use Rattle.text_lines.specs.Outputs.{line_limit}
+use Rattle.text_lines.specs.Outputs.{line_limit, IsBeforeEnd}
 use Rattle.text_lines.proofs.LineParts.{refused_whole, answered_there, around, around_sizes, front_there, back_there, put_around}
+use Rattle.text_lines.proofs.OneOutput.{one_end}
 use Rattle.text_lines.proofs.columns.push_line.Goals as goal
 
 pub returns-in_default : goal.returns-in_default
-returns-in_default c = (
-  codes "refused Line" ++ c.split_end.result.1.now,
-  refused_whole c.args.from c.args.to c.args.place c.args.first c.args.line.now c.split_mark.result.0.now c.split_mark.result.1.now c.split_end.result.0.now c.split_end.result.1.now (search rules) c.split_mark.ensures c.split_end.ensures c.in_default.ensures.none,
-  c.push-in_default-2.ensures ∙ (ap (λ (l : List ℕ). l ++ c.as_bytes.result.now) c.push-in_default.ensures
-      ∙ (append_assoc c.args.batch.now (codes "refused Line") c.as_bytes.result.now ∙ ap (λ (l : List ℕ). c.args.batch.now ++ (codes "refused Line" ++ l)) c.as_bytes.ensures.value)),
-)
+returns-in_default c =
+    let told = c.push_refused_line.ensures.told in
+    let same = one_end c.split_mark.result.1.now told.0 told.1 c.split_end.result.0.now c.split_end.result.1.now told.2 c.split_end.ensures in
+    let ended : IsBeforeEnd c.split_mark.result.1.now c.split_end.result.0.now told.1 = subst (λ (l : List ℕ). IsBeforeEnd c.split_mark.result.1.now l told.1) same.0 told.2 in (
+      codes "refused Line" ++ told.1,
+      refused_whole c.args.from c.args.to c.args.place c.args.first c.args.line.now c.split_mark.result.0.now c.split_mark.result.1.now c.split_end.result.0.now told.1 (search rules) c.split_mark.ensures ended c.in_default.ensures.none,
+      told.3,
+    )
 
 pub slice_bounds-push-end-2 : goal.slice_bounds-push-end-2
 slice_bounds-push-end-2 c =
