@@ -4,9 +4,9 @@ use Rattle.scan_core.specs.Blanks.{is_blank, words}
 use Rattle.scan_core.specs.Count.{Count}
 use Rattle.scan_core.specs.declared.share.Unit.TheVariants.{Year}
 use Rattle.scan_core.proofs.WordFacts.{total_length}
-use Rattle.pg_interval_2.specs.declared.counted.Counted.{Counted}
+use Rattle.pg_interval_2.specs.declared.read.distinct_tally.DistinctTally.{DistinctTally}
 use Rattle.pg_interval_2.specs.inside.ItemReading.{NamedItem, read_item, verdict, Spelled, BadLetters, Unspelled}
-use Rattle.pg_interval_2.specs.inside.CountedItems.{IsNoItem}
+use Rattle.pg_interval_2.specs.inside.DistinctItems.{IsNoItem}
 use Rattle.pg_interval_2.specs.Postgres.{IsBadName, IsFreshName}
 use Rattle.pg_interval_2.specs.inside.ItemsTally.{HasNoBadName, HasNoItems}
 use Rattle.pg_interval_2.specs.inside.Reading.{Numeral, count_with}
@@ -27,7 +27,7 @@ rest_unspelled names counts total (b ∷ bs) solid some (inr (fields, rest, read
     clock_again_verdict names counts total (b ∷ bs) rest fields (subst (Stands (b ∷ bs)) read (item_stands (b ∷ bs))) again
 
 pub text_unspelled : (names : Names) → AreNames names
-    → (turned : Bool) (text rest : List ℕ) (state : Counted) (taken : ItemsTaken names turned text rest state) → rest ≢ []
+    → (turned : Bool) (text rest : List ℕ) (state : DistinctTally) (taken : ItemsTaken names turned text rest state) → rest ≢ []
     → IsNoItem (read_item rest) taken.counts
     → verdict names [] 0 (words text) ≡ Unspelled
 text_unspelled names letters_names turned text rest state taken some none =
@@ -44,7 +44,7 @@ nothing_spelled names letters_names text judged = (
 
 -- ---- a bad name
 
-pub name_within : (names : Names) (turned : Bool) (text rest letters after : List ℕ) (state : Counted) (n : Numeral)
+pub name_within : (names : Names) (turned : Bool) (text rest letters after : List ℕ) (state : DistinctTally) (n : Numeral)
     → ItemsTaken names turned text rest state → read_item rest ≡ NamedItem n letters after
     → (0 < length letters) × (length letters + length after ≤ length text)
 name_within names turned text rest letters after state n taken read =
@@ -56,7 +56,7 @@ name_within names turned text rest letters after state n taken read =
     (h.some, omega (arith, whole, first, second, third))
 
 pub bad_next :
-    (names : Names) (turned : Bool) (text rest letters after : List ℕ) (state : Counted) (n : Numeral)
+    (names : Names) (turned : Bool) (text rest letters after : List ℕ) (state : DistinctTally) (n : Numeral)
     (taken : ItemsTaken names turned text rest state) → rest ≢ [] → read_item rest ≡ NamedItem n letters after
     → ¬ (IsFreshName names taken.counts letters)
     → IsBadName names text (length text - length after - length letters) (length text - length after)

@@ -7,8 +7,8 @@ use Rattle.scan_core.specs.Count.{Count}
 use Rattle.scan_core.specs.declared.share.Unit.{Unit as TimeUnit}
 use Rattle.scan_core.proofs.Joins.{join_push}
 use Rattle.scan_core.proofs.WordFacts.{words-closed}
-use Rattle.pg_interval_2.specs.declared.counted.Counted.{Counted}
-use Rattle.pg_interval_2.specs.inside.CountedItems.{IsCounted, TakesItem}
+use Rattle.pg_interval_2.specs.declared.read.distinct_tally.DistinctTally.{DistinctTally}
+use Rattle.pg_interval_2.specs.inside.DistinctItems.{IsDistinctTally, TakesItem}
 use Rattle.pg_interval_2.specs.inside.ItemReading.{ClockFields, clock_of, after_blanks, read_item}
 use Rattle.pg_interval_2.specs.Postgres.{IsItem, AreItems, all_counts}
 use Rattle.pg_interval_2.specs.inside.UnitPlaces.{has_distinct_units}
@@ -16,7 +16,7 @@ use Rattle.pg_interval_2.specs.inside.Reading.{Numeral, count_with}
 use Rattle.pg_interval_2.specs.Turned.{turned_counts}
 use Rattle.pg_interval_2.specs.inside.NamedUnits.{unit_named}
 use Rattle.pg_interval_2.proofs.UnitsApart.{named_contains, distinct_pairs}
-use Rattle.pg_interval_2.proofs.CountedFacts.{clock_long, named_long}
+use Rattle.pg_interval_2.proofs.DistinctFacts.{clock_long, named_long}
 use Rattle.pg_interval_2.proofs.ItemFacts.{AreBlanks, are_skipped}
 use Rattle.pg_interval_2.proofs.ItemsRead.{StandsNamed, StandsClock, Stands, item_stands}
 use Rattle.pg_interval_2.proofs.ItemWords.{number_no_blanks, clock_no_blanks, number_some, clock_some, letters_no_blanks, no_blanks-append, words_in_front, words-blanks}
@@ -95,16 +95,16 @@ closed_after front (c ∷ cs) [] ends all split = let solid = after_solid (c ∷
 -- ---- items so far
 
 -- The text is items of these counts, taken so far, and a rest that begins with no blank.
-pub record ItemsTaken (names : Names) (turned : Bool) (text rest : List ℕ) (state : Counted) : Type 0 where
+pub record ItemsTaken (names : Names) (turned : Bool) (text rest : List ℕ) (state : DistinctTally) : Type 0 where
   pub consumed : List ℕ
   pub counts : List Count
   pub split : text ≡ consumed ++ rest
   pub items : AreItems names (words consumed) counts
   pub closed : (rest ≡ []) ⊎ EndsInBlank consumed
   pub solid : (b : ℕ) (bs : List ℕ) → rest ≡ b ∷ bs → is_blank b ≡ false
-  pub counted : IsCounted state (turned_counts turned counts)
+  pub counted : IsDistinctTally state (turned_counts turned counts)
 
-pub none_taken : (names : Names) (turned : Bool) (text : List ℕ) (state : Counted) → IsCounted state []
+pub none_taken : (names : Names) (turned : Bool) (text : List ℕ) (state : DistinctTally) → IsDistinctTally state []
     → ItemsTaken names turned text (after_blanks text) state
 none_taken names turned text state h =
     let skip = are_skipped text in
@@ -118,7 +118,7 @@ none_taken names turned text state h =
       counted = h;
     }
 
-pub closed_now : (names : Names) (turned : Bool) (text rest : List ℕ) (state : Counted) (taken : ItemsTaken names turned text rest state)
+pub closed_now : (names : Names) (turned : Bool) (text rest : List ℕ) (state : DistinctTally) (taken : ItemsTaken names turned text rest state)
     → rest ≢ []
     → EndsInBlank taken.consumed
 closed_now names turned text rest state taken some = elim taken.closed [ inl none ↦ absurd (some none) | inr closed ↦ closed ]
@@ -134,9 +134,9 @@ items_push names consumed front counts cs (items, join, counted, distinct) item 
     (items ++ cs ∷ [], join_push (IsItem names) consumed front items cs join item, ap (λ (l : List Count). l ++ cs) counted ∙ sym (all_counts-push items cs), distinct_pairs (counts ++ cs) both_distinct)
 
 front_taken :
-    (names : Names) (turned : Bool) (text rest after : List ℕ) (cs : List Count) (old new : Counted)
+    (names : Names) (turned : Bool) (text rest after : List ℕ) (cs : List Count) (old new : DistinctTally)
     (taken : ItemsTaken names turned text rest old) → rest ≢ [] → IsItemInFront names rest after cs
-    → IsCounted new (turned_counts turned (taken.counts ++ cs))
+    → IsDistinctTally new (turned_counts turned (taken.counts ++ cs))
     → ItemsTaken names turned text (after_blanks after) new
 front_taken names turned text rest after cs old new taken some item counted =
     let skip = are_skipped after in
@@ -157,7 +157,7 @@ front_taken names turned text rest after cs old new taken some item counted =
     }
 
 pub one_taken :
-    (names : Names) (turned : Bool) (text rest after : List ℕ) (old new : Counted) (taken : ItemsTaken names turned text rest old)
+    (names : Names) (turned : Bool) (text rest after : List ℕ) (old new : DistinctTally) (taken : ItemsTaken names turned text rest old)
     → rest ≢ [] → TakesItem names turned (read_item rest) after taken.counts new
     → ItemsTaken names turned text (after_blanks after) new
 one_taken names turned text rest after old new taken some (inl (fields, read, counted)) =
@@ -166,7 +166,7 @@ one_taken names turned text rest after old new taken some (inr (n, letters, unit
     front_taken names turned text rest after (count_with n unit ∷ []) old new taken some (named_front names rest n letters after unit (subst (Stands rest) read (item_stands rest)) found) counted
 
 -- what is left of a rest after an item is shorter
-pub taken_shorter : (names : Names) (turned : Bool) (rest after : List ℕ) (counts : List Count) (new : Counted)
+pub taken_shorter : (names : Names) (turned : Bool) (rest after : List ℕ) (counts : List Count) (new : DistinctTally)
     → TakesItem names turned (read_item rest) after counts new
     → length (after_blanks after) < length rest
 taken_shorter names turned rest after counts new (inl (fields, read, counted)) =

@@ -18,7 +18,7 @@ pub mod Numbers
 pub mod IsoCounts
 pub mod TallyFacts
 pub mod UnitFacts
-pub mod CountedFacts
+pub mod DistinctFacts
 pub mod OrderFacts
 pub mod IsoSteps
 pub mod IsoOrder

@@ -10,18 +10,18 @@ use Rattle.scan_core.specs.declared.runs.Word.{Word}
 use Rattle.scan_core.specs.declared.share.Unit.{Unit as TimeUnit}
 use Rattle.scan_core.proofs.Between.{between_none, length-between}
 use Rattle.scan_core.proofs.RunFacts.{run_length}
-use Rattle.pg_interval_2.specs.declared.counted.Counted.{Counted}
-use Rattle.pg_interval_2.specs.declared.counted.Step.{Step}
-use Rattle.pg_interval_2.specs.declared.counted.Step.TheVariants as step
-use Rattle.pg_interval_2.specs.declared.unit_names.NameSet.{NameSet}
-use Rattle.pg_interval_2.specs.inside.CountedItems.{CountsNamed, IsCounted, IsItemStep}
+use Rattle.pg_interval_2.specs.declared.read.distinct_tally.DistinctTally.{DistinctTally}
+use Rattle.pg_interval_2.specs.declared.read.distinct_tally.Step.{Step}
+use Rattle.pg_interval_2.specs.declared.read.distinct_tally.Step.TheVariants as step
+use Rattle.pg_interval_2.specs.declared.read.unit_names.NameSet.{NameSet}
+use Rattle.pg_interval_2.specs.inside.DistinctItems.{CountsNamed, IsDistinctTally, IsItemStep}
 use Rattle.pg_interval_2.specs.inside.ItemReading.{NextItem, NamedItem, NoItem, after_blanks, after_letters, front_letters, has_name, read_byte, read_clock, read_item, read_named}
 use Rattle.pg_interval_2.specs.inside.NamedUnits.{unit_named}
 use Rattle.pg_interval_2.specs.inside.NameSets.{names_in}
 use Rattle.pg_interval_2.specs.inside.Reading.{Numeral, count_with, read_fraction, read_sign}
 use Rattle.pg_interval_2.specs.inside.TurnedCount.{turned_count}
 use Rattle.pg_interval_2.specs.Turned.{turned_counts, turned_sign}
-use Rattle.pg_interval_2.proofs.CountedFacts.{no_unit, not_fresh}
+use Rattle.pg_interval_2.proofs.DistinctFacts.{no_unit, not_fresh}
 use Rattle.pg_interval_2.proofs.Turning.{counts_unit-turned, turned-append}
 
 -- ---- which item is read
@@ -107,14 +107,14 @@ some_whole text run is apart = let long = run_length text run is in omega (arith
 -- ---- counting one
 
 step_found : (set : NameSet) (turned : Bool) (text : List ℕ) (item : NextItem) (rest : List ℕ) (counts : List Count) (n m : Numeral) (word : Word)
-    (new : Counted) (result : Step) (found : Option TimeUnit) → item ≡ NamedItem n (letters_of text word) rest
+    (new : DistinctTally) (result : Step) (found : Option TimeUnit) → item ≡ NamedItem n (letters_of text word) rest
     → ((unit : TimeUnit) → count_with m unit ≡ turned_count turned (count_with n unit)) → IsWord text word
     → word.end + length rest ≡ length text → unit_named (names_in set) (letters_of text word) ≡ found
     → CountsNamed found (turned_counts turned counts) m word new result
     → IsItemStep (names_in set) turned text item rest counts new result
 step_found set turned text item rest counts n m word new step.Taken (Some unit) read is letters ends found counted =
     let same = ap (λ (x : Count). turned_counts turned counts ++ x ∷ []) (is unit) ∙ sym (turned-append turned counts (count_with n unit ∷ [])) in
-    inr (n, letters_of text word, unit, read, found, subst (IsCounted new) same counted)
+    inr (n, letters_of text word, unit, read, found, subst (IsDistinctTally new) same counted)
 step_found set turned text item rest counts n m word new (step.BadName bad) (Some unit) read is letters ends found (bad_is, before) =
     let long = length-between text word.start word.end letters.order letters.within in
     record {
@@ -148,7 +148,7 @@ is_turned turned negative sign whole digits fraction behind n w f unit = rw (n, 
 
 -- a step over a number and letters
 pub named_step : (set : NameSet) (turned : Bool) (text same : List ℕ) (item : NextItem) (rest : List ℕ) (counts : List Count) (n m : Numeral) (word : Word)
-    (new : Counted) (result : Step) → same ≡ text → item ≡ NamedItem n (letters_of text word) rest
+    (new : DistinctTally) (result : Step) → same ≡ text → item ≡ NamedItem n (letters_of text word) rest
     → ((unit : TimeUnit) → count_with m unit ≡ turned_count turned (count_with n unit)) → IsWord text word
     → word.end + length rest ≡ length text
     → CountsNamed (unit_named (names_in set) (letters_of same word)) (turned_counts turned counts) m word new result

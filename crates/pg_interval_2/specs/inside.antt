@@ -1,6 +1,6 @@
 -- What private contracts alone cite, by subject.
 pub mod ClockSteps
-pub mod CountedItems
+pub mod DistinctItems
 pub mod IsoSteps
 pub mod IsoShapes
 pub mod IsoTally

@@ -5,42 +5,19 @@
 //! Ported from the crate `pg_interval_2` of Rust. Readers and `text` take no memory.
 #![tactic(auto)]
 
-mod ago;
-mod body;
 mod cell;
-mod clock;
-mod clock_text;
-mod counted;
 mod duration;
 mod error;
 mod interval;
-mod iso;
-mod iso_strict;
-mod iso_text;
 pub mod laws;
-mod number;
-mod order;
-mod parts;
-mod postgres;
-mod postgres_text;
-mod reading;
-mod sql;
-mod sql_text;
-mod sql_word;
-mod sql_words;
+mod read;
 mod strings;
 mod style;
 mod sums;
-mod tally;
-mod text;
-mod unit_names;
-mod units;
-mod verbose;
-mod verbose_text;
-mod words;
+mod write;
 
 pub use error::ParseError;
 pub use interval::Interval;
-pub use reading::read_counted;
+pub use read::read_counted;
 pub use scan_core::Short;
 pub use style::Style;
