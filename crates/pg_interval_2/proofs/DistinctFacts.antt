@@ -7,7 +7,7 @@ use Rattle.std.proofs.lemmas.Bool.Decides.{eqb_tells}
 use Rattle.scan_core.specs.Count.{Count, count_of}
 use Rattle.scan_core.specs.declared.share.Unit.{Unit as TimeUnit}
 use Rattle.scan_core.specs.declared.share.Unit.TheVariants.{Second}
-use Rattle.pg_interval_2.specs.declared.read.distinct_tally.DistinctTally.{DistinctTally}
+use Rattle.pg_interval_2.specs.declared.reading.distinct_tally.DistinctTally.{DistinctTally}
 use Rattle.pg_interval_2.specs.inside.Reading.{is_nonzero}
 use Rattle.pg_interval_2.specs.inside.DistinctItems.{IsDistinctTally, CountsPerhaps, CountsAll}
 use Rattle.pg_interval_2.specs.inside.ItemReading.{ClockFields, ClockItem, NamedItem, read_item}
@@ -16,9 +16,9 @@ use Rattle.scan_core.specs.declared.runs.Run.{Run}
 use Rattle.scan_core.proofs.Between.{between_none}
 use Rattle.pg_interval_2.specs.inside.ItemViews.{HasFields}
 use Rattle.pg_interval_2.specs.inside.Reading.{Numeral, count_with, numeral_in}
-use Rattle.pg_interval_2.specs.declared.read.clock.Clock.{Clock}
-use Rattle.pg_interval_2.specs.declared.read.number.Decimal.{Decimal}
-use Rattle.pg_interval_2.specs.declared.read.unit_names.NameSet.{NameSet}
+use Rattle.pg_interval_2.specs.declared.reading.clock.Clock.{Clock}
+use Rattle.pg_interval_2.specs.declared.reading.number.Decimal.{Decimal}
+use Rattle.pg_interval_2.specs.declared.reading.unit_names.NameSet.{NameSet}
 use Rattle.pg_interval_2.specs.inside.NameSets.{names_in}
 use Rattle.pg_interval_2.proofs.UnitsApart.{contains_named, all_fresh}
 use Rattle.pg_interval_2.proofs.ItemsRead.{StandsNamed, StandsClock, Stands, item_stands}

@@ -3,9 +3,9 @@ use Rattle.std.proofs.Common.{◌≡◌, ◌≢◌, ◌↔◌, ℕ, Bool, true, 
 use Rattle.std.proofs.lemmas.Bool.{and_parts, not-true}
 use Rattle.scan_core.specs.Count.{Count}
 use Rattle.scan_core.proofs.Joins.{join_values}
-use Rattle.pg_interval_2.specs.declared.read.iso.OrderedTally.{OrderedTally}
-use Rattle.pg_interval_2.specs.declared.read.order.Order.{Order}
-use Rattle.pg_interval_2.specs.declared.read.tally.Tally.{Tally}
+use Rattle.pg_interval_2.specs.declared.reading.iso.OrderedTally.{OrderedTally}
+use Rattle.pg_interval_2.specs.declared.reading.order.Order.{Order}
+use Rattle.pg_interval_2.specs.declared.reading.tally.Tally.{Tally}
 use Rattle.pg_interval_2.specs.Iso.{IsPair, unit_in}
 use Rattle.pg_interval_2.specs.inside.IsoShapes.{ArePairs, IsDateAlone, IsDateAndTime}
 use Rattle.pg_interval_2.specs.IsoStrict.{AreInOrder}

@@ -3,8 +3,8 @@ use Rattle.std.proofs.Common.{◌≡◌, ℕ, Bool, true, false, List, [], ◌�
 use Rattle.std.proofs.lemmas.Bool.{eqb-true}
 use Rattle.scan_core.specs.Count.{Count}
 use Rattle.scan_core.proofs.Joins.{join_push, join_same}
-use Rattle.pg_interval_2.specs.declared.read.order.Order.{Order}
-use Rattle.pg_interval_2.specs.declared.read.tally.Tally.{Tally}
+use Rattle.pg_interval_2.specs.declared.reading.order.Order.{Order}
+use Rattle.pg_interval_2.specs.declared.reading.tally.Tally.{Tally}
 use Rattle.pg_interval_2.specs.Denotes.{HasNoShape}
 use Rattle.pg_interval_2.specs.Iso.{unit_in, IsPair}
 use Rattle.pg_interval_2.specs.inside.IsoShapes.{IsIsoEither}

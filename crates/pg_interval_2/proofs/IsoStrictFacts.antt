@@ -4,7 +4,7 @@ use Rattle.std.proofs.Math.Bool.{or-false, or-true}
 use Rattle.std.proofs.lemmas.Bool.{false≢true}
 use Rattle.scan_core.specs.Count.{Count}
 use Rattle.pg_interval_2.specs.declared.interval.Interval.{Interval}
-use Rattle.pg_interval_2.specs.declared.read.iso.OrderedTally.{OrderedTally}
+use Rattle.pg_interval_2.specs.declared.reading.iso.OrderedTally.{OrderedTally}
 use Rattle.pg_interval_2.specs.Denotes.{Denotes, HasNoShape}
 use Rattle.pg_interval_2.specs.inside.IsoShapes.{IsIsoEither, IsStrictEither, iso_shape}
 use Rattle.pg_interval_2.specs.inside.IsoTally.{IsSpelled}

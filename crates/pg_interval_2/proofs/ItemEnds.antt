@@ -4,7 +4,7 @@ use Rattle.scan_core.specs.Blanks.{is_blank, words}
 use Rattle.scan_core.specs.Count.{Count}
 use Rattle.scan_core.specs.declared.share.Unit.TheVariants.{Year}
 use Rattle.scan_core.proofs.WordFacts.{total_length}
-use Rattle.pg_interval_2.specs.declared.read.distinct_tally.DistinctTally.{DistinctTally}
+use Rattle.pg_interval_2.specs.declared.reading.distinct_tally.DistinctTally.{DistinctTally}
 use Rattle.pg_interval_2.specs.inside.ItemReading.{NamedItem, read_item, verdict, Spelled, BadLetters, Unspelled}
 use Rattle.pg_interval_2.specs.inside.DistinctItems.{IsNoItem}
 use Rattle.pg_interval_2.specs.Postgres.{IsBadName, IsFreshName}

@@ -7,7 +7,7 @@ use Rattle.scan_core.specs.Count.{Count}
 use Rattle.scan_core.specs.declared.share.Unit.{Unit as TimeUnit}
 use Rattle.scan_core.proofs.Joins.{join_push}
 use Rattle.scan_core.proofs.WordFacts.{words-closed}
-use Rattle.pg_interval_2.specs.declared.read.distinct_tally.DistinctTally.{DistinctTally}
+use Rattle.pg_interval_2.specs.declared.reading.distinct_tally.DistinctTally.{DistinctTally}
 use Rattle.pg_interval_2.specs.inside.DistinctItems.{IsDistinctTally, TakesItem}
 use Rattle.pg_interval_2.specs.inside.ItemReading.{ClockFields, clock_of, after_blanks, read_item}
 use Rattle.pg_interval_2.specs.Postgres.{IsItem, AreItems, all_counts}

@@ -10,10 +10,10 @@ use Rattle.scan_core.specs.declared.runs.Word.{Word}
 use Rattle.scan_core.specs.declared.share.Unit.{Unit as TimeUnit}
 use Rattle.scan_core.proofs.Between.{between_none, length-between}
 use Rattle.scan_core.proofs.RunFacts.{run_length}
-use Rattle.pg_interval_2.specs.declared.read.distinct_tally.DistinctTally.{DistinctTally}
-use Rattle.pg_interval_2.specs.declared.read.distinct_tally.Step.{Step}
-use Rattle.pg_interval_2.specs.declared.read.distinct_tally.Step.TheVariants as step
-use Rattle.pg_interval_2.specs.declared.read.unit_names.NameSet.{NameSet}
+use Rattle.pg_interval_2.specs.declared.reading.distinct_tally.DistinctTally.{DistinctTally}
+use Rattle.pg_interval_2.specs.declared.reading.distinct_tally.Step.{Step}
+use Rattle.pg_interval_2.specs.declared.reading.distinct_tally.Step.TheVariants as step
+use Rattle.pg_interval_2.specs.declared.reading.unit_names.NameSet.{NameSet}
 use Rattle.pg_interval_2.specs.inside.DistinctItems.{CountsNamed, IsDistinctTally, IsItemStep}
 use Rattle.pg_interval_2.specs.inside.ItemReading.{NextItem, NamedItem, NoItem, after_blanks, after_letters, front_letters, has_name, read_byte, read_clock, read_item, read_named}
 use Rattle.pg_interval_2.specs.inside.NamedUnits.{unit_named}

@@ -7,7 +7,7 @@ use Rattle.scan_core.specs.declared.share.Unit.{Unit as TimeUnit}
 use Rattle.pg_interval_2.specs.IsoStrict.{AreInOrder}
 use Rattle.pg_interval_2.specs.inside.UnitsInOrder.{units_in_order}
 use Rattle.pg_interval_2.specs.inside.UnitPlaces.{place_of}
-use Rattle.pg_interval_2.specs.declared.read.order.Order.{Order}
+use Rattle.pg_interval_2.specs.declared.reading.order.Order.{Order}
 use Rattle.pg_interval_2.specs.inside.Orders.{Orders, behind_last, end_place, first_place, is_kept, place_behind}
 use Rattle.pg_interval_2.proofs.UnitFacts.{place_small, same_unit}
 

@@ -2,7 +2,7 @@
 use Rattle.scan_core.specs.Blanks.{words}
 use Rattle.pg_interval_2.specs.inside.PostgresParts.{IsPostgres}
 use Rattle.pg_interval_2.specs.UnitNames.{postgres_names}
-use Rattle.pg_interval_2.specs.declared.read.unit_names.NameSet.TheVariants.{Postgres}
+use Rattle.pg_interval_2.specs.declared.reading.unit_names.NameSet.TheVariants.{Postgres}
 use Rattle.pg_interval_2.proofs.Answering.{HasOneList}
 use Rattle.pg_interval_2.proofs.BadNames.{one_counts}
 use Rattle.pg_interval_2.proofs.UnitNameFacts.{set_names}

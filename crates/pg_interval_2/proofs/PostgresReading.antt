@@ -8,8 +8,8 @@ use Rattle.pg_interval_2.specs.Postgres.{IsPostgresBadName}
 use Rattle.pg_interval_2.specs.inside.PostgresParts.{IsPostgres}
 use Rattle.pg_interval_2.specs.inside.Tallies.{Tallies}
 use Rattle.pg_interval_2.specs.UnitNames.{postgres_names}
-use Rattle.pg_interval_2.specs.declared.read.items.Misread.TheVariants.{BadName, NoItems}
-use Rattle.pg_interval_2.specs.declared.read.tally.Tally.{Tally}
+use Rattle.pg_interval_2.specs.declared.reading.items.Misread.TheVariants.{BadName, NoItems}
+use Rattle.pg_interval_2.specs.declared.reading.tally.Tally.{Tally}
 use Rattle.pg_interval_2.specs.inside.ItemReading.{verdict, Unspelled}
 use Rattle.pg_interval_2.proofs.ItemEnds.{nothing_spelled}
 use Rattle.pg_interval_2.proofs.PostgresCounts.{are_names}

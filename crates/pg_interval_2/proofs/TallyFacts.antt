@@ -15,7 +15,7 @@ use Rattle.scan_core.specs.declared.share.Unit.TheVariants.{Year, Month, Week, D
 use Rattle.scan_core.proofs.ShareFacts.{each_part_fits}
 use Rattle.scan_core.proofs.SumFacts.{total_push}
 use Rattle.scan_core.proofs.Signs.{signed-zero, fits_type-signed_zero}
-use Rattle.pg_interval_2.specs.declared.read.tally.Tally.{Tally}
+use Rattle.pg_interval_2.specs.declared.reading.tally.Tally.{Tally}
 use Rattle.pg_interval_2.specs.inside.Tallies.{Tallies, each_fits, marked}
 
 each_fits_push : (part : Part) (counts : List Count) (c : Count)

@@ -1,7 +1,7 @@
 -- Clocks whose counts are turned as those before them.
 use Rattle.std.proofs.Common.{◌≡◌, ℕ, Bool, true, false, List, ◌++◌, ap, inl, inr, subst, sym, ◌∙◌}
 use Rattle.scan_core.specs.Count.{Count}
-use Rattle.pg_interval_2.specs.declared.read.distinct_tally.DistinctTally.{DistinctTally}
+use Rattle.pg_interval_2.specs.declared.reading.distinct_tally.DistinctTally.{DistinctTally}
 use Rattle.pg_interval_2.specs.inside.DistinctItems.{CountsAll, IsDistinctTally, IsItemStep, clock_step}
 use Rattle.pg_interval_2.specs.inside.ItemReading.{ClockFields, NextItem, ClockItem, clock_of}
 use Rattle.pg_interval_2.specs.inside.UnitPlaces.{has_distinct_units}

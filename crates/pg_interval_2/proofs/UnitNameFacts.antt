@@ -7,8 +7,8 @@ use Rattle.scan_core.specs.declared.share.Unit.{Unit as TimeUnit}
 use Rattle.scan_core.specs.declared.share.Unit.TheVariants.{Year, Month, Week, Day, Hour, Minute, Second}
 use Rattle.pg_interval_2.specs.inside.ItemReading.{is_name}
 use Rattle.pg_interval_2.specs.inside.NameSets.{names_in}
-use Rattle.pg_interval_2.specs.declared.read.unit_names.NameSet.{NameSet}
-use Rattle.pg_interval_2.specs.declared.read.unit_names.NameSet.TheVariants.{Postgres, Verbose}
+use Rattle.pg_interval_2.specs.declared.reading.unit_names.NameSet.{NameSet}
+use Rattle.pg_interval_2.specs.declared.reading.unit_names.NameSet.TheVariants.{Postgres, Verbose}
 use Rattle.pg_interval_2.proofs.UnitsApart.{contains_named, contains_passes}
 use Rattle.pg_interval_2.proofs.Verdicts.{AreNames}
 

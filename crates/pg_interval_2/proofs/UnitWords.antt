@@ -12,8 +12,8 @@ use Rattle.scan_core.specs.declared.share.Unit.{Unit as TimeUnit}
 use Rattle.scan_core.specs.declared.share.Unit.TheVariants.{Year, Month, Week, Day, Hour, Minute, Second}
 use Rattle.pg_interval_2.specs.inside.NameSets.{is_packed, names_in, unit_packed}
 use Rattle.pg_interval_2.specs.inside.NamedUnits.{is_one_of, unit_named}
-use Rattle.pg_interval_2.specs.declared.read.unit_names.NameSet.{NameSet}
-use Rattle.pg_interval_2.specs.declared.read.unit_names.NameSet.TheVariants.{Postgres, Verbose}
+use Rattle.pg_interval_2.specs.declared.reading.unit_names.NameSet.{NameSet}
+use Rattle.pg_interval_2.specs.declared.reading.unit_names.NameSet.TheVariants.{Postgres, Verbose}
 use Rattle.pg_interval_2.proofs.ItemFacts.{AreLetters}
 
 -- ---- how great packed letters are

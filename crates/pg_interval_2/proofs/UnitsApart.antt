@@ -9,8 +9,8 @@ use Rattle.std.proofs.lemmas.Slice.Eq.{bytes_eq-Decides}
 use Rattle.scan_core.specs.Count.{Count}
 use Rattle.scan_core.specs.declared.share.Unit.{Unit as TimeUnit}
 use Rattle.scan_core.specs.declared.share.Unit.TheVariants.{Year, Month, Week, Day, Hour, Minute, Second}
-use Rattle.pg_interval_2.specs.declared.read.unit_names.NameSet.{NameSet}
-use Rattle.pg_interval_2.specs.declared.read.unit_names.NameSet.TheVariants.{Postgres, Verbose}
+use Rattle.pg_interval_2.specs.declared.reading.unit_names.NameSet.{NameSet}
+use Rattle.pg_interval_2.specs.declared.reading.unit_names.NameSet.TheVariants.{Postgres, Verbose}
 use Rattle.pg_interval_2.specs.inside.NamedUnits.{is_one_of, unit_named}
 use Rattle.pg_interval_2.specs.inside.NameSets.{names_in}
 use Rattle.pg_interval_2.specs.inside.UnitPlaces.{place_of, counts_unit, has_distinct_units}

@@ -3,7 +3,7 @@ use Rattle.std.proofs.Common.{◌≡◌, ℕ, true, false, List, [], ◌∷◌, 
 use Rattle.scan_core.specs.Blanks.{words}
 use Rattle.scan_core.specs.Count.{Count}
 use Rattle.scan_core.specs.Number.{IsNumber}
-use Rattle.pg_interval_2.specs.declared.read.unit_names.NameSet.TheVariants.{Verbose}
+use Rattle.pg_interval_2.specs.declared.reading.unit_names.NameSet.TheVariants.{Verbose}
 use Rattle.pg_interval_2.specs.inside.ItemReading.{Spelled, Unspelled, verdict}
 use Rattle.pg_interval_2.specs.Postgres.{AreItems}
 use Rattle.pg_interval_2.specs.Turned.{turned_counts}

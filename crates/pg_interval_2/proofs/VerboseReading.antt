@@ -9,9 +9,9 @@ use Rattle.scan_core.specs.Fronts.{leading}
 use Rattle.scan_core.specs.Scanning.{Place, Passes, ahead, front_byte}
 use Rattle.scan_core.proofs.FrontFacts.{behind_skips, leading_passes}
 use Rattle.scan_core.proofs.WordFacts.{ink, ink-words, weight, total_length}
-use Rattle.pg_interval_2.specs.declared.read.items.Misread.{Misread}
-use Rattle.pg_interval_2.specs.declared.read.items.Misread.TheVariants.{BadName, NoItems}
-use Rattle.pg_interval_2.specs.declared.read.tally.Tally.{Tally}
+use Rattle.pg_interval_2.specs.declared.reading.items.Misread.{Misread}
+use Rattle.pg_interval_2.specs.declared.reading.items.Misread.TheVariants.{BadName, NoItems}
+use Rattle.pg_interval_2.specs.declared.reading.tally.Tally.{Tally}
 use Rattle.pg_interval_2.specs.Denotes.{HasNoShape}
 use Rattle.pg_interval_2.specs.Postgres.{AreItems}
 use Rattle.pg_interval_2.specs.Turned.{turned_counts}

@@ -10,14 +10,14 @@ mod duration;
 mod error;
 mod interval;
 pub mod laws;
-mod read;
+mod reading;
 mod strings;
 mod style;
 mod sums;
-mod write;
+mod writing;
 
 pub use error::ParseError;
 pub use interval::Interval;
-pub use read::read_counted;
+pub use reading::{read, read_counted};
 pub use scan_core::Short;
 pub use style::Style;

@@ -2,9 +2,9 @@
 use Rattle.std.specs.Prelude.{◌≡◌, ◌⊎◌, ℕ, ◌+◌, ◌≤◌, length, Bool, true, false, List, [], ◌∷◌, ◌++◌, Option, Some, None, filter}
 use Rattle.scan_core.specs.Count.{Count}
 use Rattle.scan_core.specs.declared.share.Unit.{Unit as TimeUnit}
-use Rattle.pg_interval_2.specs.declared.read.distinct_tally.DistinctTally.{DistinctTally}
-use Rattle.pg_interval_2.specs.declared.read.distinct_tally.Step.{Step}
-use Rattle.pg_interval_2.specs.declared.read.distinct_tally.Step.TheVariants as step
+use Rattle.pg_interval_2.specs.declared.reading.distinct_tally.DistinctTally.{DistinctTally}
+use Rattle.pg_interval_2.specs.declared.reading.distinct_tally.Step.{Step}
+use Rattle.pg_interval_2.specs.declared.reading.distinct_tally.Step.TheVariants as step
 use Rattle.scan_core.specs.declared.runs.Word.{Word}
 use Rattle.pg_interval_2.specs.inside.Reading.{is_nonzero}
 use Rattle.pg_interval_2.specs.inside.ItemReading.{ClockFields, NextItem, ClockItem, NamedItem, NoItem, clock_of, read_item}

@@ -1,9 +1,9 @@
 -- What reading an ISO text does to a tally and to the order of units beside it: cited by private contracts alone.
 use Rattle.std.specs.Prelude.{◌≡◌, ℕ, Bool, true, false, ◌==◌, List, [], ◌∷◌, ◌++◌, None}
 use Rattle.scan_core.specs.Count.{Count}
-use Rattle.pg_interval_2.specs.declared.read.iso.OrderedTally.{OrderedTally}
-use Rattle.pg_interval_2.specs.declared.read.order.Order.{Order}
-use Rattle.pg_interval_2.specs.declared.read.tally.Tally.{Tally}
+use Rattle.pg_interval_2.specs.declared.reading.iso.OrderedTally.{OrderedTally}
+use Rattle.pg_interval_2.specs.declared.reading.order.Order.{Order}
+use Rattle.pg_interval_2.specs.declared.reading.tally.Tally.{Tally}
 use Rattle.pg_interval_2.specs.Denotes.{HasNoShape}
 use Rattle.pg_interval_2.specs.Iso.{unit_in}
 use Rattle.pg_interval_2.specs.inside.IsoShapes.{ArePairs, IsIsoEither}

@@ -1,7 +1,7 @@
 -- The clocks of the code, which lie in a text, as the readers on lists answer them: cited by private contracts alone.
 use Rattle.std.specs.Prelude.{◌≡◌, ℕ, List, take}
 use Rattle.scan_core.specs.Runs.{IsRun, digits_of}
-use Rattle.pg_interval_2.specs.declared.read.clock.Clock.{Clock}
+use Rattle.pg_interval_2.specs.declared.reading.clock.Clock.{Clock}
 use Rattle.pg_interval_2.specs.inside.ItemReading.{ClockFields, NextItem, ClockItem}
 
 -- a clock has these fields, and of the fraction the first six digits

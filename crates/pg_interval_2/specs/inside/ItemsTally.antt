@@ -3,9 +3,9 @@ use Rattle.std.specs.Prelude.{◌≡◌, ℕ, ◌+◌, Bool, List, []}
 use Rattle.scan_core.specs.Blanks.{words}
 use Rattle.scan_core.specs.Count.{Count}
 use Rattle.scan_core.specs.declared.share.Unit.{Unit as TimeUnit}
-use Rattle.pg_interval_2.specs.declared.read.items.Misread.{Misread}
-use Rattle.pg_interval_2.specs.declared.read.items.Misread.TheVariants as misread
-use Rattle.pg_interval_2.specs.declared.read.tally.Tally.{Tally}
+use Rattle.pg_interval_2.specs.declared.reading.items.Misread.{Misread}
+use Rattle.pg_interval_2.specs.declared.reading.items.Misread.TheVariants as misread
+use Rattle.pg_interval_2.specs.declared.reading.tally.Tally.{Tally}
 use Rattle.pg_interval_2.specs.Postgres.{AreItems, IsBadName}
 use Rattle.pg_interval_2.specs.inside.ItemReading.{verdict, Unspelled}
 use Rattle.pg_interval_2.specs.inside.Tallies.{Tallies}

@@ -4,8 +4,8 @@ use Rattle.std.specs.List.{list_any}
 use Rattle.scan_core.specs.Runs.{packed}
 use Rattle.scan_core.specs.declared.share.Unit.{Unit as TimeUnit}
 use Rattle.scan_core.specs.declared.share.Unit.TheVariants.{Year, Month, Day, Hour, Minute, Second}
-use Rattle.pg_interval_2.specs.declared.read.unit_names.NameSet.{NameSet}
-use Rattle.pg_interval_2.specs.declared.read.unit_names.NameSet.TheVariants.{Postgres, Verbose}
+use Rattle.pg_interval_2.specs.declared.reading.unit_names.NameSet.{NameSet}
+use Rattle.pg_interval_2.specs.declared.reading.unit_names.NameSet.TheVariants.{Postgres, Verbose}
 use Rattle.pg_interval_2.specs.UnitNames.{postgres_names, verbose_names}
 
 -- the names of a set

@@ -1,7 +1,7 @@
 -- The order of units beside a reader of ISO texts, by places: cited by private contracts alone.
 use Rattle.std.specs.Prelude.{◌≡◌, ℕ, ◌+◌, Bool, true, false, nat_le, List, [], ◌∷◌, if◌then◌else◌}
 use Rattle.scan_core.specs.Count.{Count}
-use Rattle.pg_interval_2.specs.declared.read.order.Order.{Order}
+use Rattle.pg_interval_2.specs.declared.reading.order.Order.{Order}
 use Rattle.pg_interval_2.specs.inside.UnitPlaces.{place_of}
 
 -- the first place of a unit that may stand before the `T`, and behind it

@@ -4,7 +4,7 @@ use Rattle.scan_core.specs.Count.{Count}
 use Rattle.scan_core.specs.Digits.{number_of}
 use Rattle.scan_core.specs.Fronts.{front_digits, after_digits}
 use Rattle.scan_core.specs.Runs.{IsRun, digits_of}
-use Rattle.pg_interval_2.specs.declared.read.number.Decimal.{Decimal}
+use Rattle.pg_interval_2.specs.declared.reading.number.Decimal.{Decimal}
 use Rattle.scan_core.specs.declared.share.Unit.{Unit as TimeUnit}
 
 -- the count's number isn't 0

@@ -2,13 +2,13 @@
 use Rattle.std.specs.Prelude.{ℕ, List, [], ◌++◌, Option, Some, None, option_map}
 use Rattle.scan_core.specs.Count.{Count}
 use Rattle.scan_core.specs.Runs.{IsRun, digits_of}
-use Rattle.pg_interval_2.specs.declared.read.sql_word.YearMonth.{YearMonth as YearMonthRuns}
-use Rattle.pg_interval_2.specs.declared.read.sql_word.Days.{Days as DayRuns}
-use Rattle.pg_interval_2.specs.declared.read.sql_word.Seconds.{Seconds as SecondRuns}
-use Rattle.pg_interval_2.specs.declared.read.sql_word.Time.{Time as TimeRuns}
-use Rattle.pg_interval_2.specs.declared.read.sql_word.Word.{Word}
-use Rattle.pg_interval_2.specs.declared.read.sql_word.Word.TheVariants as word
-use Rattle.pg_interval_2.specs.declared.read.sql_words.Words.{Words}
+use Rattle.pg_interval_2.specs.declared.reading.sql_word.YearMonth.{YearMonth as YearMonthRuns}
+use Rattle.pg_interval_2.specs.declared.reading.sql_word.Days.{Days as DayRuns}
+use Rattle.pg_interval_2.specs.declared.reading.sql_word.Seconds.{Seconds as SecondRuns}
+use Rattle.pg_interval_2.specs.declared.reading.sql_word.Time.{Time as TimeRuns}
+use Rattle.pg_interval_2.specs.declared.reading.sql_word.Word.{Word}
+use Rattle.pg_interval_2.specs.declared.reading.sql_word.Word.TheVariants as word
+use Rattle.pg_interval_2.specs.declared.reading.sql_words.Words.{Words}
 use Rattle.pg_interval_2.specs.inside.SqlReading.{SqlWord, YearMonth, Days, Time, word_counts}
 
 -- what may be there is so

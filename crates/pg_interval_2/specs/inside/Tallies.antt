@@ -9,7 +9,7 @@ use Rattle.scan_core.specs.declared.share.Part.TheVariants.{Months, Days, Micros
 use Rattle.pg_interval_2.specs.declared.interval.Interval.{Interval}
 use Rattle.pg_interval_2.specs.declared.error.ParseError.{ParseError}
 use Rattle.pg_interval_2.specs.declared.error.ParseError.TheVariants.{InvalidInterval, BadUnit, InvalidYearMonth, InvalidDay, InvalidTime}
-use Rattle.pg_interval_2.specs.declared.read.tally.Tally.{Tally}
+use Rattle.pg_interval_2.specs.declared.reading.tally.Tally.{Tally}
 use Rattle.pg_interval_2.specs.Messages.{year_month_overflow, day_overflow, time_overflow}
 
 -- the sums of the shares of all counts

@@ -2,7 +2,7 @@
 use Rattle.std.specs.Prelude.{Bool, ◌==◌}
 use Rattle.std.specs.Int.{bit_at}
 use Rattle.scan_core.specs.declared.share.Unit.{Unit as TimeUnit}
-use Rattle.pg_interval_2.specs.declared.read.units.Units.{Units}
+use Rattle.pg_interval_2.specs.declared.reading.units.Units.{Units}
 use Rattle.pg_interval_2.specs.inside.UnitPlaces.{place_of}
 
 -- the unit is in the set

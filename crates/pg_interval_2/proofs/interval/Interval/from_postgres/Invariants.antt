@@ -1,5 +1,0 @@
--- The ghost members of the calls of `interval::Interval::from_postgres`.
-use Rattle.pg_interval_2.proofs.interval.Interval.from_postgres.Given as goal
-
-abbrev pub ghosts-read_alone : goal.ghosts-read_alone
-ghosts-read_alone a = record { name = a.blank.name; parts = a.blank.parts }
