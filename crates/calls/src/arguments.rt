@@ -1,4 +1,5 @@
 //! Arguments as a table has them: words with a space between, and a text behind them.
+use std::time::Duration;
 
 /// So many numbers, with a space between.
 pub fn numbers<const N: usize>(text: &str) -> Option<[i128; N]> {
@@ -17,4 +18,14 @@ pub fn numbers<const N: usize>(text: &str) -> Option<[i128; N]> {
 /// A word, and the text behind the space that follows it.
 pub fn word_and_text(text: &str) -> Option<(&str, &str)> {
     text.split_once(' ')
+}
+
+/// The length of seconds and nanoseconds, which are fewer than a second.
+pub fn length_of(secs: i128, nanos: i128) -> Option<Duration> {
+    let nanos = u32::try_from(nanos).ok()?;
+    if nanos < 1_000_000_000 {
+        Some(Duration::new(u64::try_from(secs).ok()?, nanos))
+    } else {
+        None
+    }
 }

@@ -1,38 +1,71 @@
 //! The calls of `dos_date`.
 use crate::arguments::numbers;
+use crate::named::named;
 use crate::told::{Answer, printed, told};
 use dos_date::{Date, DateTime, DosRangeErrorKind, Time};
 use jiff::civil;
 use std::alloc::Global;
 
+/// A call of a table.
+#[derive(Clone, Copy)]
+enum Call {
+    DateFromRaw,
+    TimeFromRaw,
+    FromRaw,
+    Min,
+    Max,
+    ToCivil,
+    Display,
+    Parts,
+    FromCivil,
+    Message,
+    MessageOfKind,
+    IsLess,
+}
+
+/// The calls by their names.
+const CALLS: [(&str, Call); 12] = [
+    ("Date::from_raw", Call::DateFromRaw),
+    ("Time::from_raw", Call::TimeFromRaw),
+    ("DateTime::from_raw", Call::FromRaw),
+    ("MIN", Call::Min),
+    ("MAX", Call::Max),
+    ("to_civil", Call::ToCivil),
+    ("display", Call::Display),
+    ("parts", Call::Parts),
+    ("from_civil", Call::FromCivil),
+    ("message", Call::Message),
+    ("message of kind", Call::MessageOfKind),
+    ("is_less", Call::IsLess),
+];
+
 /// What the call answers.
 pub fn answer(alloc: Global, call: &str, arguments: &str) -> Answer {
-    match call.as_bytes() {
-        b"Date::from_raw" => told(
+    match named(&CALLS, call)? {
+        Call::DateFromRaw => told(
             alloc,
             &Date::from_raw(word_of(arguments)?).map(|d| d.to_raw()),
         ),
-        b"Time::from_raw" => told(
+        Call::TimeFromRaw => told(
             alloc,
             &Time::from_raw(word_of(arguments)?).map(|t| t.to_raw()),
         ),
-        b"DateTime::from_raw" => told(alloc, &words(date_time_of(arguments))),
-        b"MIN" => told(alloc, &words(Some(DateTime::MIN))),
-        b"MAX" => told(alloc, &words(Some(DateTime::MAX))),
-        b"to_civil" => told(alloc, &fields_of(date_time_of(arguments)?.to_civil())),
-        b"display" => printed(alloc, &date_time_of(arguments)?),
-        b"parts" => {
+        Call::FromRaw => told(alloc, &words(date_time_of(arguments))),
+        Call::Min => told(alloc, &words(Some(DateTime::MIN))),
+        Call::Max => told(alloc, &words(Some(DateTime::MAX))),
+        Call::ToCivil => told(alloc, &fields_of(date_time_of(arguments)?.to_civil())),
+        Call::Display => printed(alloc, &date_time_of(arguments)?),
+        Call::Parts => {
             let dos = date_time_of(arguments)?;
             told(alloc, &(dos.date().to_raw(), dos.time().to_raw()))
         }
-        b"from_civil" => told(alloc, &from_civil(arguments)?),
-        b"message" => printed(alloc, &DateTime::from_civil(civil_of(arguments)?).err()?),
-        b"message of kind" => printed(alloc, &from_civil(arguments)?.err()?),
-        b"is_less" => {
+        Call::FromCivil => told(alloc, &from_civil(arguments)?),
+        Call::Message => printed(alloc, &DateTime::from_civil(civil_of(arguments)?).err()?),
+        Call::MessageOfKind => printed(alloc, &from_civil(arguments)?.err()?),
+        Call::IsLess => {
             let [a, b, c, d] = numbers::<4>(arguments)?;
             told(alloc, &(of_numbers([a, b])? < of_numbers([c, d])?))
         }
-        _ => None,
     }
 }
 
@@ -50,7 +83,7 @@ fn words(dos: Option<DateTime>) -> Option<(u16, u16)> {
 }
 
 /// The date-time of two words.
-fn date_time_of(arguments: &str) -> Option<DateTime> {
+pub fn date_time_of(arguments: &str) -> Option<DateTime> {
     of_numbers(numbers::<2>(arguments)?)
 }
 

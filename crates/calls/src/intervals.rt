@@ -1,112 +1,183 @@
 //! The calls of `pg_interval_2`.
 use crate::arguments::{numbers, word_and_text};
+use crate::named::named;
 use crate::told::{Answer, printed, text, told};
 use jiff::SignedDuration;
 use pg_interval_2::{Interval, ParseError, Style};
-use std::alloc::Global;
+use std::alloc::{AllocError, Global};
+
+/// A call of a table.
+#[derive(Clone, Copy)]
+enum Call {
+    From(Reader),
+    FromCell,
+    FromDuration,
+    Message,
+    IsRange,
+    Text(Style),
+    To(Writer),
+    ToCell,
+    Summed(Sum),
+    SummedTexts(Sum),
+    DayTime(Sum),
+    YearMonth(Sum),
+}
+
+/// A call that reads a text of a style.
+#[derive(Clone, Copy)]
+enum Reader {
+    Iso,
+    IsoStrict,
+    Postgres,
+    PostgresVerbose,
+    Sql,
+}
+
+/// A call that makes a text of a style.
+#[derive(Clone, Copy)]
+enum Writer {
+    Iso8601,
+    Postgres,
+    PostgresVerbose,
+    Sql,
+}
+
+/// A sum or a difference, as an option or by the call that wants one.
+#[derive(Clone, Copy)]
+enum Sum {
+    CheckedAdd,
+    CheckedSub,
+    Add,
+    Sub,
+}
+
+/// The calls by their names.
+const CALLS: [(&str, Call); 32] = [
+    ("from_iso", Call::From(Reader::Iso)),
+    ("from_iso_strict", Call::From(Reader::IsoStrict)),
+    ("from_postgres", Call::From(Reader::Postgres)),
+    ("from_postgres_verbose", Call::From(Reader::PostgresVerbose)),
+    ("from_sql", Call::From(Reader::Sql)),
+    ("from_cell", Call::FromCell),
+    ("from_duration", Call::FromDuration),
+    ("message", Call::Message),
+    ("is_range", Call::IsRange),
+    ("text Iso", Call::Text(Style::Iso)),
+    ("text Postgres", Call::Text(Style::Postgres)),
+    ("text Verbose", Call::Text(Style::Verbose)),
+    ("text Sql", Call::Text(Style::Sql)),
+    ("to_iso_8601", Call::To(Writer::Iso8601)),
+    ("to_postgres", Call::To(Writer::Postgres)),
+    ("to_postgres_verbose", Call::To(Writer::PostgresVerbose)),
+    ("to_sql", Call::To(Writer::Sql)),
+    ("to_cell", Call::ToCell),
+    ("checked_add", Call::Summed(Sum::CheckedAdd)),
+    ("checked_sub", Call::Summed(Sum::CheckedSub)),
+    ("add", Call::Summed(Sum::Add)),
+    ("sub", Call::Summed(Sum::Sub)),
+    ("checked_add of texts", Call::SummedTexts(Sum::CheckedAdd)),
+    ("checked_sub of texts", Call::SummedTexts(Sum::CheckedSub)),
+    ("checked_add_day_time", Call::DayTime(Sum::CheckedAdd)),
+    ("checked_sub_day_time", Call::DayTime(Sum::CheckedSub)),
+    ("add_day_time", Call::DayTime(Sum::Add)),
+    ("sub_day_time", Call::DayTime(Sum::Sub)),
+    ("checked_add_year_month", Call::YearMonth(Sum::CheckedAdd)),
+    ("checked_sub_year_month", Call::YearMonth(Sum::CheckedSub)),
+    ("add_year_month", Call::YearMonth(Sum::Add)),
+    ("sub_year_month", Call::YearMonth(Sum::Sub)),
+];
 
 /// What the call answers.
 pub fn answer(alloc: Global, call: &str, arguments: &str) -> Answer {
-    match call.as_bytes() {
-        b"from_iso" => told(alloc, &Interval::from_iso(arguments)),
-        b"from_iso_strict" => told(alloc, &Interval::from_iso_strict(arguments)),
-        b"from_postgres" => told(alloc, &Interval::from_postgres(arguments)),
-        b"from_postgres_verbose" => told(alloc, &Interval::from_postgres_verbose(arguments)),
-        b"from_sql" => told(alloc, &Interval::from_sql(arguments)),
-        b"from_cell" => told(alloc, &Interval::from_cell(cell_of(arguments)?)),
-        b"from_duration" => told(alloc, &Interval::from_duration(duration_of(arguments)?)),
-        b"message" => printed(alloc, &error_of(arguments)?),
-        b"is_range" => told(alloc, &error_of(arguments)?.is_range()),
-        _ => written(alloc, call, arguments).or_else(|| summed(alloc, call, arguments)),
+    match named(&CALLS, call)? {
+        Call::From(call) => told(alloc, &read(call, arguments)),
+        Call::FromCell => told(alloc, &Interval::from_cell(cell_of(arguments)?)),
+        Call::FromDuration => told(alloc, &Interval::from_duration(duration_of(arguments)?)),
+        Call::Message => printed(alloc, &error_of(arguments)?),
+        Call::IsRange => told(alloc, &error_of(arguments)?.is_range()),
+        Call::Text(style) => text(alloc, interval_of(arguments)?.text(style).as_str()),
+        Call::To(call) => Some(written(alloc, call, interval_of(arguments)?)),
+        Call::ToCell => told(alloc, &interval_of(arguments)?.to_cell()),
+        Call::Summed(call) => summed(alloc, call, pair_of(arguments)?),
+        Call::SummedTexts(call) => summed(alloc, call, texts_of(arguments)?),
+        Call::DayTime(call) => added_day_time(alloc, call, arguments),
+        Call::YearMonth(call) => added_year_month(alloc, call, arguments),
     }
 }
 
-/// The calls that write an interval.
-fn written(alloc: Global, call: &str, arguments: &str) -> Answer {
-    let interval = interval_of(arguments)?;
-    match call.as_bytes() {
-        b"text Iso" => text(alloc, interval.text(Style::Iso).as_str()),
-        b"text Postgres" => text(alloc, interval.text(Style::Postgres).as_str()),
-        b"text Verbose" => text(alloc, interval.text(Style::Verbose).as_str()),
-        b"text Sql" => text(alloc, interval.text(Style::Sql).as_str()),
-        b"to_iso_8601" => Some(interval.to_iso_8601(alloc)),
-        b"to_postgres" => Some(interval.to_postgres(alloc)),
-        b"to_postgres_verbose" => Some(interval.to_postgres_verbose(alloc)),
-        b"to_sql" => Some(interval.to_sql(alloc)),
-        b"to_cell" => told(alloc, &interval.to_cell()),
-        _ => None,
+/// The interval that a text of a style spells.
+fn read(call: Reader, of: &str) -> Result<Interval, ParseError> {
+    match call {
+        Reader::Iso => Interval::from_iso(of),
+        Reader::IsoStrict => Interval::from_iso_strict(of),
+        Reader::Postgres => Interval::from_postgres(of),
+        Reader::PostgresVerbose => Interval::from_postgres_verbose(of),
+        Reader::Sql => Interval::from_sql(of),
     }
 }
 
-/// The calls that add and subtract.
-fn summed(alloc: Global, call: &str, arguments: &str) -> Answer {
-    match call.as_bytes() {
-        b"checked_add" => {
-            let (a, b) = pair_of(arguments)?;
-            told(alloc, &a.checked_add(b))
-        }
-        b"checked_sub" => {
-            let (a, b) = pair_of(arguments)?;
-            told(alloc, &a.checked_sub(b))
-        }
-        b"add" => {
-            let (a, b) = pair_of(arguments)?;
+/// The text of an interval in a style.
+fn written(alloc: Global, call: Writer, of: Interval) -> Result<String, AllocError> {
+    match call {
+        Writer::Iso8601 => of.to_iso_8601(alloc),
+        Writer::Postgres => of.to_postgres(alloc),
+        Writer::PostgresVerbose => of.to_postgres_verbose(alloc),
+        Writer::Sql => of.to_sql(alloc),
+    }
+}
+
+/// The sum or the difference of two intervals.
+fn summed(alloc: Global, call: Sum, (a, b): (Interval, Interval)) -> Answer {
+    match call {
+        Sum::CheckedAdd => told(alloc, &a.checked_add(b)),
+        Sum::CheckedSub => told(alloc, &a.checked_sub(b)),
+        Sum::Add => {
             a.checked_add(b)?;
             told(alloc, &(a + b))
         }
-        b"sub" => {
-            let (a, b) = pair_of(arguments)?;
+        Sum::Sub => {
             a.checked_sub(b)?;
             told(alloc, &(a - b))
         }
-        b"checked_add of texts" => {
-            let (a, b) = texts_of(arguments)?;
-            told(alloc, &a.checked_add(b))
-        }
-        b"checked_sub of texts" => {
-            let (a, b) = texts_of(arguments)?;
-            told(alloc, &a.checked_sub(b))
-        }
-        _ => added_day_time(alloc, call, arguments).or_else(|| added_year_month(
-            alloc, call, arguments,
-        )),
     }
 }
 
 /// The sums with days and times of day, of seven numbers.
-fn added_day_time(alloc: Global, call: &str, arguments: &str) -> Answer {
+fn added_day_time(alloc: Global, call: Sum, arguments: &str) -> Answer {
     let [months, days, micros, d, h, m, nanos] = numbers::<7>(arguments)?;
     let interval = of_numbers([months, days, micros])?;
     let d = i32::try_from(d).ok()?;
     let (h, m) = (i64::try_from(h).ok()?, i64::try_from(m).ok()?);
-    let (more, fewer) = (
-        interval.checked_add_day_time(d, h, m, nanos),
-        interval.checked_sub_day_time(d, h, m, nanos),
-    );
-    match call.as_bytes() {
-        b"checked_add_day_time" => told(alloc, &more),
-        b"checked_sub_day_time" => told(alloc, &fewer),
-        b"add_day_time" if more.is_some() => told(alloc, &interval.add_day_time(d, h, m, nanos)),
-        b"sub_day_time" if fewer.is_some() => told(alloc, &interval.sub_day_time(d, h, m, nanos)),
-        _ => None,
+    match call {
+        Sum::CheckedAdd => told(alloc, &interval.checked_add_day_time(d, h, m, nanos)),
+        Sum::CheckedSub => told(alloc, &interval.checked_sub_day_time(d, h, m, nanos)),
+        Sum::Add => {
+            interval.checked_add_day_time(d, h, m, nanos)?;
+            told(alloc, &interval.add_day_time(d, h, m, nanos))
+        }
+        Sum::Sub => {
+            interval.checked_sub_day_time(d, h, m, nanos)?;
+            told(alloc, &interval.sub_day_time(d, h, m, nanos))
+        }
     }
 }
 
 /// The sums with years and months, of five numbers.
-fn added_year_month(alloc: Global, call: &str, arguments: &str) -> Answer {
+fn added_year_month(alloc: Global, call: Sum, arguments: &str) -> Answer {
     let [months, days, micros, year, month] = numbers::<5>(arguments)?;
     let interval = of_numbers([months, days, micros])?;
     let (year, month) = (i32::try_from(year).ok()?, i32::try_from(month).ok()?);
-    let (more, fewer) = (
-        interval.checked_add_year_month(year, month),
-        interval.checked_sub_year_month(year, month),
-    );
-    match call.as_bytes() {
-        b"checked_add_year_month" => told(alloc, &more),
-        b"checked_sub_year_month" => told(alloc, &fewer),
-        b"add_year_month" if more.is_some() => told(alloc, &interval.add_year_month(year, month)),
-        b"sub_year_month" if fewer.is_some() => told(alloc, &interval.sub_year_month(year, month)),
-        _ => None,
+    match call {
+        Sum::CheckedAdd => told(alloc, &interval.checked_add_year_month(year, month)),
+        Sum::CheckedSub => told(alloc, &interval.checked_sub_year_month(year, month)),
+        Sum::Add => {
+            interval.checked_add_year_month(year, month)?;
+            told(alloc, &interval.add_year_month(year, month))
+        }
+        Sum::Sub => {
+            interval.checked_sub_year_month(year, month)?;
+            told(alloc, &interval.sub_year_month(year, month))
+        }
     }
 }
 
@@ -154,13 +225,16 @@ fn duration_of(arguments: &str) -> Option<SignedDuration> {
 }
 
 /// A refusal of each kind, by the call that makes it.
-fn error_of(call: &str) -> Option<ParseError> {
-    match call.as_bytes() {
-        b"from_invalid_interval" => Some(ParseError::from_invalid_interval("not an iso interval")),
-        b"BadUnit 2 11" => Some(ParseError::BadUnit { start: 2, end: 11 }),
-        b"from_year_month" => Some(ParseError::from_year_month("too many")),
-        b"InvalidDay" => Some(ParseError::InvalidDay("too many")),
-        b"from_time" => Some(ParseError::from_time("too many")),
-        _ => None,
-    }
+fn error_of(name: &str) -> Option<ParseError> {
+    let errors = [
+        (
+            "from_invalid_interval",
+            ParseError::from_invalid_interval("not an iso interval"),
+        ),
+        ("BadUnit 2 11", ParseError::BadUnit { start: 2, end: 11 }),
+        ("from_year_month", ParseError::from_year_month("too many")),
+        ("InvalidDay", ParseError::InvalidDay("too many")),
+        ("from_time", ParseError::from_time("too many")),
+    ];
+    named(&errors, name)
 }

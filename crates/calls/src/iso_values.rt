@@ -1,86 +1,143 @@
 //! The calls of `iso8601` on values that are given by their fields.
 use crate::arguments::numbers;
+use crate::named::named;
 use crate::told::{Answer, printed, text, told};
 use iso8601::{Date, DateTime, Duration, Time};
+use scan_core::Short;
 use std::alloc::Global;
 use std::time::Duration as StdDuration;
 
+/// A call of a value.
+#[derive(Clone, Copy)]
+pub enum OfValue {
+    Exists(DateOf),
+    Text(TextOf),
+    Display(DisplayOf),
+    Default,
+    Offset,
+    LengthOfCounts,
+    LengthOfLongest,
+}
+
+/// The fields of a date.
+#[derive(Clone, Copy)]
+pub enum DateOf {
+    Ymd,
+    Week,
+    Ordinal,
+}
+
+/// The value whose text is asked for.
+#[derive(Clone, Copy)]
+pub enum TextOf {
+    Date(DateOf),
+    Time,
+    Offset,
+    Counts,
+    Weeks,
+    Longest,
+}
+
+/// The value that is printed.
+#[derive(Clone, Copy)]
+pub enum DisplayOf {
+    Time,
+    Counts,
+    Longest,
+}
+
+/// A type with a default.
+#[derive(Clone, Copy)]
+enum ValueType {
+    Date,
+    Time,
+    DateTime,
+    Duration,
+}
+
+/// The types by their names.
+const TYPES: [(&str, ValueType); 4] = [
+    ("Date", ValueType::Date),
+    ("Time", ValueType::Time),
+    ("DateTime", ValueType::DateTime),
+    ("Duration", ValueType::Duration),
+];
+
+/// The date-time with the longest text.
+const LONGEST: DateTime = DateTime {
+    date: Date::Week {
+        year: i32::MIN,
+        ww: u32::MAX,
+        d: u32::MAX,
+    },
+    time: Time {
+        hour: u32::MAX,
+        minute: u32::MAX,
+        second: u32::MAX,
+        millisecond: u32::MAX,
+        tz_offset_hours: i32::MIN,
+        tz_offset_minutes: i32::MAX,
+    },
+};
+
 /// What the call answers.
-pub fn answer(alloc: Global, call: &str, arguments: &str) -> Answer {
-    match call.as_bytes() {
-        b"exists YMD" => told(alloc, &calendar_date(arguments)?.exists()),
-        b"exists Week" => told(alloc, &week_date(arguments)?.exists()),
-        b"exists Ordinal" => told(alloc, &ordinal_date(arguments)?.exists()),
-        b"text YMD" => text(alloc, calendar_date(arguments)?.text().as_str()),
-        b"text Week" => text(alloc, week_date(arguments)?.text().as_str()),
-        b"text Ordinal" => text(alloc, ordinal_date(arguments)?.text().as_str()),
-        b"default" => default(alloc, arguments),
-        b"offset of" => {
+pub fn answer(alloc: Global, call: OfValue, fields: &str) -> Answer {
+    match call {
+        OfValue::Exists(of) => told(alloc, &date_of(of, fields)?.exists()),
+        OfValue::Text(of) => text(alloc, text_of(of, fields)?.as_str()),
+        OfValue::Display(of) => display(alloc, of, fields),
+        OfValue::Default => default(alloc, named(&TYPES, fields)?),
+        OfValue::Offset => {
             let date = Date::Ordinal { year: 2023, ddd: 1 };
-            let time = Time::default().set_tz(pair_of(arguments)?);
+            let time = Time::default().set_tz(pair_of(fields)?);
             let moment = DateTime { date, time }.into_fixed_offset();
             told(alloc, &moment.map(|fixed| fixed.offset_seconds))
         }
-        b"text with set_tz" => {
-            let time = Time::default().set_tz(pair_of(arguments)?);
-            text(alloc, time.text().as_str())
-        }
-        b"text Time" => text(alloc, clock(arguments)?.text().as_str()),
-        b"display Time" => printed(alloc, &clock(arguments)?),
-        _ => of_durations(alloc, call, arguments).or_else(|| longest(alloc, call)),
-    }
-}
-
-/// The calls of durations.
-fn of_durations(alloc: Global, call: &str, arguments: &str) -> Answer {
-    match call.as_bytes() {
-        b"text YMDHMS" => text(alloc, counts(arguments)?.text().as_str()),
-        b"display YMDHMS" => printed(alloc, &counts(arguments)?),
-        b"text Weeks" => {
-            let weeks = Duration::Weeks(arguments.parse::<u32>().ok()?);
-            text(alloc, weeks.text().as_str())
-        }
-        b"length YMDHMS" => {
-            let length = StdDuration::from(counts(arguments)?);
+        OfValue::LengthOfCounts => {
+            let length = StdDuration::from(counts(fields)?);
             told(alloc, &(length.as_secs(), length.subsec_nanos()))
         }
-        _ => None,
+        OfValue::LengthOfLongest => told(alloc, &LONGEST.text().len()),
     }
 }
 
-/// The calls of the date-time with the longest text.
-fn longest(alloc: Global, call: &str) -> Answer {
-    let longest = DateTime {
-        date: Date::Week {
-            year: i32::MIN,
-            ww: u32::MAX,
-            d: u32::MAX,
-        },
-        time: Time {
-            hour: u32::MAX,
-            minute: u32::MAX,
-            second: u32::MAX,
-            millisecond: u32::MAX,
-            tz_offset_hours: i32::MIN,
-            tz_offset_minutes: i32::MAX,
-        },
-    };
-    match call.as_bytes() {
-        b"text of the longest" => text(alloc, longest.text().as_str()),
-        b"display of the longest" => printed(alloc, &longest),
-        b"length of the longest" => told(alloc, &longest.text().len()),
-        _ => None,
+/// The text of a value.
+fn text_of(of: TextOf, fields: &str) -> Option<Short> {
+    Some(match of {
+        TextOf::Date(of) => date_of(of, fields)?.text(),
+        TextOf::Time => clock(fields)?.text(),
+        TextOf::Offset => Time::default().set_tz(pair_of(fields)?).text(),
+        TextOf::Counts => counts(fields)?.text(),
+        TextOf::Weeks => Duration::Weeks(fields.parse::<u32>().ok()?).text(),
+        TextOf::Longest => LONGEST.text(),
+    })
+}
+
+/// A value, as it prints.
+fn display(alloc: Global, of: DisplayOf, fields: &str) -> Answer {
+    match of {
+        DisplayOf::Time => printed(alloc, &clock(fields)?),
+        DisplayOf::Counts => printed(alloc, &counts(fields)?),
+        DisplayOf::Longest => printed(alloc, &LONGEST),
     }
 }
 
 /// The default of a type, as it prints.
-fn default(alloc: Global, name: &str) -> Answer {
-    match name.as_bytes() {
-        b"Date" => printed(alloc, &Date::default()),
-        b"Time" => printed(alloc, &Time::default()),
-        b"DateTime" => printed(alloc, &DateTime::default()),
-        b"Duration" => printed(alloc, &Duration::default()),
-        _ => None,
+fn default(alloc: Global, of: ValueType) -> Answer {
+    match of {
+        ValueType::Date => printed(alloc, &Date::default()),
+        ValueType::Time => printed(alloc, &Time::default()),
+        ValueType::DateTime => printed(alloc, &DateTime::default()),
+        ValueType::Duration => printed(alloc, &Duration::default()),
+    }
+}
+
+/// The date of a year and its further fields.
+fn date_of(of: DateOf, fields: &str) -> Option<Date> {
+    match of {
+        DateOf::Ymd => calendar_date(fields),
+        DateOf::Week => week_date(fields),
+        DateOf::Ordinal => ordinal_date(fields),
     }
 }
 

@@ -1,7 +1,9 @@
 //! The calls of `forms`.
 ghost use Rattle.std.specs.Prelude.{◌≡◌, ◌<◌, ◌≤◌, IsTrue};
 ghost use Rattle.forms.specs.Names.{is_counted};
+ghost use Rattle.forms.specs.Values.{IsWithinBounds};
 
+use crate::named::named;
 use crate::told::{Answer, text, told};
 use forms::{
     Cause, Form, MemSink, MemSource, RunEnd, Value, convert, read_value, reply, reply_counted,
@@ -12,71 +14,166 @@ use std::alloc::{AllocError, Global};
 use std::marker::Brand;
 use std::sync::ledger::{Blank, Ledger};
 
+/// A call of a table.
+#[derive(Clone, Copy)]
+enum Call {
+    Lines,
+    LinesByteByByte,
+    LinesAtEachCut,
+    Top,
+    ReplyLines,
+    Status,
+    Convert,
+    ReadValue,
+    OfName(OfName),
+    Written(Written),
+}
+
+/// A call of a form's name.
+#[derive(Clone, Copy)]
+enum OfName {
+    ByName,
+    Name,
+    IsCounted,
+}
+
+/// A call that writes a value in a form, or the value that a text of the form denotes.
+#[derive(Clone, Copy)]
+enum Written {
+    Value,
+    Again,
+    Reply,
+    ReplyCounted,
+}
+
+/// The calls by their names.
+const CALLS: [(&str, Call); 15] = [
+    ("lines", Call::Lines),
+    ("lines byte by byte", Call::LinesByteByByte),
+    ("lines at each cut", Call::LinesAtEachCut),
+    ("top", Call::Top),
+    ("reply_lines", Call::ReplyLines),
+    ("status", Call::Status),
+    ("convert", Call::Convert),
+    ("read_value", Call::ReadValue),
+    ("by_name", Call::OfName(OfName::ByName)),
+    ("name", Call::OfName(OfName::Name)),
+    ("is_counted", Call::OfName(OfName::IsCounted)),
+    ("write_value", Call::Written(Written::Value)),
+    ("written again", Call::Written(Written::Again)),
+    ("reply", Call::Written(Written::Reply)),
+    ("reply_counted", Call::Written(Written::ReplyCounted)),
+];
+
+/// The ends of a run by their names.
+const ENDS: [(&str, RunEnd); 5] = [
+    ("Done", RunEnd::Done),
+    ("ReadFault", RunEnd::ReadFault),
+    ("WriteFault", RunEnd::WriteFault),
+    ("TooLong", RunEnd::TooLong),
+    ("NoMemory", RunEnd::NoMemory),
+];
+
+/// A value that has a name.
+#[derive(Clone, Copy)]
+enum NamedValue {
+    Instant0,
+    Instant1,
+    Clock0,
+    Length1,
+    LengthOf30Days,
+    TripleOf2To31Months,
+}
+
+/// Some values by their names.
+const VALUES: [(&str, NamedValue); 6] = [
+    ("Instant 0", NamedValue::Instant0),
+    ("Instant 1", NamedValue::Instant1),
+    ("Clock 0", NamedValue::Clock0),
+    ("Length 1", NamedValue::Length1),
+    ("Length of 30 days", NamedValue::LengthOf30Days),
+    ("Triple of 2^31 months", NamedValue::TripleOf2To31Months),
+];
+
 /// What the call answers, where its arguments are bytes.
 pub fn answer(alloc: Global, call: &str, arguments: &[u8]) -> Answer {
-    match call.as_bytes() {
-        b"lines" => Some(outcome(alloc, "", arguments, 65_536, 65_536)),
-        b"lines byte by byte" => Some(outcome(alloc, "", arguments, 65_536, 1)),
-        b"lines at each cut" => Some(outcome_at_each_cut(alloc, arguments)),
-        _ => of_text(alloc, call, str::from_utf8(arguments).ok()?),
+    let of = str::from_utf8(arguments).ok();
+    match named(&CALLS, call)? {
+        Call::Lines => Some(outcome(alloc, "", arguments, 65_536, 65_536)),
+        Call::LinesByteByByte => Some(outcome(alloc, "", arguments, 65_536, 1)),
+        Call::LinesAtEachCut => Some(outcome_at_each_cut(alloc, arguments)),
+        Call::Top => outcome_of_top(alloc, of?),
+        Call::ReplyLines => replies_in(alloc, of?),
+        Call::Status => told(alloc, &named(&ENDS, of?)?.status()),
+        Call::Convert => converted(alloc, of?),
+        Call::ReadValue => {
+            let (form, of) = form_and_text(of?)?;
+            told(alloc, &read_value(form, of))
+        }
+        Call::OfName(call) => of_name(alloc, call, of?),
+        Call::Written(call) => match text_of(call, of?)? {
+            Ok(out) => text(alloc, out.as_str()),
+            Err(cause) => told(alloc, &cause),
+        },
     }
 }
 
-/// The calls whose arguments are a text.
-fn of_text(alloc: Global, call: &str, arguments: &str) -> Answer {
-    match call.as_bytes() {
-        b"top" => {
-            let (room, rest) = arguments.split_once(' ')?;
-            let (cut, words) = rest.split_once(' ')?;
-            let (room, cut) = (room.parse::<usize>().ok()?, cut.parse::<usize>().ok()?);
-            if cut < 1 {
-                return None;
-            }
-            Some(outcome(alloc, words, b"left\n", room, cut))
-        }
-        b"reply_lines" => {
-            let (room, lines) = arguments.split_once(' ')?;
-            Some(replies_in(alloc, room.parse::<usize>().ok()?, lines.as_bytes()))
-        }
-        b"by_name" => told(alloc, &Form::by_name(arguments)),
-        b"name" => text(alloc, Form::by_name(arguments)?.name()),
-        b"is_counted" => told(alloc, &Form::by_name(arguments)?.is_counted()),
-        b"status" => told(alloc, &end_of(arguments)?.status()),
-        b"convert" => {
-            let (from, rest) = form_and_text(arguments)?;
-            let (to, of) = form_and_text(rest)?;
-            match convert(alloc, from, to, of) {
-                Ok(out) => text(alloc, out.as_str()),
-                Err(error) => told(alloc, &error),
-            }
-        }
-        b"write_value" => {
-            let (form, value) = form_and_text(arguments)?;
-            written(alloc, form, value)
-        }
-        _ => {
-            let (form, of) = form_and_text(arguments)?;
-            of_form(alloc, call, form, of)
-        }
+/// What the call answers to a form's name.
+fn of_name(alloc: Global, call: OfName, name: &str) -> Answer {
+    match call {
+        OfName::ByName => told(alloc, &Form::by_name(name)),
+        OfName::Name => text(alloc, Form::by_name(name)?.name()),
+        OfName::IsCounted => told(alloc, &Form::by_name(name)?.is_counted()),
     }
 }
 
-/// The calls of a form and a text.
-fn of_form(alloc: Global, call: &str, form: Form, of: &str) -> Answer {
-    match call.as_bytes() {
-        b"read_value" => told(alloc, &read_value(form, of)),
-        b"written again" => answered(alloc, written_again(form, of)),
-        b"reply" => answered(alloc, reply(form, Form::PgIso, of)),
-        b"reply_counted" if form.is_counted() => answered(alloc, counted(form, of)),
-        _ => None,
+/// What the call writes, behind the form.
+fn text_of(call: Written, arguments: &str) -> Option<Result<Short, Cause>> {
+    let (form, of) = form_and_text(arguments)?;
+    match call {
+        Written::Value => Some(write_value(form, value_of(named(&VALUES, of)?))),
+        Written::Again => Some(written_again(form, of)),
+        Written::Reply => Some(reply(form, Form::PgIso, of)),
+        Written::ReplyCounted => counted(form, of),
     }
 }
 
-/// An answer: a text, or its cause.
-fn answered(alloc: Global, answer: Result<Short, Cause>) -> Answer {
-    match answer {
+/// What the program does with words, behind the room of the sink and the bytes of a call.
+fn outcome_of_top(alloc: Global, arguments: &str) -> Answer {
+    let (room, rest) = arguments.split_once(' ')?;
+    let (cut, words) = rest.split_once(' ')?;
+    let (room, cut) = (room.parse::<usize>().ok()?, cut.parse::<usize>().ok()?);
+    if cut < 1 {
+        return None;
+    }
+    Some(outcome(alloc, words, b"left\n", room, cut))
+}
+
+/// The text of a form in another one.
+fn converted(alloc: Global, arguments: &str) -> Answer {
+    let (from, rest) = form_and_text(arguments)?;
+    let (to, of) = form_and_text(rest)?;
+    match convert(alloc, from, to, of) {
         Ok(out) => text(alloc, out.as_str()),
-        Err(cause) => told(alloc, &cause),
+        Err(error) => told(alloc, &error),
+    }
+}
+
+/// The value that has a name.
+fn value_of(name: NamedValue) -> Value
+    ensures { IsWithinBounds result }
+{
+    match name {
+        NamedValue::Instant0 => Value::Instant(0),
+        NamedValue::Instant1 => Value::Instant(1),
+        NamedValue::Clock0 => Value::Clock(0),
+        NamedValue::Length1 => Value::Length(1),
+        NamedValue::LengthOf30Days => Value::Length(2_592_000_000_000_000),
+        NamedValue::TripleOf2To31Months => Value::Triple {
+            months: 2_147_483_648,
+            days: 0,
+            micros: 0,
+        },
     }
 }
 
@@ -91,11 +188,13 @@ fn written_again(form: Form, of: &str) -> Result<Short, Cause> {
     write_value(form, read_value(form, of)?)
 }
 
-/// The answer in the ISO style by counted looks.
-fn counted(form: Form, of: &str) -> Result<Short, Cause>
-    requires { IsTrue (is_counted form) }
-{
-    counted_alone::<Brand>(form, &Looked::new(of), Blank::new(1))
+/// The answer in the ISO style by counted looks, of the forms that are read so.
+fn counted(form: Form, of: &str) -> Option<Result<Short, Cause>> {
+    if form.is_counted() {
+        Some(counted_alone::<Brand>(form, &Looked::new(of), Blank::new(1)))
+    } else {
+        None
+    }
 }
 
 /// The same with a counter of its own.
@@ -106,43 +205,6 @@ fn counted_alone<L: Ledger>(form: Form, of: &Looked<'_>, blank: Blank) -> Result
     requires some { 0 < L.parts }
 {
     reply_counted(form, Form::PgIso, of, &mut Steps::<L>::new(blank))
-}
-
-/// What the form writes of a value by its name.
-fn written(alloc: Global, form: Form, value: &str) -> Answer {
-    match value.as_bytes() {
-        b"Instant 0" => answered(alloc, write_value(form, Value::Instant(0))),
-        b"Instant 1" => answered(alloc, write_value(form, Value::Instant(1))),
-        b"Clock 0" => answered(alloc, write_value(form, Value::Clock(0))),
-        b"Length 1" => answered(alloc, write_value(form, Value::Length(1))),
-        b"Length of 30 days" => {
-            answered(
-                alloc,
-                write_value(form, Value::Length(2_592_000_000_000_000)),
-            )
-        }
-        b"Triple of 2^31 months" => {
-            let value = Value::Triple {
-                months: 2_147_483_648,
-                days: 0,
-                micros: 0,
-            };
-            answered(alloc, write_value(form, value))
-        }
-        _ => None,
-    }
-}
-
-/// An end of a run by its name.
-fn end_of(name: &str) -> Option<RunEnd> {
-    match name.as_bytes() {
-        b"Done" => Some(RunEnd::Done),
-        b"ReadFault" => Some(RunEnd::ReadFault),
-        b"WriteFault" => Some(RunEnd::WriteFault),
-        b"TooLong" => Some(RunEnd::TooLong),
-        b"NoMemory" => Some(RunEnd::NoMemory),
-        _ => None,
-    }
 }
 
 /// The program's status, how many bytes it left of the input, and what the sink held.
@@ -174,8 +236,14 @@ fn outcome_at_each_cut(alloc: Global, input: &[u8]) -> Result<String, AllocError
     Ok(whole)
 }
 
-/// How many bytes were read and written, and the buffer behind the call, whose bytes were `-`.
-fn replies_in(alloc: Global, room: usize, lines: &[u8]) -> Result<String, AllocError> {
+/// How many bytes were read and written, and the buffer behind the call, whose bytes were `-`. The room stands in front of the lines.
+fn replies_in(alloc: Global, arguments: &str) -> Answer {
+    let (room, lines) = arguments.split_once(' ')?;
+    Some(replies(alloc, room.parse::<usize>().ok()?, lines.as_bytes()))
+}
+
+/// The same of a room and lines.
+fn replies(alloc: Global, room: usize, lines: &[u8]) -> Result<String, AllocError> {
     let mut out = vec![in alloc; b'-'; room]?;
     let (read, wrote) = reply_lines(lines, out.as_mut_slice());
     let held = str::from_utf8(out.as_slice()).unwrap_or("bytes that are not UTF-8");

@@ -4,11 +4,13 @@
 
 mod arguments;
 mod dos_words;
+mod file_time_sums;
 mod file_times;
 mod intervals;
 mod iso_texts;
 mod iso_values;
 mod lines;
+mod named;
 mod row;
 mod scanning;
 mod short_durations;
@@ -16,6 +18,7 @@ mod short_texts;
 mod small;
 mod told;
 mod toml_texts;
+mod unix_times;
 
 use row::{Row, row_of};
 use std::alloc::{AllocError, Global};
@@ -23,28 +26,41 @@ use std::rt::Files;
 use std::{fs, io};
 use told::Answer;
 
-/// The tables, in data/.
-const TABLES: [&str; 8] = [
-    "scan_core.tsv",
-    "pg_interval_2.tsv",
-    "dos_date.tsv",
-    "nt_time.tsv",
-    "fancy_duration.tsv",
-    "iso8601.tsv",
-    "port_toml_datetime.tsv",
-    "forms.tsv",
+/// A table, by the crate whose calls it has.
+#[derive(Clone, Copy)]
+enum Table {
+    ScanCore,
+    PgInterval2,
+    DosDate,
+    NtTime,
+    FancyDuration,
+    Iso8601,
+    PortTomlDatetime,
+    Forms,
+}
+
+/// The tables by their names in data/.
+const TABLES: [(&str, Table); 8] = [
+    ("scan_core.tsv", Table::ScanCore),
+    ("pg_interval_2.tsv", Table::PgInterval2),
+    ("dos_date.tsv", Table::DosDate),
+    ("nt_time.tsv", Table::NtTime),
+    ("fancy_duration.tsv", Table::FancyDuration),
+    ("iso8601.tsv", Table::Iso8601),
+    ("port_toml_datetime.tsv", Table::PortTomlDatetime),
+    ("forms.tsv", Table::Forms),
 ];
 
 fn main(rt: HostRuntime) -> io::Result<()> {
-    for table in TABLES {
-        run_table(&rt, table)?;
+    for (name, table) in TABLES {
+        run_table(&rt, name, table)?;
     }
     Ok(())
 }
 
 /// Runs each row of a table, and tells which rows disagree and how many agree.
-fn run_table<R: Files + AllocGlobal + Print>(rt: &R, table: &str) -> io::Result<()> {
-    let text = fs::read_to_string(rt, table)?;
+fn run_table<R: Files + AllocGlobal + Print>(rt: &R, name: &str, table: Table) -> io::Result<()> {
+    let text = fs::read_to_string(rt, name)?;
     let mut agreeing: u64 = 0;
     for line in text.lines() {
         if line.starts_with('#') {
@@ -53,14 +69,14 @@ fn run_table<R: Files + AllocGlobal + Print>(rt: &R, table: &str) -> io::Result<
         if agrees(rt.alloc(), table, line)? {
             agreeing = agreeing.saturating_add(1);
         } else {
-            rt.println(format!(in rt.alloc(); "{table} disagrees: {line}")?)?;
+            rt.println(format!(in rt.alloc(); "{name} disagrees: {line}")?)?;
         }
     }
-    rt.println(format!(in rt.alloc(); "{table}: {agreeing} rows agree")?)
+    rt.println(format!(in rt.alloc(); "{name}: {agreeing} rows agree")?)
 }
 
 /// Whether the row's call gives the row's answer.
-fn agrees(alloc: Global, table: &str, line: &str) -> Result<bool, AllocError> {
+fn agrees(alloc: Global, table: Table, line: &str) -> Result<bool, AllocError> {
     let Some(row) = row_of(alloc, line)? else {
         return Ok(false);
     };
@@ -71,24 +87,17 @@ fn agrees(alloc: Global, table: &str, line: &str) -> Result<bool, AllocError> {
 }
 
 /// What the row's call answers, by the crate that the table is of.
-fn answer(alloc: Global, table: &str, row: &Row) -> Answer {
-    let (call, arguments) = (row.call, row.arguments.as_slice());
-    match table.as_bytes() {
-        b"iso8601.tsv" => iso_texts::answer(alloc, call, arguments),
-        b"forms.tsv" => lines::answer(alloc, call, arguments),
-        _ => of_text(alloc, table, call, str::from_utf8(arguments).ok()?),
-    }
-}
-
-/// The same where the arguments are a text.
-fn of_text(alloc: Global, table: &str, call: &str, arguments: &str) -> Answer {
-    match table.as_bytes() {
-        b"scan_core.tsv" => scanning::answer(alloc, call, arguments),
-        b"pg_interval_2.tsv" => intervals::answer(alloc, call, arguments),
-        b"dos_date.tsv" => dos_words::answer(alloc, call, arguments),
-        b"nt_time.tsv" => file_times::answer(alloc, call, arguments),
-        b"fancy_duration.tsv" => short_durations::answer(alloc, call, arguments),
-        b"port_toml_datetime.tsv" => toml_texts::answer(alloc, call, arguments),
-        _ => None,
+fn answer(alloc: Global, table: Table, row: &Row) -> Answer {
+    let (call, bytes) = (row.call, row.arguments.as_slice());
+    let text = str::from_utf8(bytes).ok();
+    match table {
+        Table::ScanCore => scanning::answer(alloc, call, text?),
+        Table::PgInterval2 => intervals::answer(alloc, call, text?),
+        Table::DosDate => dos_words::answer(alloc, call, text?),
+        Table::NtTime => file_times::answer(alloc, call, text?),
+        Table::FancyDuration => short_durations::answer(alloc, call, text?),
+        Table::Iso8601 => iso_texts::answer(alloc, call, bytes),
+        Table::PortTomlDatetime => toml_texts::answer(alloc, call, text?),
+        Table::Forms => lines::answer(alloc, call, bytes),
     }
 }

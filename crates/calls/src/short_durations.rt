@@ -1,5 +1,6 @@
 //! The calls of `fancy_duration`.
-use crate::arguments::{numbers, word_and_text};
+use crate::arguments::{length_of, numbers, word_and_text};
+use crate::named::named;
 use crate::small::Small;
 use crate::told::{Answer, printed, text, told};
 use fancy_duration::{
@@ -8,125 +9,177 @@ use fancy_duration::{
 use std::alloc::Global;
 use std::time::Duration;
 
+/// A call of a table.
+#[derive(Clone, Copy)]
+enum Call {
+    ParseToNs,
+    IsFancyText,
+    ParseFancyDuration,
+    Parse,
+    FromStr,
+    Message,
+    IsLess,
+    OfLength(OfLength),
+    Filter,
+    Truncate,
+    FromTimesOfTheGreatest,
+    FromTimesThatCarry,
+    OfSmall(OfSmall),
+}
+
+/// A call of a type of the user's own.
+#[derive(Clone, Copy)]
+enum OfSmall {
+    Parse,
+    Text,
+    Truncate,
+}
+
+/// A call of a length, which is given by its seconds and nanoseconds.
+#[derive(Clone, Copy)]
+enum OfLength {
+    Text,
+    Display,
+    Format,
+    FormatCompact,
+    ReadsBack,
+}
+
+/// The calls by their names.
+const CALLS: [(&str, Call); 19] = [
+    ("parse_to_ns", Call::ParseToNs),
+    ("is_fancy_text", Call::IsFancyText),
+    ("parse_fancy_duration", Call::ParseFancyDuration),
+    ("parse", Call::Parse),
+    ("from_str", Call::FromStr),
+    ("message", Call::Message),
+    ("is_less", Call::IsLess),
+    ("text", Call::OfLength(OfLength::Text)),
+    ("display", Call::OfLength(OfLength::Display)),
+    ("format", Call::OfLength(OfLength::Format)),
+    ("format_compact", Call::OfLength(OfLength::FormatCompact)),
+    ("reads_back", Call::OfLength(OfLength::ReadsBack)),
+    ("filter", Call::Filter),
+    ("truncate", Call::Truncate),
+    ("from_times of the greatest", Call::FromTimesOfTheGreatest),
+    ("from_times that carry", Call::FromTimesThatCarry),
+    ("parse of Small", Call::OfSmall(OfSmall::Parse)),
+    ("text of Small", Call::OfSmall(OfSmall::Text)),
+    ("truncate of Small", Call::OfSmall(OfSmall::Truncate)),
+];
+
+/// The refusals by their names.
+const ERRORS: [(&str, FancyError); 2] = [
+    ("TooBig", FancyError::TooBig),
+    ("NotHeld", FancyError::NotHeld),
+];
+
+/// The parts by their names.
+const PARTS: [(&str, DurationPart); 10] = [
+    ("Years", DurationPart::Years),
+    ("Months", DurationPart::Months),
+    ("Weeks", DurationPart::Weeks),
+    ("Days", DurationPart::Days),
+    ("Hours", DurationPart::Hours),
+    ("Minutes", DurationPart::Minutes),
+    ("Seconds", DurationPart::Seconds),
+    ("Milliseconds", DurationPart::Milliseconds),
+    ("Microseconds", DurationPart::Microseconds),
+    ("Nanoseconds", DurationPart::Nanoseconds),
+];
+
 /// What the call answers.
 pub fn answer(alloc: Global, call: &str, arguments: &str) -> Answer {
-    match call.as_bytes() {
-        b"parse_to_ns" => told(alloc, &FancyDuration::<Duration>::parse_to_ns(arguments)),
-        b"is_fancy_text" => told(alloc, &FancyDuration::<Duration>::is_fancy_text(arguments)),
-        b"parse_fancy_duration" => {
-            told(
-                alloc,
-                &Duration::parse_fancy_duration(arguments).map(|d| d.as_times()),
-            )
+    match named(&CALLS, call)? {
+        Call::ParseToNs => told(alloc, &FancyDuration::<Duration>::parse_to_ns(arguments)),
+        Call::IsFancyText => told(alloc, &FancyDuration::<Duration>::is_fancy_text(arguments)),
+        Call::ParseFancyDuration => {
+            let parsed = Duration::parse_fancy_duration(arguments);
+            told(alloc, &parsed.map(|length| length.as_times()))
         }
-        b"parse" => {
-            let parsed = FancyDuration::<Duration>::parse(arguments);
-            told(alloc, &parsed.map(|fancy| fancy.duration().as_times()))
-        }
-        b"from_str" => {
-            let parsed = arguments.parse::<FancyDuration<Duration>>();
-            told(alloc, &parsed.map(|fancy| fancy.duration().as_times()))
-        }
-        b"message" => match arguments.as_bytes() {
-            b"TooBig" => printed(alloc, &FancyError::TooBig),
-            b"NotHeld" => printed(alloc, &FancyError::NotHeld),
-            _ => None,
-        },
-        b"is_less" => {
+        Call::Parse => told(alloc, &times(FancyDuration::<Duration>::parse(arguments))),
+        Call::FromStr => told(alloc, &times(arguments.parse::<FancyDuration<Duration>>())),
+        Call::Message => printed(alloc, &named(&ERRORS, arguments)?),
+        Call::IsLess => {
             let (a, b) = word_and_text(arguments)?;
-            told(alloc, &(part_of(a)? < part_of(b)?))
+            told(alloc, &(named(&PARTS, a)? < named(&PARTS, b)?))
         }
-        _ => of_length(alloc, call, arguments).or_else(|| shortened(alloc, call, arguments)),
-    }
-}
-
-/// The calls of a length, which is given by its seconds and nanoseconds.
-fn of_length(alloc: Global, call: &str, arguments: &str) -> Answer {
-    let [secs, nanos] = numbers::<2>(arguments)?;
-    let (secs, nanos) = (u64::try_from(secs).ok()?, u32::try_from(nanos).ok()?);
-    if nanos >= 1_000_000_000 {
-        return None;
-    }
-    let fancy = Duration::new(secs, nanos).fancy_duration();
-    match call.as_bytes() {
-        b"text" => text(alloc, fancy.text().as_str()),
-        b"display" => printed(alloc, &fancy),
-        b"format" => Some(fancy.format(alloc)),
-        b"format_compact" => Some(fancy.format_compact(alloc)),
-        b"reads_back" => told(alloc, &fancy.reads_back()),
-        _ => None,
-    }
-}
-
-/// The calls that keep some parts of a text's length, and those of a type of the user's own.
-fn shortened(alloc: Global, call: &str, arguments: &str) -> Answer {
-    match call.as_bytes() {
-        b"filter" => {
-            let (parts, of) = word_and_text(arguments)?;
-            let kept = parts_of(parts)?;
-            let fancy = FancyDuration::<Duration>::parse(of).ok()?;
-            text(alloc, fancy.filter(&kept).text().as_str())
-        }
-        b"truncate" => {
-            let (limit, of) = word_and_text(arguments)?;
-            let fancy = FancyDuration::<Duration>::parse(of).ok()?;
-            text(
-                alloc,
-                fancy.truncate(limit.parse::<usize>().ok()?).text().as_str(),
-            )
-        }
-        b"from_times of the greatest" => {
+        Call::OfLength(call) => of_length(alloc, call, arguments),
+        Call::Filter => filtered(alloc, arguments),
+        Call::Truncate => truncated::<Duration>(alloc, arguments),
+        Call::FromTimesOfTheGreatest => {
             let longest = Duration::new(0, 0).from_times(u64::MAX, 999_999_999);
             told(alloc, &longest.as_times())
         }
-        b"from_times that carry" => {
-            told(
-                alloc,
-                &Duration::new(0, 0).from_times(1, 4_294_967_295).as_times(),
-            )
+        Call::FromTimesThatCarry => {
+            let carried = Duration::new(0, 0).from_times(1, 4_294_967_295);
+            told(alloc, &carried.as_times())
         }
-        b"parse of Small" => {
+        Call::OfSmall(call) => of_small(alloc, call, arguments),
+    }
+}
+
+/// The seconds and nanoseconds that were read.
+fn times(parsed: Result<FancyDuration<Duration>, FancyError>) -> Result<(u64, u64), FancyError> {
+    parsed.map(|fancy| fancy.duration().as_times())
+}
+
+/// The text of some parts of a text's length.
+fn filtered(alloc: Global, arguments: &str) -> Answer {
+    let (parts, of) = word_and_text(arguments)?;
+    let fancy = FancyDuration::<Duration>::parse(of).ok()?;
+    text(alloc, fancy.filter(&parts_of(parts)?).text().as_str())
+}
+
+/// The text of so many parts of a text's length.
+fn truncated<D: AsTimes + Copy>(alloc: Global, arguments: &str) -> Answer {
+    let (limit, of) = word_and_text(arguments)?;
+    let limit = limit.parse::<usize>().ok()?;
+    let fancy = FancyDuration::<D>::parse(of).ok()?;
+    text(alloc, fancy.truncate(limit).text().as_str())
+}
+
+/// The calls of a type of the user's own.
+fn of_small(alloc: Global, call: OfSmall, arguments: &str) -> Answer {
+    match call {
+        OfSmall::Parse => {
             let parsed = FancyDuration::<Small>::parse(arguments);
             told(alloc, &parsed.map(|fancy| fancy.duration()))
         }
-        b"text of Small" => {
+        OfSmall::Text => {
             let fancy = FancyDuration::<Small>::parse(arguments).ok()?;
             text(alloc, fancy.text().as_str())
         }
-        b"truncate of Small" => {
-            let (limit, of) = word_and_text(arguments)?;
-            let fancy = FancyDuration::<Small>::parse(of).ok()?;
-            text(
-                alloc,
-                fancy.truncate(limit.parse::<usize>().ok()?).text().as_str(),
-            )
-        }
-        _ => None,
+        OfSmall::Truncate => truncated::<Small>(alloc, arguments),
+    }
+}
+
+/// The calls of a length.
+fn of_length(alloc: Global, call: OfLength, arguments: &str) -> Answer {
+    let [secs, nanos] = numbers::<2>(arguments)?;
+    let fancy = length_of(secs, nanos)?.fancy_duration();
+    match call {
+        OfLength::Text => text(alloc, fancy.text().as_str()),
+        OfLength::Display => printed(alloc, &fancy),
+        OfLength::Format => Some(fancy.format(alloc)),
+        OfLength::FormatCompact => Some(fancy.format_compact(alloc)),
+        OfLength::ReadsBack => told(alloc, &fancy.reads_back()),
     }
 }
 
 /// One to three parts with a comma between, of which the first stands for each that is missing.
 fn parts_of(parts: &str) -> Option<[DurationPart; 3]> {
     let mut names = parts.split(',');
-    let first = part_of(names.next()?)?;
-    let second = names.next().and_then(part_of).unwrap_or(first);
-    let third = names.next().and_then(part_of).unwrap_or(first);
+    let first = named(&PARTS, names.next()?)?;
+    let second = part_or(first, names.next());
+    let third = part_or(first, names.next());
     Some([first, second, third])
 }
 
-/// A part by its name.
-fn part_of(name: &str) -> Option<DurationPart> {
-    match name.as_bytes() {
-        b"Years" => Some(DurationPart::Years),
-        b"Months" => Some(DurationPart::Months),
-        b"Weeks" => Some(DurationPart::Weeks),
-        b"Days" => Some(DurationPart::Days),
-        b"Hours" => Some(DurationPart::Hours),
-        b"Minutes" => Some(DurationPart::Minutes),
-        b"Seconds" => Some(DurationPart::Seconds),
-        b"Milliseconds" => Some(DurationPart::Milliseconds),
-        b"Microseconds" => Some(DurationPart::Microseconds),
-        b"Nanoseconds" => Some(DurationPart::Nanoseconds),
-        _ => None,
+/// A part by its name, and the first where there is none.
+fn part_or(first: DurationPart, name: Option<&str>) -> DurationPart {
+    match name {
+        Some(name) => named(&PARTS, name).unwrap_or(first),
+        None => first,
     }
 }

@@ -1,47 +1,88 @@
 //! The calls of `port_toml_datetime`.
 use crate::arguments::word_and_text;
+use crate::named::named;
 use crate::told::{Answer, printed, text, told};
 use port_toml_datetime::{Date, Datetime, Offset, Time};
 use std::alloc::Global;
 use std::str::FromStr;
 
+/// A call of a table.
+#[derive(Clone, Copy)]
+enum Call {
+    Value,
+    Said,
+    Text,
+    IsReadBack,
+    What,
+    Expected,
+    IsLess,
+    IsEqual,
+    DisplayDate,
+    DisplayTime,
+    DisplayOffset,
+    TextOfParts,
+    DisplayOfParts,
+    FromDate,
+    FromTime,
+}
+
+/// The calls by their names.
+const CALLS: [(&str, Call); 15] = [
+    ("value", Call::Value),
+    ("said", Call::Said),
+    ("text", Call::Text),
+    ("text is read back", Call::IsReadBack),
+    ("what", Call::What),
+    ("expected", Call::Expected),
+    ("is_less", Call::IsLess),
+    ("is_equal", Call::IsEqual),
+    ("display Date", Call::DisplayDate),
+    ("display Time", Call::DisplayTime),
+    ("display Offset", Call::DisplayOffset),
+    ("text of parts", Call::TextOfParts),
+    ("display of parts", Call::DisplayOfParts),
+    ("Datetime::from Date", Call::FromDate),
+    ("Datetime::from Time", Call::FromTime),
+];
+
 /// What the call answers.
 pub fn answer(alloc: Global, call: &str, arguments: &str) -> Answer {
-    match call.as_bytes() {
-        b"value" => told(alloc, &Datetime::from_str(arguments).ok()),
-        b"said" => match Datetime::from_str(arguments) {
+    match named(&CALLS, call)? {
+        Call::Value => told(alloc, &Datetime::from_str(arguments).ok()),
+        Call::Said => match Datetime::from_str(arguments) {
             Ok(value) => printed(alloc, &value),
             Err(error) => printed(alloc, &error),
         },
-        b"text" => text(alloc, Datetime::from_str(arguments).ok()?.text().as_str()),
-        b"text is read back" => {
+        Call::Text => text(alloc, Datetime::from_str(arguments).ok()?.text().as_str()),
+        Call::IsReadBack => {
             let value = Datetime::from_str(arguments).ok()?;
-            told(
-                alloc,
-                &(Datetime::from_str(value.text().as_str()) == Ok(value)),
-            )
+            let again = Datetime::from_str(value.text().as_str());
+            told(alloc, &(again == Ok(value)))
         }
-        b"what" => told(alloc, &Datetime::from_str(arguments).err()?.what()),
-        b"expected" => told(alloc, &Datetime::from_str(arguments).err()?.expected()),
-        b"is_less" => {
-            let (a, b) = word_and_text(arguments)?;
-            let (a, b) = (Datetime::from_str(a).ok()?, Datetime::from_str(b).ok()?);
+        Call::What => told(alloc, &Datetime::from_str(arguments).err()?.what()),
+        Call::Expected => told(alloc, &Datetime::from_str(arguments).err()?.expected()),
+        Call::IsLess => {
+            let (a, b) = two_of(arguments)?;
             told(alloc, &(a < b))
         }
-        b"is_equal" => {
-            let (a, b) = word_and_text(arguments)?;
-            let (a, b) = (Datetime::from_str(a).ok()?, Datetime::from_str(b).ok()?);
+        Call::IsEqual => {
+            let (a, b) = two_of(arguments)?;
             told(alloc, &(a == b))
         }
-        b"display Date" => printed(alloc, &date_of(arguments)?),
-        b"display Time" => printed(alloc, &time_of(arguments)?),
-        b"display Offset" => printed(alloc, &offset_of(arguments)?),
-        b"text of parts" => text(alloc, parts_of(arguments)?.text().as_str()),
-        b"display of parts" => printed(alloc, &parts_of(arguments)?),
-        b"Datetime::from Date" => told(alloc, &Datetime::from(date_of(arguments)?)),
-        b"Datetime::from Time" => told(alloc, &Datetime::from(time_of(arguments)?)),
-        _ => None,
+        Call::DisplayDate => printed(alloc, &date_of(arguments)?),
+        Call::DisplayTime => printed(alloc, &time_of(arguments)?),
+        Call::DisplayOffset => printed(alloc, &offset_of(arguments)?),
+        Call::TextOfParts => text(alloc, parts_of(arguments)?.text().as_str()),
+        Call::DisplayOfParts => printed(alloc, &parts_of(arguments)?),
+        Call::FromDate => told(alloc, &Datetime::from(date_of(arguments)?)),
+        Call::FromTime => told(alloc, &Datetime::from(time_of(arguments)?)),
     }
+}
+
+/// The date-times of two texts.
+fn two_of(arguments: &str) -> Option<(Datetime, Datetime)> {
+    let (a, b) = word_and_text(arguments)?;
+    Some((Datetime::from_str(a).ok()?, Datetime::from_str(b).ok()?))
 }
 
 /// The date-time of a date, a time and an offset with a comma between, each of which may be missing.
@@ -78,10 +119,10 @@ fn time_of(arguments: &str) -> Option<Time> {
 
 /// The offset of minutes, or `Z`.
 fn offset_of(arguments: &str) -> Option<Offset> {
-    match arguments.as_bytes() {
-        b"Z" => Some(Offset::Z),
-        _ => Some(Offset::Custom {
-            minutes: arguments.parse::<i16>().ok()?,
-        }),
+    if arguments == "Z" {
+        return Some(Offset::Z);
     }
+    Some(Offset::Custom {
+        minutes: arguments.parse::<i16>().ok()?,
+    })
 }
