@@ -23,7 +23,8 @@ text_is (e ∷ es) (b ∷ bs) h =
     rw (eqb-true b e parts.0, text_is es bs parts.1) refl
 
 -- the fields are those of a value
-pub made_is : (t : DateTime) (w : Option ℕ) (z : ℤ) → t.weekday ≡ w → t.offset ≡ z → made w t.year t.month t.day (clock_made t.hour t.minute t.second) z ≡ t
+pub made_is : (t : DateTime) (w : Option ℕ) (z : ℤ) → t.weekday ≡ w → t.offset ≡ z
+    → made w t.year t.month t.day (clock_made t.hour t.minute t.second) z ≡ t
 made_is t w z e f = rw (sym e, sym f) refl
 
 pub no_blank : (b : ℕ) → digit_value b < 10 → (b == 32) ≡ false
@@ -45,7 +46,8 @@ fixdate_exact text t d =
     let clock = clock_exact d.clock end t.hour t.minute t.second d.clocks in
     rw (d.joined, name, day, month, year, clock) (ap (λ (x : DateTime). Some x) (made_is t (Some d.weekday) (pos 0) d.named d.utc))
 
-fixdate_sound : (weekday : ℕ) (name bytes : List ℕ) (t : DateTime) → IsDayName name weekday → read_fixdate weekday bytes ≡ Some t → IsFixdate (name ++ (44 ∷ bytes)) t
+fixdate_sound : (weekday : ℕ) (name bytes : List ℕ) (t : DateTime) → IsDayName name weekday → read_fixdate weekday bytes ≡ Some t
+    → IsFixdate (name ++ (44 ∷ bytes)) t
 unfolding read_fixdate
 fixdate_sound weekday name bytes t named h =
     option_and_then_some _ _ _ h (λ d found_day a. option_and_then_some _ _ _ a (λ m found_month b. option_and_then_some _ _ _ b (λ y found_year e. option_and_then_some _ _ _ e (λ c found_clock ready.
@@ -57,8 +59,10 @@ fixdate_sound weekday name bytes t named h =
     let end = text_is (codes " GMT") c.1 last.0 in
     let clocks : y.1 ≡ 32 ∷ (clock.0 ++ codes " GMT") = clock.2 ∙ ap (λ (l : List ℕ). 32 ∷ (clock.0 ++ l)) end in
     let years : m.1 ≡ 32 ∷ (year.0 ++ (32 ∷ (clock.0 ++ codes " GMT"))) = year.2 ∙ ap (λ (l : List ℕ). 32 ∷ (year.0 ++ l)) clocks in
-    let months : d.1 ≡ 32 ∷ (month.0 ++ (32 ∷ (year.0 ++ (32 ∷ (clock.0 ++ codes " GMT"))))) = month.2 ∙ ap (λ (l : List ℕ). 32 ∷ (month.0 ++ l)) years in
-    let whole : bytes ≡ 32 ∷ (day.0 ++ (32 ∷ (month.0 ++ (32 ∷ (year.0 ++ (32 ∷ (clock.0 ++ codes " GMT"))))))) = day.2 ∙ ap (λ (l : List ℕ). 32 ∷ (day.0 ++ l)) months in
+    let months : d.1 ≡ 32 ∷ (month.0 ++ (32 ∷ (year.0 ++ (32 ∷ (clock.0 ++ codes " GMT"))))) =
+    month.2 ∙ ap (λ (l : List ℕ). 32 ∷ (month.0 ++ l)) years in
+    let whole : bytes ≡ 32 ∷ (day.0 ++ (32 ∷ (month.0 ++ (32 ∷ (year.0 ++ (32 ∷ (clock.0 ++ codes " GMT"))))))) =
+    day.2 ∙ ap (λ (l : List ℕ). 32 ∷ (day.0 ++ l)) months in
     let P : DateTime → Type 0 = λ v. IsFixdate (name ++ (44 ∷ bytes)) v in
     let is : P (made (Some weekday) y.0 m.0 d.0 c.0 (pos 0)) = record {
       name = name;
@@ -133,10 +137,12 @@ asctime_exact text t d =
     let month = month_exact d.month days t.month d.months in
     let day = padded_day_exact d.day_text clocks t.day d.days in
     let clock = clock_exact d.clock years t.hour t.minute t.second d.clocks in
-    let year : read_year years ≡ Some (t.year, []) = ap (λ (l : List ℕ). read_year (32 ∷ l)) (sym (ended d.year_text)) ∙ year_exact d.year_text [] t.year d.years in
+    let year : read_year years ≡ Some (t.year, []) =
+    ap (λ (l : List ℕ). read_year (32 ∷ l)) (sym (ended d.year_text)) ∙ year_exact d.year_text [] t.year d.years in
     rw (d.joined, name, month, day, clock, year) (ap (λ (x : DateTime). Some x) (made_is t (Some d.weekday) (pos 0) d.named d.utc))
 
-asctime_sound : (weekday : ℕ) (name bytes : List ℕ) (t : DateTime) → IsDayName name weekday → read_asctime weekday bytes ≡ Some t → IsAsctimeDate (name ++ bytes) t
+asctime_sound : (weekday : ℕ) (name bytes : List ℕ) (t : DateTime) → IsDayName name weekday → read_asctime weekday bytes ≡ Some t
+    → IsAsctimeDate (name ++ bytes) t
 unfolding read_asctime
 asctime_sound weekday name bytes t named h =
     option_and_then_some _ _ _ h (λ m found_month a. option_and_then_some _ _ _ a (λ d found_day b. option_and_then_some _ _ _ b (λ c found_clock e. option_and_then_some _ _ _ e (λ y found_year ready.
@@ -149,7 +155,8 @@ asctime_sound weekday name bytes t named h =
     let years : c.1 ≡ 32 ∷ year.0 = year.2 ∙ ap (λ (l : List ℕ). 32 ∷ (year.0 ++ l)) end ∙ ap (λ (l : List ℕ). 32 ∷ l) (ended year.0) in
     let clocks : d.1 ≡ 32 ∷ (clock.0 ++ (32 ∷ year.0)) = clock.2 ∙ ap (λ (l : List ℕ). 32 ∷ (clock.0 ++ l)) years in
     let days : m.1 ≡ 32 ∷ (day.0 ++ (32 ∷ (clock.0 ++ (32 ∷ year.0)))) = day.2 ∙ ap (λ (l : List ℕ). 32 ∷ (day.0 ++ l)) clocks in
-    let whole : bytes ≡ 32 ∷ (month.0 ++ (32 ∷ (day.0 ++ (32 ∷ (clock.0 ++ (32 ∷ year.0)))))) = month.2 ∙ ap (λ (l : List ℕ). 32 ∷ (month.0 ++ l)) days in
+    let whole : bytes ≡ 32 ∷ (month.0 ++ (32 ∷ (day.0 ++ (32 ∷ (clock.0 ++ (32 ∷ year.0)))))) =
+    month.2 ∙ ap (λ (l : List ℕ). 32 ∷ (month.0 ++ l)) days in
     let P : DateTime → Type 0 = λ v. IsAsctimeDate (name ++ bytes) v in
     let is : P (made (Some weekday) y.0 m.0 d.0 c.0 (pos 0)) = record {
       name = name;
@@ -175,7 +182,8 @@ pub http_exact : (text : List ℕ) (t : DateTime) → IsHttpDate text t → read
 http_exact text t (inl d) = fixdate_exact text t d
 http_exact text t (inr d) = asctime_exact text t d
 
-by_comma : (weekday : ℕ) (name bytes : List ℕ) (comma : Option (List ℕ)) (t : DateTime) → IsDayName name weekday → read_mark 44 bytes ≡ comma → read_behind_name weekday bytes comma ≡ Some t → IsHttpDate (name ++ bytes) t
+by_comma : (weekday : ℕ) (name bytes : List ℕ) (comma : Option (List ℕ)) (t : DateTime) → IsDayName name weekday
+    → read_mark 44 bytes ≡ comma → read_behind_name weekday bytes comma ≡ Some t → IsHttpDate (name ++ bytes) t
 by_comma weekday name bytes (Some rest) t named found h =
     let P : List ℕ → Type 0 = λ l. IsFixdate (name ++ l) t in
     inl (subst P (sym (mark_sound 44 bytes rest found)) (fixdate_sound weekday name rest t named h))

@@ -29,16 +29,19 @@ no_digits = (λ r. refl, (λ r. refl, (λ r. refl, (λ r. refl, (λ r. refl, (λ
 name_joins : (name rest : List ℕ) → (name ++ codes ", ") ++ rest ≡ name ++ (44 ∷ (32 ∷ rest))
 name_joins name rest = append_assoc name (codes ", ") rest
 
-front_exact : (text rest : List ℕ) (named : Option ℕ) → IsNamedFront text named → begins_with_digit rest ≡ true → read_front (text ++ rest) ≡ Some (named, rest)
+front_exact : (text rest : List ℕ) (named : Option ℕ) → IsNamedFront text named → begins_with_digit rest ≡ true
+    → read_front (text ++ rest) ≡ Some (named, rest)
 unfolding read_front read_named
 front_exact text rest named (inl none) digit = rw (none.0, none.1, digit) refl
 front_exact text rest named (inr (name, weekday, is, value, joined)) digit =
     let split : text ++ rest ≡ name ++ (44 ∷ (32 ∷ rest)) = ap (λ (l : List ℕ). l ++ rest) joined ∙ name_joins name rest in
-    let letter : begins_with_digit (name ++ (44 ∷ (32 ∷ rest))) ≡ false = rw is.1 (below IsNoDigit 7 no_digits weekday is.0 (44 ∷ (32 ∷ rest))) in
+    let letter : begins_with_digit (name ++ (44 ∷ (32 ∷ rest))) ≡ false =
+    rw is.1 (below IsNoDigit 7 no_digits weekday is.0 (44 ∷ (32 ∷ rest))) in
     let found = weekday_exact name (44 ∷ (32 ∷ rest)) weekday is in
     rw (split, letter, found, value) refl
 
-named_sound : (bytes rest : List ℕ) (named : Option ℕ) → read_named bytes ≡ Some (named, rest) → (text : List ℕ) × IsNamedFront text named × (bytes ≡ text ++ rest)
+named_sound : (bytes rest : List ℕ) (named : Option ℕ) → read_named bytes ≡ Some (named, rest)
+    → (text : List ℕ) × IsNamedFront text named × (bytes ≡ text ++ rest)
 unfolding read_named
 named_sound bytes rest named h =
     option_and_then_some _ _ _ h (λ w found a. option_and_then_some _ _ _ a (λ comma found_comma b. option_and_then_some _ _ _ b (λ last found_blank ready.
@@ -46,14 +49,18 @@ named_sound bytes rest named h =
     let parts = some_pair_parts _ _ _ _ ready in
     let one = mark_sound 44 w.1 comma found_comma in
     let two = mark_sound 32 comma last found_blank in
-    let split : bytes ≡ (name.0 ++ codes ", ") ++ rest = name.2 ∙ ap (λ (l : List ℕ). name.0 ++ l) (one ∙ ap (λ (l : List ℕ). 44 ∷ l) (two ∙ ap (λ (l : List ℕ). 32 ∷ l) parts.1)) ∙ sym (name_joins name.0 rest) in
+    let split : bytes ≡ (name.0 ++ codes ", ") ++ rest =
+    name.2 ∙ ap (λ (l : List ℕ). name.0 ++ l) (one ∙ ap (λ (l : List ℕ). 44 ∷ l) (two ∙ ap (λ (l : List ℕ). 32 ∷ l) parts.1))
+    ∙ sym (name_joins name.0 rest) in
     (name.0 ++ codes ", ", inr (name.0, w.0, name.1, sym parts.0, refl), split))))
 
-front_if : (t : Bool) (bytes rest : List ℕ) (named : Option ℕ) → cond t (Some (None, bytes)) (read_named bytes) ≡ Some (named, rest) → (text : List ℕ) × IsNamedFront text named × (bytes ≡ text ++ rest)
+front_if : (t : Bool) (bytes rest : List ℕ) (named : Option ℕ) → cond t (Some (None, bytes)) (read_named bytes) ≡ Some (named, rest)
+    → (text : List ℕ) × IsNamedFront text named × (bytes ≡ text ++ rest)
 front_if true bytes rest named h = let parts = some_pair_parts _ _ _ _ h in ([], inl (refl, sym parts.0), parts.1)
 front_if false bytes rest named h = named_sound bytes rest named h
 
-front_sound : (bytes rest : List ℕ) (named : Option ℕ) → read_front bytes ≡ Some (named, rest) → (text : List ℕ) × IsNamedFront text named × (bytes ≡ text ++ rest)
+front_sound : (bytes rest : List ℕ) (named : Option ℕ) → read_front bytes ≡ Some (named, rest)
+    → (text : List ℕ) × IsNamedFront text named × (bytes ≡ text ++ rest)
 unfolding read_front
 front_sound bytes rest named h = front_if (begins_with_digit bytes) bytes rest named h
 
@@ -86,7 +93,8 @@ day_exact text rest day (inr f) =
     let found = one_is 31 byte.0 day (omega arith) (subst P byte.1 f) in
     rw (byte.1, found) refl
 
-day_if : (t : Bool) (a b : ℕ) (bs rest : List ℕ) (day : ℕ) → cond t (with_rest (b ∷ bs) (two_number 1 31 48 a)) (with_rest bs (two_number 1 31 a b)) ≡ Some (day, rest)
+day_if : (t : Bool) (a b : ℕ) (bs rest : List ℕ) (day : ℕ)
+    → cond t (with_rest (b ∷ bs) (two_number 1 31 48 a)) (with_rest bs (two_number 1 31 a b)) ≡ Some (day, rest)
     → (text : List ℕ) × IsDay text day × (a ∷ b ∷ bs ≡ text ++ rest)
 day_if true a b bs rest day h =
     let parts = rest_parts (b ∷ bs) rest (two_number 1 31 48 a) day h in
@@ -119,7 +127,9 @@ numeric_sound negative bytes rest offset h =
     let hours = two_sound 0 24 bytes x.1 x.0 found in
     let minutes = two_sound 0 59 x.1 y.1 y.0 found_minute in
     let parts = some_pair_parts _ _ _ _ ready in
-    let split : bytes ≡ (hours.0 ++ minutes.0) ++ rest = hours.2 ∙ ap (λ (l : List ℕ). hours.0 ++ l) (minutes.2 ∙ ap (λ (l : List ℕ). minutes.0 ++ l) parts.1) ∙ sym (zone_joins hours.0 minutes.0 rest) in
+    let split : bytes ≡ (hours.0 ++ minutes.0) ++ rest =
+    hours.2 ∙ ap (λ (l : List ℕ). hours.0 ++ l) (minutes.2 ∙ ap (λ (l : List ℕ). minutes.0 ++ l) parts.1)
+    ∙ sym (zone_joins hours.0 minutes.0 rest) in
     (hours.0 ++ minutes.0, record { negative = negative; hour_text = hours.0; minute_text = minutes.0; hour = x.0; minute = y.0; hours = hours.1; minutes = minutes.1; joined = refl; value = sym parts.0 }, split)))
 
 signed_zone : (negative : Bool) (h m rest : List ℕ) (hour minute : ℕ) → IsField 2 0 24 h hour → IsField 2 0 59 m minute
@@ -143,7 +153,9 @@ zone_exact text rest offset (inl z) = rw (z.joined, z.value) (signed_zone z.nega
 zone_exact text rest offset (inr (inl ut)) = rw (ut.0, ut.1) (ut_exact rest)
 zone_exact text rest offset (inr (inr (n, within, name, value))) = rw (name, value) (below IsZoneFound 9 zones_found n within rest)
 
-mapped : (o : Option (ℕ × List ℕ)) (offset : ℤ) (rest : List ℕ) → option_map {U = ℤ × List ℕ} (λ n. (minutes_of n.0, n.1)) o ≡ Some (offset, rest) → (k : ℕ) × (o ≡ Some (k, rest)) × (offset ≡ minutes_of k)
+mapped : (o : Option (ℕ × List ℕ)) (offset : ℤ) (rest : List ℕ)
+    → option_map {U = ℤ × List ℕ} (λ n. (minutes_of n.0, n.1)) o ≡ Some (offset, rest)
+    → (k : ℕ) × (o ≡ Some (k, rest)) × (offset ≡ minutes_of k)
 mapped None offset rest h = absurd cc
 mapped (Some n) offset rest h = let parts = some_pair_parts _ _ _ _ h in (n.0, ap (λ (l : List ℕ). Some (n.0, l)) parts.1, sym parts.0)
 
@@ -259,9 +271,12 @@ mail_sound text t h =
     let zone = spaced_zone_sound c.1 z.1 z.0 found_zone in
     let last = cond_some (is_comment z.1) (made w.0 y.0 m.0 d.0 c.0 z.0) t ready in
     let clocks : y.1 ≡ 32 ∷ (clock.0 ++ (32 ∷ (zone.0 ++ z.1))) = clock.2 ∙ ap (λ (l : List ℕ). 32 ∷ (clock.0 ++ l)) zone.2 in
-    let years : m.1 ≡ 32 ∷ (year.0 ++ (32 ∷ (clock.0 ++ (32 ∷ (zone.0 ++ z.1))))) = year.2 ∙ ap (λ (l : List ℕ). 32 ∷ (year.0 ++ l)) clocks in
-    let months : d.1 ≡ 32 ∷ (month.0 ++ (32 ∷ (year.0 ++ (32 ∷ (clock.0 ++ (32 ∷ (zone.0 ++ z.1))))))) = month.2 ∙ ap (λ (l : List ℕ). 32 ∷ (month.0 ++ l)) years in
-    let days : w.1 ≡ day.0 ++ (32 ∷ (month.0 ++ (32 ∷ (year.0 ++ (32 ∷ (clock.0 ++ (32 ∷ (zone.0 ++ z.1)))))))) = day.2 ∙ ap (λ (l : List ℕ). day.0 ++ l) months in
+    let years : m.1 ≡ 32 ∷ (year.0 ++ (32 ∷ (clock.0 ++ (32 ∷ (zone.0 ++ z.1))))) =
+    year.2 ∙ ap (λ (l : List ℕ). 32 ∷ (year.0 ++ l)) clocks in
+    let months : d.1 ≡ 32 ∷ (month.0 ++ (32 ∷ (year.0 ++ (32 ∷ (clock.0 ++ (32 ∷ (zone.0 ++ z.1))))))) =
+    month.2 ∙ ap (λ (l : List ℕ). 32 ∷ (month.0 ++ l)) years in
+    let days : w.1 ≡ day.0 ++ (32 ∷ (month.0 ++ (32 ∷ (year.0 ++ (32 ∷ (clock.0 ++ (32 ∷ (zone.0 ++ z.1)))))))) =
+    day.2 ∙ ap (λ (l : List ℕ). day.0 ++ l) months in
     let P : DateTime → Type 0 = λ v. IsMailDate text v in
     let is : P (made w.0 y.0 m.0 d.0 c.0 z.0) = record {
       front = front.0;

@@ -28,7 +28,8 @@ pub record IsPlace (names : List (List ℕ)) (first a b c n : ℕ) : Type 0 wher
   pub number : n ≡ first + place
   pub name : a ∷ b ∷ c ∷ [] ≡ get_or names place []
 
-later : (name : List ℕ) (names : List (List ℕ)) (first a b c n : ℕ) → IsPlace names (suc first) a b c n → IsPlace (name ∷ names) first a b c n
+later : (name : List ℕ) (names : List (List ℕ)) (first a b c n : ℕ) → IsPlace names (suc first) a b c n
+    → IsPlace (name ∷ names) first a b c n
 later name names first a b c n p = let number = p.number in let within = p.within in record { place = suc p.place; within = omega (arith, within); number = omega (arith, number); name = p.name }
 
 place_if : (t : Bool) (name : List ℕ) (names : List (List ℕ)) (first a b c n : ℕ) → is_name name a b c ≡ t → is_three name ≡ true
@@ -39,7 +40,8 @@ place_if true name names first a b c n e h more found =
     record { place = 0; within = omega arith; number = omega (arith, same); name = three_letters name a b c h e }
 place_if false name names first a b c n e h more found = later name names first a b c n (more found)
 
-place_sound : (names : List (List ℕ)) (first a b c n : ℕ) → list_all is_three names ≡ true → place_of names first a b c ≡ Some n → IsPlace names first a b c n
+place_sound : (names : List (List ℕ)) (first a b c n : ℕ) → list_all is_three names ≡ true → place_of names first a b c ≡ Some n
+    → IsPlace names first a b c n
 place_sound [] first a b c n all h = absurd cc
 place_sound (name ∷ names) first a b c n all h =
     let parts = and_parts (is_three name) (list_all is_three names) all in

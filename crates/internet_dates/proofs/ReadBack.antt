@@ -17,7 +17,8 @@ use Rattle.internet_dates.specs.declared.error.DateError.TheVariants.{Syntax, No
 use Rattle.internet_dates.proofs.DayFacts.{weekday_small}
 use Rattle.internet_dates.proofs.WrittenFacts.{most_days}
 
-clock_spelled : (hour minute second : ℕ) → hour < 24 → minute < 60 → second < 60 → IsClock (clock_text hour minute second) hour minute second
+clock_spelled : (hour minute second : ℕ) → hour < 24 → minute < 60 → second < 60
+    → IsClock (clock_text hour minute second) hour minute second
 unfolding clock_text
 clock_spelled hour minute second h m s = record {
   hour_text = padded_digits 2 hour;
@@ -35,7 +36,8 @@ moment_joins : (a b c d e f : List ℕ)
 moment_joins a b c d e f = simp append_assoc refl
 
 -- the name of the day, which is there
-named_by : (name : Option ℕ) (t : DateTime) → IsSome name → IfSome name (λ w. pos w ≡ after_monday (day_number t)) → (weekday : ℕ) × (weekday < 7) × (name ≡ Some weekday) × (weekday_text name ≡ day_name weekday)
+named_by : (name : Option ℕ) (t : DateTime) → IsSome name → IfSome name (λ w. pos w ≡ after_monday (day_number t))
+    → (weekday : ℕ) × (weekday < 7) × (name ≡ Some weekday) × (weekday_text name ≡ day_name weekday)
 named_by None t some h = absurd cc
 named_by (Some w) t some h = (w, weekday_small w (day_number t) h, refl, refl)
 
@@ -47,7 +49,8 @@ http_spelled t r some utc =
     let date = r.day in
     let year = r.year in
     let clock = clock_text t.hour t.minute t.second in
-    let joined = moment_joins (weekday_text t.weekday) (padded_digits 2 t.day) (month_name t.month) (padded_digits 4 t.year) clock (codes " GMT") in
+    let joined =
+    moment_joins (weekday_text t.weekday) (padded_digits 2 t.day) (month_name t.month) (padded_digits 4 t.year) clock (codes " GMT") in
     inl (record {
       name = weekday_text t.weekday;
       day_text = padded_digits 2 t.day;

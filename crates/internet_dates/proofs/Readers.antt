@@ -30,7 +30,8 @@ mark_sound mark (b ∷ bs) rest h =
 pub mark_exact : (mark : ℕ) (rest : List ℕ) → read_mark mark (mark ∷ rest) ≡ Some rest
 mark_exact mark rest = rw (eq-eqb mark mark refl) refl
 
-pub rest_parts : {A : Type 0} (rest behind : List ℕ) (found : Option A) (value : A) → with_rest rest found ≡ Some (value, behind) → (found ≡ Some value) × (rest ≡ behind)
+pub rest_parts : {A : Type 0} (rest behind : List ℕ) (found : Option A) (value : A) → with_rest rest found ≡ Some (value, behind)
+    → (found ≡ Some value) × (rest ≡ behind)
 rest_parts rest behind None value h = absurd cc
 rest_parts rest behind (Some v) value h = let parts = some_pair_parts _ _ _ _ h in (ap Some parts.0, parts.1)
 
@@ -106,7 +107,8 @@ pub pair_sound : (mark lo hi : ℕ) (bytes rest : List ℕ) (value : ℕ) → re
 unfolding read_pair
 pair_sound mark lo hi bytes rest value h = behind_sound mark (IsField 2 lo hi) (read_two lo hi) (two_sound lo hi) bytes rest value h
 
-pub pair_exact : (mark lo hi : ℕ) (text rest : List ℕ) (value : ℕ) → IsField 2 lo hi text value → read_pair mark lo hi (mark ∷ (text ++ rest)) ≡ Some (value, rest)
+pub pair_exact : (mark lo hi : ℕ) (text rest : List ℕ) (value : ℕ) → IsField 2 lo hi text value
+    → read_pair mark lo hi (mark ∷ (text ++ rest)) ≡ Some (value, rest)
 unfolding read_pair
 pair_exact mark lo hi text rest value f = behind_exact mark (IsField 2 lo hi) (read_two lo hi) (two_exact lo hi) text rest value f
 

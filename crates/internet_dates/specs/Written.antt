@@ -12,7 +12,8 @@ weekday_text None = []
 -- `08:49:37`
 unfoldable pub clock_text : ℕ → ℕ → ℕ → List ℕ
 clock_text hour minute second =
-    padded_digits 2 hour ++ (codes ":" ++ (padded_digits 2 minute ++ (codes ":" ++ padded_digits 2 second)))
+    padded_digits 2 hour ++ (codes ":" ++ (padded_digits 2 minute ++ (codes ":"
+    ++ padded_digits 2 second)))
 
 -- `Sun, 06 Nov 1994`
 unfoldable pub date_text : DateTime → List ℕ

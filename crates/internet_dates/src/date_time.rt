@@ -44,6 +44,7 @@ fn calendar_date(year: u16, month: u8, day: u8) -> Date
 }
 
 /// The number of a day of the years 0 to 9999, from 1970-01-01 on; None where the calendar has no such day.
+#[inline(always)]
 fn day_number(year: u16, month: u8, day: u8) -> Option<i32>
     ensures some { IsSome result ↔ ((year ≤ 9999) × Exists (YMD (pos year) month day)) }
     ensures value { IfSome result (λ n. n ≡ day_of (YMD (pos year) month day)) }
@@ -184,6 +185,7 @@ impl DateTime {
     }
 
     /// The moment of fields whose year is one from `first` on.
+    #[inline(always)]
     pub(crate) fn judged(self, first: u16) -> Result<i64, DateError>
         ensures syntax { result ≢ Err DateError.Syntax }
         ensures ok { IfOk result (λ seconds. IsReal self × (first ≤ self.year)

@@ -91,6 +91,7 @@ pub(crate) fn split_year(bytes: &[u8]) -> Option<(u16, &[u8])>
 }
 
 /// The time of day behind a blank, and what follows it.
+#[inline(always)]
 #[tactic(auto, unfolding(crate::specs::inside::Reading::read_clock))]
 pub(crate) fn split_clock(bytes: &[u8]) -> Option<(Clock, &[u8])>
     ensures { option_map (λ r. (r.0, r.1.now)) result ≡ read_clock bytes.now }

@@ -28,6 +28,7 @@ fn is_gmt(bytes: &[u8]) -> bool
 }
 
 /// An IMF-fixdate, from behind the comma.
+#[inline(always)]
 #[tactic(auto, unfolding(crate::specs::inside::Reading::read_fixdate))]
 fn read_fixdate(weekday: u8, bytes: &[u8]) -> Option<DateTime>
     ensures { result ≡ read_fixdate weekday bytes.now }

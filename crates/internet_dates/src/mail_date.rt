@@ -87,6 +87,7 @@ fn split_seconds(bytes: &[u8]) -> Option<(u8, &[u8])>
 }
 
 /// Hours, minutes and perhaps seconds behind a blank, and what follows them.
+#[inline(always)]
 #[tactic(auto, unfolding(crate::specs::inside::Reading::read_mail_clock))]
 fn split_mail_clock(bytes: &[u8]) -> Option<(Clock, &[u8])>
     ensures { option_map (λ r. (r.0, r.1.now)) result ≡ read_mail_clock bytes.now }
@@ -122,6 +123,7 @@ fn minutes_of(hours: u8, minutes: u8) -> u16
 }
 
 /// Hours and minutes behind a sign, and what follows them.
+#[inline(always)]
 #[tactic(auto, unfolding(crate::specs::inside::Reading::read_numeric))]
 fn split_numeric(negative: bool, bytes: &[u8]) -> Option<(i16, &[u8])>
     ensures { option_map (λ r. (r.0, r.1.now)) result ≡ read_numeric negative bytes.now }
@@ -140,6 +142,7 @@ fn split_ut(bytes: &[u8]) -> Option<&[u8]>
 }
 
 /// A zone, as minutes ahead of UTC, and what follows it.
+#[inline(always)]
 fn split_zone(bytes: &[u8]) -> Option<(i16, &[u8])>
     ensures { option_map (λ r. (r.0, r.1.now)) result ≡ read_zone bytes.now }
 {
@@ -155,6 +158,7 @@ fn split_zone(bytes: &[u8]) -> Option<(i16, &[u8])>
 }
 
 /// The same behind a blank.
+#[inline(always)]
 #[tactic(auto, unfolding(crate::specs::inside::Reading::read_spaced_zone))]
 fn split_spaced_zone(bytes: &[u8]) -> Option<(i16, &[u8])>
     ensures { option_map (λ r. (r.0, r.1.now)) result ≡ read_spaced_zone bytes.now }

@@ -17,6 +17,7 @@ fn is(word: Word, a: u8, b: u8, c: u8) -> bool
 }
 
 /// The day of the week with this name, 0 for Monday.
+#[inline(always)]
 fn day_of(word: Word) -> Option<u8>
     ensures { result ≡ place_of day_names 0 word.0 word.1 word.2 }
 {
@@ -40,6 +41,7 @@ fn day_of(word: Word) -> Option<u8>
 }
 
 /// The month with this name, 1 for January.
+#[inline(always)]
 fn month_of(word: Word) -> Option<u8>
     ensures { result ≡ place_of month_names 1 word.0 word.1 word.2 }
 {
@@ -73,6 +75,7 @@ fn month_of(word: Word) -> Option<u8>
 }
 
 /// The day of the week whose name stands in front, and what follows it.
+#[inline(always)]
 #[tactic(auto, unfolding(crate::specs::inside::Reading::read_weekday))]
 pub(crate) fn split_weekday(bytes: &[u8]) -> Option<(u8, &[u8])>
     ensures { option_map (λ r. (r.0, r.1.now)) result ≡ read_weekday bytes.now }
@@ -84,6 +87,7 @@ pub(crate) fn split_weekday(bytes: &[u8]) -> Option<(u8, &[u8])>
 }
 
 /// The month whose name stands in front, and what follows it.
+#[inline(always)]
 fn split_month_name(bytes: &[u8]) -> Option<(u8, &[u8])>
     ensures { option_map (λ r. (r.0, r.1.now)) result ≡ read_name month_names 1 bytes.now }
 {
@@ -94,6 +98,7 @@ fn split_month_name(bytes: &[u8]) -> Option<(u8, &[u8])>
 }
 
 /// The same behind a blank.
+#[inline(always)]
 #[tactic(auto, unfolding(crate::specs::inside::Reading::read_month))]
 pub(crate) fn split_month(bytes: &[u8]) -> Option<(u8, &[u8])>
     ensures { option_map (λ r. (r.0, r.1.now)) result ≡ read_month bytes.now }
