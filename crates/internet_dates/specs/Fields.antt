@@ -1,0 +1,22 @@
+-- Times of day, as RFC 9110, section 5.6.7, and RFC 5322, section 3.3, have them.
+use Rattle.std.specs.Prelude.{◌≡◌, ℕ, List, ◌++◌, codes}
+use Rattle.scan_core.specs.Fields.{IsField}
+
+-- hours, minutes and seconds of two digits each: `08:49:37`
+pub record IsClock (text : List ℕ) (hour minute second : ℕ) : Type 0 where
+  pub hour_text : List ℕ
+  pub minute_text : List ℕ
+  pub second_text : List ℕ
+  pub hours : IsField 2 0 24 hour_text hour
+  pub minutes : IsField 2 0 59 minute_text minute
+  pub seconds : IsField 2 0 60 second_text second
+  pub joined : text ≡ hour_text ++ (codes ":" ++ (minute_text ++ (codes ":" ++ second_text)))
+
+-- hours and minutes, which is on the minute: `08:49`
+pub record IsShortClock (text : List ℕ) (hour minute second : ℕ) : Type 0 where
+  pub hour_text : List ℕ
+  pub minute_text : List ℕ
+  pub hours : IsField 2 0 24 hour_text hour
+  pub minutes : IsField 2 0 59 minute_text minute
+  pub joined : text ≡ hour_text ++ (codes ":" ++ minute_text)
+  pub on_minute : second ≡ 0
