@@ -8,4 +8,5 @@ pub padded_two : (n : ℕ) → padded_integral (format_spec 32 0 4 2 (2 ^ 64 - 1
 unfolding padded_integral char_count
 padded_two n =
     let bare : 2 - length (decimal n) - 0 - 0 ≡ 2 - length (decimal n) = omega arith in
-    ap (λ (zeros : ℕ). replicate zeros 48 ++ (decimal n ++ [])) bare ∙ ap (λ (digits : List ℕ). replicate (2 - length (decimal n)) 48 ++ digits) (append-nil (decimal n))
+    ap (λ (zeros : ℕ). replicate zeros 48 ++ (decimal n ++ [])) bare
+        ∙ ap (λ (digits : List ℕ). replicate (2 - length (decimal n)) 48 ++ digits) (append-nil (decimal n))

@@ -1,5 +1,6 @@
 -- The loops over the ten parts of a breakdown.
-use Rattle.std.proofs.Common.{◌≡◌, ℕ, ◌+◌, ◌-◌, ◌*◌, ◌/◌, ◌%◌, ◌<◌, ◌≤◌, true, false, List, [], ◌∷◌, length, get_or, take, drop, zero, suc, refl, sym, ◌∙◌, ap, arith, add-one, drop-cons, min, if◌then◌else◌}
+use Rattle.std.proofs.Common.{◌≡◌, ℕ, ◌+◌, ◌-◌, ◌*◌, ◌/◌, ◌%◌, ◌<◌, ◌≤◌, true, false, List, [], ◌∷◌, length, get_or, take, drop, zero, suc}
+use Rattle.std.proofs.Common.{refl, sym, ◌∙◌, ap, arith, add-one, drop-cons, min, if◌then◌else◌}
 use Rattle.std.proofs.lemmas.Nat.{div-add-mod'}
 use Rattle.std.proofs.lemmas.List.{drop_all, take_min}
 use Rattle.std.specs.List.{list_any}
@@ -21,10 +22,13 @@ quotient_part : (n d : ℕ) → n / d * d ≡ n - n % d
 quotient_part n d = omega (arith, div-add-mod' n d)
 
 pub kept_in-cons : (kept : List DurationPart) (part : DurationPart) (parts : List DurationPart) (left : ℕ)
-    → kept_in kept (part ∷ parts) left ≡ (if list_any (λ p. is_part p part) kept then left - left % weight_of part else 0) + kept_in kept parts (left % weight_of part)
+    → kept_in kept (part ∷ parts) left ≡ (if list_any (λ p. is_part p part) kept then left - left % weight_of part else 0)
+        + kept_in kept parts (left % weight_of part)
 unfolding kept_in
 kept_in-cons kept part parts left =
-    elim (list_any (λ p. is_part p part) kept) as (λ t. list_any (λ p. is_part p part) kept ≡ t → kept_in kept (part ∷ parts) left ≡ (if list_any (λ p. is_part p part) kept then left - left % weight_of part else 0) + kept_in kept parts (left % weight_of part)) [
+    elim (list_any (λ p. is_part p part) kept) as (λ t. list_any (λ p. is_part p part) kept ≡ t
+        → kept_in kept (part ∷ parts) left ≡ (if list_any (λ p. is_part p part) kept then left - left % weight_of part else 0)
+        + kept_in kept parts (left % weight_of part)) [
       | true ↦ λ e. simp (e, quotient_part left (weight_of part))
       | false ↦ λ e. simp e (omega arith)
     ] refl
@@ -61,7 +65,8 @@ take-counts_of : (limit : ℕ) (parts : List DurationPart) (left : ℕ)
     → take limit (counts_of parts left) ≡ counts_of (take limit parts) left
 take-counts_of zero parts left = refl
 take-counts_of (suc limit) [] left = refl
-take-counts_of (suc limit) (part ∷ parts) left = ap (λ counts. record { part = part; count = left / weight_of part } ∷ counts) (take-counts_of limit parts (left % weight_of part))
+take-counts_of (suc limit) (part ∷ parts) left = ap (λ counts. record { part = part; count = left / weight_of part } ∷ counts)
+    (take-counts_of limit parts (left % weight_of part))
 
 -- counts are what isn't left
 pub nanos_in-counts_of : (parts : List DurationPart) (left : ℕ)
@@ -78,7 +83,9 @@ unfolding front_length breakdown
 truncated_by limit nanos end parts left begin e l =
     let stays = take limit parts in
     let same : left ≡ left_after stays nanos = l ∙ ap (λ ps. left_after ps nanos) (ap (λ n. take n parts) e ∙ take_min limit parts) in
-    let cut : nanos_in (take limit (from_first (counts_of all_parts nanos))) ≡ nanos_in (counts_of stays nanos) = ap (λ counts. nanos_in (take limit counts)) (sym begin) ∙ ap nanos_in (take-counts_of limit parts nanos) in
+    let cut : nanos_in (take limit (from_first (counts_of all_parts nanos)))
+        ≡ nanos_in (counts_of stays nanos) = ap (λ counts. nanos_in (take limit counts)) (sym begin)
+        ∙ ap nanos_in (take-counts_of limit parts nanos) in
     let whole : nanos_in (counts_of stays nanos) + left_after stays nanos ≡ nanos = nanos_in-counts_of stays nanos in
     let difference : nanos - left ≡ nanos_in (counts_of stays nanos) = omega arith in
     difference ∙ sym cut

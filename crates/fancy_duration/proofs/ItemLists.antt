@@ -1,5 +1,6 @@
 -- A text has one list of items, and the readers' `items_of` is that list.
-use Rattle.std.proofs.Common.{◌≡◌, ℕ, ◌≤◌, ◌<◌, Bool, true, false, not, ◌&&◌, List, [], ◌∷◌, ◌++◌, length, refl, arith, sym, ◌∙◌, ap, zero, suc, append_assoc, subst}
+use Rattle.std.proofs.Common.{◌≡◌, ℕ, ◌≤◌, ◌<◌, Bool, true, false, not, ◌&&◌, List, [], ◌∷◌, ◌++◌, length, refl, arith, sym, ◌∙◌, ap, zero}
+use Rattle.std.proofs.Common.{suc, append_assoc, subst}
 use Rattle.std.specs.Char.{is_ascii_digit as is_digit, is_ascii_alphabetic as is_letter, digit_value}
 use Rattle.std.proofs.lemmas.Bool.{and_parts, not-true, true≢false}
 use Rattle.std.proofs.lemmas.Bool.Decides.{nat_tests}
@@ -8,7 +9,8 @@ use Rattle.fancy_duration.specs.Items.{Item, begins_by, ends_by, has_no_item, is
 use Rattle.scan_core.specs.Fronts.{leading, behind, BeginsWithout}
 use Rattle.fancy_duration.specs.inside.Reading.{unit_front, unit_behind, item_at, items_behind, items_of}
 use Rattle.scan_core.proofs.FrontFacts.{length-behind, leading_and_behind, front_are_digits, front_of, after_of}
-use Rattle.fancy_duration.proofs.Fronts.{length-unit_behind, items_of-other, items_of-digits, items_of-digits_alone, items_of-unit, letter_not_digit}
+use Rattle.fancy_duration.proofs.Fronts.{length-unit_behind, items_of-other, items_of-digits, items_of-digits_alone, items_of-unit}
+use Rattle.fancy_duration.proofs.Fronts.{letter_not_digit}
 
 -- where a text has no item, no letter stands behind the digits that its first digit begins
 no_letter : (b : ℕ) (bs : List ℕ) → is_digit b ≡ true → has_no_item (b ∷ bs) ≡ true
@@ -27,7 +29,8 @@ skips : (digit : Bool) (b : ℕ) (bs : List ℕ)
     → items_behind digit (b ∷ bs) ≡ items_behind (is_digit b) bs
 skips true b bs h = refl
 skips false b bs h =
-    elim (is_digit b) as (λ t. is_digit b ≡ t → items_behind false (b ∷ bs) ≡ items_behind (is_digit b) bs) [ true ↦ λ e. simp (e, h e) | false ↦ λ e. simp e ] refl
+    elim (is_digit b) as (λ t. is_digit b ≡ t → items_behind false (b ∷ bs) ≡ items_behind (is_digit b) bs)
+        [ true ↦ λ e. simp (e, h e) | false ↦ λ e. simp e ] refl
 
 items_none : (text : List ℕ) (digit : Bool) → has_no_item text ≡ true → items_behind digit text ≡ []
 items_none [] digit none = refl
@@ -53,7 +56,8 @@ items_within b [] rest digit none maximal =
     skips digit b rest (λ e. absurd (true≢false (sym e ∙ maximal))) ∙ ap (λ d. items_behind d rest) maximal
 items_within b (c ∷ cs) rest digit none maximal =
     let parts = and_parts (not (is_digit b && begins_by is_letter (c ∷ cs))) (has_no_item (c ∷ cs)) none in
-    skips digit b ((c ∷ cs) ++ rest) (λ e. no_letter_within b (c ∷ cs) rest e none maximal) ∙ items_within c cs rest (is_digit b) parts.1 maximal
+    skips digit b ((c ∷ cs) ++ rest) (λ e. no_letter_within b (c ∷ cs) rest e none maximal)
+        ∙ items_within c cs rest (is_digit b) parts.1 maximal
 
 items_of-before : (before rest : List ℕ) → has_no_item before ≡ true
     → ends_by is_digit before ≡ false → items_of (before ++ rest) ≡ items_of rest
@@ -116,7 +120,8 @@ items_of-first (d ∷ ds) unit rest some h u =
     let unit_is : unit_front (behind is_digit ((d ∷ ds) ++ (unit ++ rest))) ≡ unit = ap unit_front fronts.1 ∙ units.0 in
     let make : List ℕ → List ℕ → List Item → List Item = λ ds u items. record { digits = ds; unit = u } ∷ items in
     items_of-digits d (ds ++ (unit ++ rest)) digit followed
-    ∙ ap (λ xs. make xs (unit_front (behind is_digit ((d ∷ ds) ++ (unit ++ rest)))) (items_of (behind is_digit ((d ∷ ds) ++ (unit ++ rest))))) fronts.0
+    ∙ ap (λ xs. make xs (unit_front (behind is_digit ((d ∷ ds) ++ (unit ++ rest))))
+        (items_of (behind is_digit ((d ∷ ds) ++ (unit ++ rest))))) fronts.0
     ∙ ap (λ xs. make (d ∷ ds) xs (items_of (behind is_digit ((d ∷ ds) ++ (unit ++ rest))))) unit_is
     ∙ ap (λ xs. make (d ∷ ds) unit (items_of xs)) fronts.1
     ∙ ap (λ xs. make (d ∷ ds) unit xs) (items_of-unit (unit ++ rest) ∙ ap items_of units.1)
@@ -136,7 +141,8 @@ items_unique (item ∷ items) text h =
 pub begins-behind : (test : ℕ → Bool) (bs : List ℕ) → begins_by test (behind test bs) ≡ false
 begins-behind test [] = refl
 begins-behind test (b ∷ bs) =
-    elim (test b) as (λ t. test b ≡ t → begins_by test (behind test (b ∷ bs)) ≡ false) [ true ↦ λ e. simp e (begins-behind test bs) | false ↦ λ e. simp e ] refl
+    elim (test b) as (λ t. test b ≡ t → begins_by test (behind test (b ∷ bs)) ≡ false)
+        [ true ↦ λ e. simp e (begins-behind test bs) | false ↦ λ e. simp e ] refl
 
 digit_not_letter : (b : ℕ) → digit_value b < 10 → is_letter b ≡ false
 digit_not_letter b h = grind (arith, nat_tests)
@@ -199,8 +205,10 @@ add_digits ds rest [] digits letter digit h = has_no_item-digits ds rest digits 
 add_digits ds rest (item ∷ items) digits letter digit h =
     (h.0, behind_gap h.1.before h.1.passed_over h.1.maximal h.1.joined, h.2)
   where
-    behind_gap : (before : List ℕ) → has_no_item before ≡ true → not (ends_by is_digit before) ≡ true → rest ≡ before ++ (item.digits ++ (item.unit ++ h.0)) → IsFirstItem (ds ++ rest) item h.0
-    behind_gap [] none maximal joined = absurd (true≢false (sym (ap (begins_by is_digit) joined ∙ begins_by_digits item.digits _ h.1.some_digits h.1.are_digits) ∙ digit))
+    behind_gap : (before : List ℕ) → has_no_item before ≡ true → not (ends_by is_digit before) ≡ true
+        → rest ≡ before ++ (item.digits ++ (item.unit ++ h.0)) → IsFirstItem (ds ++ rest) item h.0
+    behind_gap [] none maximal joined = absurd (true≢false (sym
+        (ap (begins_by is_digit) joined ∙ begins_by_digits item.digits _ h.1.some_digits h.1.are_digits) ∙ digit))
     behind_gap (c ∷ cs) none maximal joined = record {
       before = ds ++ c ∷ cs;
       passed_over = has_no_item-digits ds (c ∷ cs) digits (sym (ap (begins_by is_letter) joined) ∙ letter) none;
@@ -216,7 +224,8 @@ pub unit_joins : (bs : List ℕ) → begins_by is_letter bs ≡ true
 unit_joins [] h = absurd (true≢false (sym h))
 unit_joins (a ∷ []) h = (simp h, simp h)
 unit_joins (a ∷ b ∷ bs) h =
-    elim (is_letter b) as (λ t. is_letter b ≡ t → is_unit (unit_front (a ∷ b ∷ bs)) (unit_behind (a ∷ b ∷ bs)) ≡ true × (unit_front (a ∷ b ∷ bs) ++ unit_behind (a ∷ b ∷ bs) ≡ a ∷ b ∷ bs)) [
+    elim (is_letter b) as (λ t. is_letter b ≡ t → is_unit (unit_front (a ∷ b ∷ bs)) (unit_behind (a ∷ b ∷ bs)) ≡ true
+        × (unit_front (a ∷ b ∷ bs) ++ unit_behind (a ∷ b ∷ bs) ≡ a ∷ b ∷ bs)) [
       | true ↦ λ e. (simp (h, e), simp (h, e))
       | false ↦ λ e. (simp (h, e), simp (h, e))
     ] refl
@@ -229,7 +238,8 @@ items_at_digit b bs e shorter =
     elim (begins_by is_letter rest) as (λ t. begins_by is_letter rest ≡ t → HasItems text (items_of text)) [
       | true ↦ λ f.
           let units = unit_joins rest f in
-          let found : items_of text ≡ item_at text ∷ items_of (unit_behind rest) = items_of-digits b bs e f ∙ ap (λ items. item_at text ∷ items) (items_of-unit rest) in
+          let found : items_of text ≡ item_at text ∷ items_of (unit_behind rest) = items_of-digits b bs e f
+              ∙ ap (λ items. item_at text ∷ items) (items_of-unit rest) in
           subst H (sym found) (
             unit_behind rest,
             record {
@@ -244,8 +254,10 @@ items_at_digit b bs e shorter =
             shorter (unit_behind rest) (omega (arith, length-unit_behind rest, within)),
           )
       | false ↦ λ f.
-          let whole : HasItems (leading is_digit text ++ rest) (items_of rest) = add_digits (leading is_digit text) rest (items_of rest) (front_are_digits text) f (begins-behind is_digit text) (shorter rest within) in
-          let at_text : HasItems text (items_of rest) = let P : List ℕ → Type 0 = λ xs. HasItems xs (items_of rest) in subst P (leading_and_behind is_digit text) whole in
+          let whole : HasItems (leading is_digit text ++ rest) (items_of rest) = add_digits (leading is_digit text) rest (items_of rest)
+              (front_are_digits text) f (begins-behind is_digit text) (shorter rest within) in
+          let at_text : HasItems text (items_of rest) = let P : List ℕ → Type 0 = λ xs. HasItems xs (items_of rest) in
+              subst P (leading_and_behind is_digit text) whole in
           subst H (sym (items_of-digits_alone b bs e f)) at_text
     ] refl
   where
@@ -269,7 +281,8 @@ items_to zero (b ∷ bs) within = absurd (omega arith)
 items_to (suc k) (b ∷ bs) within =
     elim (is_digit b) as (λ t. is_digit b ≡ t → HasItems (b ∷ bs) (items_of (b ∷ bs))) [
       | true ↦ λ e. items_at_digit b bs e (λ rest h. items_to k rest (omega arith))
-      | false ↦ λ e. let H : List Item → Type 0 = HasItems (b ∷ bs) in subst H (sym (items_of-other b bs e)) (add_other b bs (items_of bs) e (items_to k bs (omega arith)))
+      | false ↦ λ e. let H : List Item → Type 0 = HasItems (b ∷ bs) in
+          subst H (sym (items_of-other b bs e)) (add_other b bs (items_of bs) e (items_to k bs (omega arith)))
     ] refl
 
 pub items_exist : (text : List ℕ) → HasItems text (items_of text)

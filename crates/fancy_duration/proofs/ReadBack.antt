@@ -1,11 +1,13 @@
 -- What the written text of a length is read as.
-use Rattle.std.proofs.Common.{◌≡◌, ◌↔◌, ℕ, ◌+◌, ◌*◌, ◌/◌, ◌%◌, ◌^◌, ◌<◌, ◌≤◌, Bool, true, false, ◌&&◌, ◌||◌, nat_lt, List, [], ◌∷◌, drop, codes, refl, sym, ◌∙◌, ap, subst, ⊎_elim, inl, inr, arith}
+use Rattle.std.proofs.Common.{◌≡◌, ◌↔◌, ℕ, ◌+◌, ◌*◌, ◌/◌, ◌%◌, ◌^◌, ◌<◌, ◌≤◌, Bool, true, false, ◌&&◌, ◌||◌, nat_lt, List, [], ◌∷◌, drop}
+use Rattle.std.proofs.Common.{codes, refl, sym, ◌∙◌, ap, subst, ⊎_elim, inl, inr, arith}
 use Rattle.std.specs.Prelude.{◌⊎◌}
 use Rattle.std.proofs.Math.Bool.{and-true}
 use Rattle.std.proofs.Math.Nat.{div-le_self, mod-le}
 use Rattle.std.proofs.lemmas.Bool.{and_parts, and_from, or_parts, and_right, ltb-true, ltb-false, lt-ltb, cases_lt}
 use Rattle.fancy_duration.specs.declared.part.DurationPart.{DurationPart}
-use Rattle.fancy_duration.specs.declared.part.DurationPart.TheVariants.{Years, Months, Weeks, Days, Hours, Minutes, Seconds, Milliseconds, Microseconds, Nanoseconds}
+use Rattle.fancy_duration.specs.declared.part.DurationPart.TheVariants.{Years, Months, Weeks, Days, Hours, Minutes, Seconds, Milliseconds}
+use Rattle.fancy_duration.specs.declared.part.DurationPart.TheVariants.{Microseconds, Nanoseconds}
 use Rattle.fancy_duration.specs.Parts.{all_parts, weight_of, unit_of}
 use Rattle.fancy_duration.specs.Times.{nanos_of}
 use Rattle.fancy_duration.specs.Sums.{is_long, long_follows, weight_in, total, SumsTo}
@@ -40,7 +42,8 @@ long-short c counts e =
 long-long : (c : PartCount) (counts : List PartCount) → is_long (unit_of c.part) ≡ true
     → long_follows (items_in (c ∷ counts)) ≡ (nat_lt 0 c.count || long_follows (items_in counts))
 long-long c counts e =
-    long-cons c counts ∙ ap (λ b. (nat_lt 0 c.count && b) || long_follows (items_in counts)) e ∙ ap (λ b. b || long_follows (items_in counts)) (and-true (nat_lt 0 c.count))
+    long-cons c counts ∙ ap (λ b. (nat_lt 0 c.count && b) || long_follows (items_in counts)) e
+        ∙ ap (λ b. b || long_follows (items_in counts)) (and-true (nat_lt 0 c.count))
 
 -- no part below minutes is long
 none_long : (s ms us ns : ℕ) → long_follows (items_in (below_minutes s ms us ns)) ≡ false
@@ -89,7 +92,8 @@ total_below_months : (w d h mi s ms us ns : ℕ) → w < 2 ^ 64 → d < 2 ^ 64 �
     → total (items_in (below_months w d h mi s ms us ns)) ≡ nanos_in (below_months w d h mi s ms us ns)
 total_below_months w d h mi s ms us ns fw fd fh fmi fs fms fus fns =
     weighs Weeks w (weight_of Weeks) (of Days d ∷ of Hours h ∷ of Minutes mi ∷ below_minutes s ms us ns) fw (λ b. refl)
-    ∙ ap (λ n. w * weight_of Weeks + n) (weighs Days d (weight_of Days) (of Hours h ∷ of Minutes mi ∷ below_minutes s ms us ns) fd (λ b. refl)
+    ∙ ap (λ n. w * weight_of Weeks + n) (weighs Days d (weight_of Days) (of Hours h ∷ of Minutes mi ∷ below_minutes s ms us ns) fd
+        (λ b. refl)
     ∙ ap (λ n. d * weight_of Days + n) (weighs Hours h (weight_of Hours) (of Minutes mi ∷ below_minutes s ms us ns) fh (λ b. refl)
     ∙ ap (λ n. h * weight_of Hours + n) (total_minutes mi s ms us ns fmi
     ∙ ap (λ n. mi * weight_of Minutes + n) (total_below_minutes s ms us ns fs fms fus fns))))
@@ -107,15 +111,18 @@ ten y mo w d h mi s ms us ns = of Years y ∷ of Months mo ∷ below_months w d 
 total_ten : (y mo w d h mi s ms us ns : ℕ) (b : Bool) → y < 2 ^ 64 → mo < 2 ^ 64
     → some_long w d h mi ≡ b
     → total (items_in (below_months w d h mi s ms us ns)) ≡ nanos_in (below_months w d h mi s ms us ns)
-    → total (items_in (ten y mo w d h mi s ms us ns)) ≡ y * weight_of Years + (mo * weight_in (codes "m") b + nanos_in (below_months w d h mi s ms us ns))
+    → total (items_in (ten y mo w d h mi s ms us ns)) ≡ y * weight_of Years
+        + (mo * weight_in (codes "m") b + nanos_in (below_months w d h mi s ms us ns))
 total_ten y mo w d h mi s ms us ns b fy fmo e below =
     weighs Years y (weight_of Years) (of Months mo ∷ below_months w d h mi s ms us ns) fy (λ b. refl)
-    ∙ ap (λ n. y * weight_of Years + n) (total_with_months mo (below_months w d h mi s ms us ns) b fmo (long_below_months w d h mi s ms us ns ∙ e)
+    ∙ ap (λ n. y * weight_of Years + n) (total_with_months mo (below_months w d h mi s ms us ns) b fmo
+        (long_below_months w d h mi s ms us ns ∙ e)
     ∙ ap (λ n. mo * weight_in (codes "m") b + n) below)
 
 -- the ten counts of a length
 pub breakdown_ten : (n : ℕ)
-    → breakdown n ≡ ten (count_of Years n) (count_of Months n) (count_of Weeks n) (count_of Days n) (count_of Hours n) (count_of Minutes n) (count_of Seconds n) (count_of Milliseconds n) (count_of Microseconds n) (count_of Nanoseconds n)
+    → breakdown n ≡ ten (count_of Years n) (count_of Months n) (count_of Weeks n) (count_of Days n) (count_of Hours n) (count_of Minutes n)
+        (count_of Seconds n) (count_of Milliseconds n) (count_of Microseconds n) (count_of Nanoseconds n)
 unfolding breakdown count_of
 breakdown_ten n = refl
 
@@ -138,13 +145,16 @@ fits_ten y mo w d h mi s ms us ns e =
     let pns = and_parts (nat_lt ns (2 ^ 64)) _ pus.1 in (
       ltb-true y (2 ^ 64) py.0,
       ltb-true mo (2 ^ 64) pmo.0,
-      total_below_months w d h mi s ms us ns (ltb-true w (2 ^ 64) pw.0) (ltb-true d (2 ^ 64) pd.0) (ltb-true h (2 ^ 64) ph.0) (ltb-true mi (2 ^ 64) pmi.0) (ltb-true s (2 ^ 64) ps.0) (ltb-true ms (2 ^ 64) pms.0) (ltb-true us (2 ^ 64) pus.0) (ltb-true ns (2 ^ 64) pns.0),
+      total_below_months w d h mi s ms us ns (ltb-true w (2 ^ 64) pw.0) (ltb-true d (2 ^ 64) pd.0) (ltb-true h (2 ^ 64) ph.0)
+          (ltb-true mi (2 ^ 64) pmi.0) (ltb-true s (2 ^ 64) ps.0) (ltb-true ms (2 ^ 64) pms.0) (ltb-true us (2 ^ 64) pus.0)
+          (ltb-true ns (2 ^ 64) pns.0),
     )
 
 fits_below : (parts : List DurationPart) (left : ℕ) → left < 2 ^ 64 → counts_fit (counts_of parts left) ≡ true
 fits_below [] left h = refl
 fits_below (part ∷ parts) left h =
-    and_from (nat_lt (left / weight_of part) (2 ^ 64)) _ (lt-ltb (left / weight_of part) (2 ^ 64) (omega (arith, div-le_self left (weight_of part))))
+    and_from (nat_lt (left / weight_of part) (2 ^ 64)) _ (lt-ltb (left / weight_of part) (2 ^ 64)
+        (omega (arith, div-le_self left (weight_of part))))
     (fits_below parts (left % weight_of part) (omega (arith, mod-le left (weight_of part))))
 
 pub breakdown_fits : (n : ℕ) → n < 2 ^ 64 * 1_000_000_000 → counts_fit (breakdown n) ≡ true
@@ -155,14 +165,17 @@ breakdown_fits n h =
 
 -- the sum of what is written of a length: by how much it falls short where no long part follows the months
 record Reads (n : ℕ) : Type 0 where
-  long : some_long (count_of Weeks n) (count_of Days n) (count_of Hours n) (count_of Minutes n) ≡ true → total (items_of (length_text n)) ≡ n
-  short : some_long (count_of Weeks n) (count_of Days n) (count_of Hours n) (count_of Minutes n) ≡ false → total (items_of (length_text n)) + count_of Months n * weight_of Months ≡ n + count_of Months n * weight_of Minutes
+  long : some_long (count_of Weeks n) (count_of Days n) (count_of Hours n) (count_of Minutes n) ≡ true
+      → total (items_of (length_text n)) ≡ n
+  short : some_long (count_of Weeks n) (count_of Days n) (count_of Hours n) (count_of Minutes n) ≡ false
+      → total (items_of (length_text n)) + count_of Months n * weight_of Months ≡ n + count_of Months n * weight_of Minutes
 
 reads : (n : ℕ) → n < 2 ^ 64 * 1_000_000_000 → Reads n
 reads n h =
     let fits : counts_fit (breakdown n) ≡ true = breakdown_fits n h in
     let ten_fit = fits_ten y mo w d ho mi s ms us ns (ap counts_fit (sym (breakdown_ten n)) ∙ fits) in
-    let items = ap total (items_unique (items_in (breakdown n)) (length_text n) (written_items n fits)) ∙ ap (λ counts. total (items_in counts)) (breakdown_ten n) in
+    let items = ap total (items_unique (items_in (breakdown n)) (length_text n) (written_items n fits))
+        ∙ ap (λ counts. total (items_in counts)) (breakdown_ten n) in
     let sum : nanos_in (ten y mo w d ho mi s ms us ns) ≡ n = ap nanos_in (sym (breakdown_ten n)) ∙ breakdown_sum n in
     record {
       long = λ e. omega (arith, items, sum, total_ten y mo w d ho mi s ms us ns true ten_fit.0 ten_fit.1 e ten_fit.2);
@@ -208,7 +221,8 @@ longer_none w d h mi e =
     let pd = or_parts (nat_lt 0 d) (nat_lt 0 h || (nat_lt 0 mi || false)) pw.1 in
     let ph = or_parts (nat_lt 0 h) (nat_lt 0 mi || false) pd.1 in
     let pmi = or_parts (nat_lt 0 mi) false ph.1 in
-    (omega (arith, ltb-false 0 w pw.0), omega (arith, ltb-false 0 d pd.0), omega (arith, ltb-false 0 h ph.0), omega (arith, ltb-false 0 mi pmi.0))
+    (omega (arith, ltb-false 0 w pw.0), omega (arith, ltb-false 0 d pd.0), omega (arith, ltb-false 0 h ph.0),
+        omega (arith, ltb-false 0 mi pmi.0))
 
 -- where months stand alone, they are read as minutes
 pub read_alone : (n : ℕ) → n < 2 ^ 64 * 1_000_000_000 → MonthsStandAlone n
@@ -228,7 +242,9 @@ read_whole n h =
       | false ↦ λ e. by_months (longer_none w d ho mi e) ((reads n h).short e)
     ] refl
   where
-    by_months : ((count_of Weeks n ≡ 0) × (count_of Days n ≡ 0) × (count_of Hours n ≡ 0) × (count_of Minutes n ≡ 0)) → total (items_of (length_text n)) + count_of Months n * weight_of Months ≡ n + count_of Months n * weight_of Minutes → (total (items_of (length_text n)) ≡ n) ⊎ MonthsStandAlone n
+    by_months : ((count_of Weeks n ≡ 0) × (count_of Days n ≡ 0) × (count_of Hours n ≡ 0) × (count_of Minutes n ≡ 0))
+        → total (items_of (length_text n)) + count_of Months n * weight_of Months ≡ n + count_of Months n * weight_of Minutes
+        → (total (items_of (length_text n)) ≡ n) ⊎ MonthsStandAlone n
     by_months none sum =
         ⊎_elim
         (λ (some : 0 < count_of Months n). inr (record { months = some; weeks = none.0; days = none.1; hours = none.2; minutes = none.3 }))
@@ -244,13 +260,15 @@ read_back times fits below = (apart, whole)
 
     apart : Denotes (length_text (nanos_of times)) times → MonthsStandAlone (nanos_of times) → ⊥
     apart denoted alone =
-        let same : nanos_of times ≡ total (items_of (length_text (nanos_of times))) = sum_unique (length_text (nanos_of times)) (nanos_of times) denoted.sums in
+        let same : nanos_of times ≡ total (items_of (length_text (nanos_of times))) = sum_unique (length_text (nanos_of times))
+            (nanos_of times) denoted.sums in
         absurd (omega (arith, same, read_alone (nanos_of times) bound alone, alone.months))
 
     whole : ¬ (MonthsStandAlone (nanos_of times)) → Denotes (length_text (nanos_of times)) times
     whole apart =
         let P : ℕ → Type 0 = SumsTo (length_text (nanos_of times)) in
         ⊎_elim
-        (λ (same : total (items_of (length_text (nanos_of times))) ≡ nanos_of times). record { sums = subst P same (sum_exists (length_text (nanos_of times))); seconds = fits; nanoseconds = below })
+        (λ (same : total (items_of (length_text (nanos_of times))) ≡ nanos_of times).
+            record { sums = subst P same (sum_exists (length_text (nanos_of times))); seconds = fits; nanoseconds = below })
         (λ (alone : MonthsStandAlone (nanos_of times)). absurd (apart alone))
         (read_whole (nanos_of times) bound)

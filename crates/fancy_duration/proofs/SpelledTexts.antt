@@ -1,5 +1,6 @@
 -- What a strict text spells is the sum of its items, and it is strict.
-use Rattle.std.proofs.Common.{◌≡◌, ℕ, suc, ◌+◌, ◌*◌, ◌<◌, Bool, true, false, nat_le, List, [], ◌∷◌, ◌++◌, length, map, refl, sym, ◌∙◌, ap, subst, arith, append_assoc, inl, inr}
+use Rattle.std.proofs.Common.{◌≡◌, ℕ, suc, ◌+◌, ◌*◌, ◌<◌, Bool, true, false, nat_le, List, [], ◌∷◌, ◌++◌, length, map, refl, sym, ◌∙◌, ap}
+use Rattle.std.proofs.Common.{subst, arith, append_assoc, inl, inr}
 use Rattle.std.specs.Prelude.{if◌then◌else◌}
 use Rattle.std.proofs.lemmas.Bool.Decides.{nat_tests}
 use Rattle.std.specs.List.{list_all, list_any}
@@ -9,7 +10,8 @@ use Rattle.scan_core.specs.Blanks.{is_blank}
 use Rattle.scan_core.specs.Digits.{number_of}
 use Rattle.scan_core.specs.Join.{IsJoin}
 use Rattle.fancy_duration.specs.declared.part.DurationPart.{DurationPart}
-use Rattle.fancy_duration.specs.declared.part.DurationPart.TheVariants.{Years, Months, Weeks, Days, Hours, Minutes, Seconds, Milliseconds, Microseconds, Nanoseconds}
+use Rattle.fancy_duration.specs.declared.part.DurationPart.TheVariants.{Years, Months, Weeks, Days, Hours, Minutes, Seconds, Milliseconds}
+use Rattle.fancy_duration.specs.declared.part.DurationPart.TheVariants.{Microseconds, Nanoseconds}
 use Rattle.fancy_duration.specs.Parts.{weight_of, unit_of}
 use Rattle.fancy_duration.specs.Items.{Item, HasItems, begins_by, has_no_item}
 use Rattle.fancy_duration.specs.Sums.{SumsTo, is_long, long_follows, can_be, weight_in, total}
@@ -28,7 +30,8 @@ item_of c = record { digits = c.digits; unit = unit_of c.part }
 blank_not_digit : (b : ℕ) → is_blank b ≡ true → is_digit b ≡ false
 blank_not_digit b e = grind (arith, nat_tests)
 
-add_blanks : (blanks rest : List ℕ) (items : List Item) → list_all is_blank blanks ≡ true → HasItems rest items → HasItems (blanks ++ rest) items
+add_blanks : (blanks rest : List ℕ) (items : List Item) → list_all is_blank blanks ≡ true → HasItems rest items
+    → HasItems (blanks ++ rest) items
 add_blanks [] rest items all h = h
 add_blanks (b ∷ bs) rest items all h =
     let parts = and_parts (is_blank b) (list_all is_blank bs) all in
@@ -41,7 +44,8 @@ counted_items text (c ∷ cs) (piece, rest, is, more, split) =
     let below = counted_items rest cs more in
     let letter = begins_letter-blanks is.blanks rest is.are_blanks below.1 in
     let whole : text ≡ c.digits ++ (unit_of c.part ++ (is.blanks ++ rest)) =
-    split ∙ ap (λ (l : List ℕ). l ++ rest) is.joined ∙ append_assoc c.digits (unit_of c.part ++ is.blanks) rest ∙ ap (λ (l : List ℕ). c.digits ++ l) (append_assoc (unit_of c.part) is.blanks rest) in
+    split ∙ ap (λ (l : List ℕ). l ++ rest) is.joined ∙ append_assoc c.digits (unit_of c.part ++ is.blanks) rest
+        ∙ ap (λ (l : List ℕ). c.digits ++ l) (append_assoc (unit_of c.part) is.blanks rest) in
     let begin = digits_begin c.digits (unit_of c.part ++ (is.blanks ++ rest)) is.some_digits is.are_digits in (
       (
         is.blanks ++ rest,
@@ -107,14 +111,17 @@ same_sum [] meant = refl
 same_sum (c ∷ cs) meant =
     let weight : weight_in (unit_of c.part) (long_follows (map item_of cs)) ≡ weight_of c.part =
     ap (weight_in (unit_of c.part)) (long_later cs) ∙ weight_meant c.part (is_long_behind cs) meant.0 in
-    ap (λ (n : ℕ). number_of c.digits * n + total (map item_of cs)) weight ∙ ap (λ (n : ℕ). number_of c.digits * weight_of c.part + n) (same_sum cs meant.1)
+    ap (λ (n : ℕ). number_of c.digits * n + total (map item_of cs)) weight
+        ∙ ap (λ (n : ℕ). number_of c.digits * weight_of c.part + n) (same_sum cs meant.1)
 
 -- ---- a spelled text is strict, and has this sum
 
-parts_joined : (text : List ℕ) (counts : List LengthCount) → IsJoin IsLengthCount text counts → IsJoin IsCount text (map (λ c. c.part) counts)
+parts_joined : (text : List ℕ) (counts : List LengthCount) → IsJoin IsLengthCount text counts
+    → IsJoin IsCount text (map (λ c. c.part) counts)
 parts_joined text [] none = none
 parts_joined text (c ∷ cs) (piece, rest, is, more, split) =
-    (piece, rest, record { digits = c.digits; blanks = is.blanks; some_digits = is.some_digits; are_digits = is.are_digits; are_blanks = is.are_blanks; joined = is.joined }, parts_joined rest cs more, split)
+    (piece, rest, record { digits = c.digits; blanks = is.blanks; some_digits = is.some_digits; are_digits = is.are_digits;
+        are_blanks = is.are_blanks; joined = is.joined }, parts_joined rest cs more, split)
 
 some_parts : (counts : List LengthCount) → 0 < length counts → 0 < length (map (λ c. c.part) counts)
 some_parts [] some = some
@@ -122,7 +129,8 @@ some_parts (c ∷ cs) some = omega arith
 
 pub spelled_strict : (text : List ℕ) (nanos : ℕ) → SpellsLength text nanos → IsStrict text
 spelled_strict text nanos (inl zero) = inl zero.0
-spelled_strict text nanos (inr (counts, some, join, meant, sum)) = inr (map (λ c. c.part) counts, some_parts counts some, parts_joined text counts join)
+spelled_strict text nanos (inr (counts, some, join, meant, sum)) =
+    inr (map (λ c. c.part) counts, some_parts counts some, parts_joined text counts join)
 
 pub spelled_sum : (text : List ℕ) (nanos : ℕ) → SpellsLength text nanos → SumsTo text nanos
 spelled_sum text nanos (inl zero) = record { items = []; all = ap has_no_item zero.0; sum = zero.1 }
@@ -187,7 +195,8 @@ counts_meant text (part ∷ parts) (piece, rest, is, more, split) =
       are_blanks = is.are_blanks;
       joined = is.joined ∙ ap (λ (l : List ℕ). is.digits ++ (l ++ is.blanks)) (sym (right_unit part long));
     } in
-    record { counts = c ∷ below.counts; join = (piece, rest, first, below.join, split); meant = (right_meant part long, below.meant); same = ap suc below.same }
+    record { counts = c ∷ below.counts; join = (piece, rest, first, below.join, split); meant = (right_meant part long, below.meant);
+        same = ap suc below.same }
 
 spelled_some : (text : List ℕ) → IsStrict text → (nanos : ℕ) × SpellsLength text nanos
 spelled_some text (inl zero) = (0, inl (zero, refl))

@@ -1,5 +1,6 @@
 -- A written text is a strict one.
-use Rattle.std.proofs.Common.{◌≡◌, ℕ, ◌*◌, ◌^◌, ◌<◌, true, false, nat_lt, nat_eq, List, [], ◌∷◌, ◌++◌, length, map, decimal, refl, sym, ◌∙◌, ap, arith, append_assoc, append-nil, inl, inr}
+use Rattle.std.proofs.Common.{◌≡◌, ℕ, ◌*◌, ◌^◌, ◌<◌, true, false, nat_lt, nat_eq, List, [], ◌∷◌, ◌++◌, length, map, decimal, refl, sym, ◌∙◌}
+use Rattle.std.proofs.Common.{ap, arith, append_assoc, append-nil, inl, inr}
 use Rattle.std.specs.List.{join_with_byte, list_all}
 use Rattle.scan_core.specs.Blanks.{is_blank}
 use Rattle.std.proofs.lemmas.Bool.{and_parts, ltb-true, ltb-false, eqb-false}
@@ -48,7 +49,8 @@ nothing_above [] none = refl
 nothing_above (c ∷ counts) none =
     elim (nat_lt 0 c.count) as (λ t. nat_lt 0 c.count ≡ t → nanos_in (c ∷ counts) ≡ 0) [
       | true ↦ λ e. absurd (let some = simp e at none in omega (arith, ap length some))
-      | false ↦ λ e. let zero : c.count ≡ 0 = omega (arith, ltb-false 0 c.count e) in let more = nothing_above counts (let h = simp e at none in h) in rw zero (omega (arith, more))
+      | false ↦ λ e. let zero : c.count ≡ 0 = omega (arith, ltb-false 0 c.count e) in let more =
+          nothing_above counts (let h = simp e at none in h) in rw zero (omega (arith, more))
     ] refl
 
 some_parts : (counts : List PartCount) → (counts ≡ [] → ⊥) → 0 < length (map (λ c. c.part) counts)

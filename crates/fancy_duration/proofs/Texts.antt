@@ -1,5 +1,6 @@
 -- The items and the sum of a written text.
-use Rattle.std.proofs.Common.{◌≡◌, ℕ, ◌+◌, ◌*◌, ◌^◌, ◌<◌, true, false, ◌&&◌, ◌||◌, nat_lt, nat_eq, List, [], ◌∷◌, ◌++◌, map, decimal, refl, ap, subst, arith, append_assoc, append-nil}
+use Rattle.std.proofs.Common.{◌≡◌, ℕ, ◌+◌, ◌*◌, ◌^◌, ◌<◌, true, false, ◌&&◌, ◌||◌, nat_lt, nat_eq, List, [], ◌∷◌, ◌++◌, map, decimal, refl}
+use Rattle.std.proofs.Common.{ap, subst, arith, append_assoc, append-nil}
 use Rattle.std.specs.List.{join_with_byte}
 use Rattle.std.specs.Char.{is_ascii_alphabetic as is_letter}
 use Rattle.std.proofs.lemmas.Bool.{and_parts, ltb-true, ltb-false, eqb-true}
@@ -43,7 +44,8 @@ items_joined (c ∷ []) fits =
 items_joined (c ∷ d ∷ counts) fits =
     let parts = and_parts (nat_lt c.count (2 ^ 64)) (counts_fit (d ∷ counts)) fits in
     let rest = 32 ∷ join_with_byte 32 (map piece (d ∷ counts)) in
-    (rest, first_piece c rest (ltb-true _ _ parts.0) refl, add_other 32 (join_with_byte 32 (map piece (d ∷ counts))) (map item_of (d ∷ counts)) refl (items_joined (d ∷ counts) parts.1))
+    (rest, first_piece c rest (ltb-true _ _ parts.0) refl, add_other 32 (join_with_byte 32 (map piece (d ∷ counts)))
+        (map item_of (d ∷ counts)) refl (items_joined (d ∷ counts) parts.1))
 
 pub above_fits : (counts : List PartCount) → counts_fit counts ≡ true → counts_fit (above_zero counts) ≡ true
 above_fits [] fits = refl
@@ -75,15 +77,18 @@ items_in counts = map item_of (above_zero counts)
 pub total-cons : (c : PartCount) (counts : List PartCount) → c.count < 2 ^ 64
     → total (items_in (c ∷ counts)) ≡ c.count * weight_in (unit_of c.part) (long_follows (items_in counts)) + total (items_in counts)
 total-cons c counts fits =
-    elim (nat_lt 0 c.count) as (λ t. nat_lt 0 c.count ≡ t → total (items_in (c ∷ counts)) ≡ c.count * weight_in (unit_of c.part) (long_follows (items_in counts)) + total (items_in counts)) [
-      | true ↦ λ e. simp e (ap (λ n. n * weight_in (unit_of c.part) (long_follows (items_in counts)) + total (items_in counts)) (decimal_is_IsNumeral c.count fits).1)
+    elim (nat_lt 0 c.count) as (λ t. nat_lt 0 c.count ≡ t → total (items_in (c ∷ counts))
+        ≡ c.count * weight_in (unit_of c.part) (long_follows (items_in counts)) + total (items_in counts)) [
+      | true ↦ λ e. simp e (ap (λ n. n * weight_in (unit_of c.part) (long_follows (items_in counts)) + total (items_in counts))
+          (decimal_is_IsNumeral c.count fits).1)
       | false ↦ λ e. let z : c.count ≡ 0 = omega (arith, ltb-false 0 c.count e) in simp e (rw z (omega arith))
     ] refl
 
 pub long-cons : (c : PartCount) (counts : List PartCount)
     → long_follows (items_in (c ∷ counts)) ≡ ((nat_lt 0 c.count && is_long (unit_of c.part)) || long_follows (items_in counts))
 long-cons c counts =
-    elim (nat_lt 0 c.count) as (λ t. nat_lt 0 c.count ≡ t → long_follows (items_in (c ∷ counts)) ≡ ((nat_lt 0 c.count && is_long (unit_of c.part)) || long_follows (items_in counts))) [
+    elim (nat_lt 0 c.count) as (λ t. nat_lt 0 c.count ≡ t → long_follows (items_in (c ∷ counts))
+        ≡ ((nat_lt 0 c.count && is_long (unit_of c.part)) || long_follows (items_in counts))) [
       | true ↦ λ e. simp e
       | false ↦ λ e. simp e
     ] refl

@@ -1,12 +1,15 @@
 -- What the writers put is the written text.
-use Rattle.std.proofs.Common.{true≢false, ◌≡◌, ◌≢◌, ℕ, zero, suc, ◌+◌, ◌*◌, ◌/◌, ◌%◌, ◌^◌, ◌<◌, ◌≤◌, ◌==◌, Bool, true, false, not, ◌||◌, nat_eq, List, [], ◌∷◌, ◌++◌, length, decimal, codes, refl, sym, ◌∙◌, ap, arith, append_assoc, append-nil, if◌then◌else◌}
+use Rattle.std.proofs.Common.{true≢false, ◌≡◌, ◌≢◌, ℕ, zero, suc, ◌+◌, ◌*◌, ◌/◌, ◌%◌, ◌^◌, ◌<◌, ◌≤◌, ◌==◌, Bool, true, false, not, ◌||◌}
+use Rattle.std.proofs.Common.{nat_eq, List, [], ◌∷◌, ◌++◌, length, decimal, codes, refl, sym, ◌∙◌, ap, arith, append_assoc, append-nil}
+use Rattle.std.proofs.Common.{if◌then◌else◌}
 use Rattle.std.specs.List.{join_with_byte}
 use Rattle.std.proofs.lemmas.Bool.{ne_eqb}
 use Rattle.std.proofs.lemmas.Nat.{div-add-mod'}
 use Rattle.std.specs.Prelude.{⊤}
 use Rattle.std.proofs.lemmas.Fmt.{length-decimal-le}
 use Rattle.fancy_duration.specs.declared.part.DurationPart.{DurationPart}
-use Rattle.fancy_duration.specs.declared.part.DurationPart.TheVariants.{Years, Months, Weeks, Days, Hours, Minutes, Seconds, Milliseconds, Microseconds, Nanoseconds}
+use Rattle.fancy_duration.specs.declared.part.DurationPart.TheVariants.{Years, Months, Weeks, Days, Hours, Minutes, Seconds, Milliseconds}
+use Rattle.fancy_duration.specs.declared.part.DurationPart.TheVariants.{Microseconds, Nanoseconds}
 use Rattle.fancy_duration.specs.Parts.{all_parts, weight_of, unit_of}
 use Rattle.fancy_duration.specs.Times.{nanos_of}
 use Rattle.fancy_duration.specs.Written.{length_text, length_words}
@@ -47,7 +50,8 @@ one_more : (begun : Bool) (n : ℕ) (part : DurationPart) (words : List (List �
     ≡ behind begun ((if n == 0 then [] else ((decimal n ++ unit_of part) ∷ [])) ++ words)
 unfolding count_behind
 one_more begun n part words =
-    elim (nat_eq n 0) as (λ t. nat_eq n 0 ≡ t → count_behind begun n part ++ behind (begun || not (n == 0)) words ≡ behind begun ((if n == 0 then [] else ((decimal n ++ unit_of part) ∷ [])) ++ words)) [
+    elim (nat_eq n 0) as (λ t. nat_eq n 0 ≡ t → count_behind begun n part ++ behind (begun || not (n == 0)) words
+        ≡ behind begun ((if n == 0 then [] else ((decimal n ++ unit_of part) ∷ [])) ++ words)) [
       | true ↦ λ e. simp e (none_more begun words)
       | false ↦ λ e. simp e (some_more begun (decimal n ++ unit_of part) words)
     ] refl
@@ -64,7 +68,8 @@ counts_are begun (part ∷ parts) left =
 
 -- a length of whole seconds and nanoseconds below a second, by a part of whole seconds
 cut : (part : DurationPart) (secs ns : ℕ) → weight_of part ≡ seconds_of part * 1_000_000_000 → ns < 1_000_000_000
-    → ((secs * 1_000_000_000 + ns) / weight_of part ≡ secs / seconds_of part) × ((secs * 1_000_000_000 + ns) % weight_of part ≡ secs % seconds_of part * 1_000_000_000 + ns)
+    → ((secs * 1_000_000_000 + ns) / weight_of part ≡ secs / seconds_of part)
+        × ((secs * 1_000_000_000 + ns) % weight_of part ≡ secs % seconds_of part * 1_000_000_000 + ns)
 cut Years secs ns whole h = (omega arith, omega arith)
 cut Months secs ns whole h = (omega arith, omega arith)
 cut Weeks secs ns whole h = (omega arith, omega arith)
@@ -91,7 +96,8 @@ AreWhole (part ∷ parts) = (weight_of part ≡ seconds_of part * 1_000_000_000)
 
 in_seconds : (begun : Bool) (parts : List DurationPart) (secs ns : ℕ) → AreWhole parts → ns < 1_000_000_000
     → counts_behind weight_of begun (parts ++ short_parts) (secs * 1_000_000_000 + ns)
-    ≡ counts_behind seconds_of begun parts secs ++ counts_behind weight_of (begun_after begun parts secs) short_parts (seconds_after parts secs * 1_000_000_000 + ns)
+    ≡ counts_behind seconds_of begun parts secs ++ counts_behind weight_of (begun_after begun parts secs) short_parts
+        (seconds_after parts secs * 1_000_000_000 + ns)
 in_seconds begun [] secs ns whole h = refl
 in_seconds begun (part ∷ parts) secs ns whole h =
     let n = secs / seconds_of part in
@@ -102,7 +108,9 @@ in_seconds begun (part ∷ parts) secs ns whole h =
     = rw (both.0, both.1) refl in
     first
     ∙ ap (λ (more : List ℕ). count_behind begun n part ++ more) (in_seconds (begun || not (n == 0)) parts rest ns whole.1 h)
-    ∙ sym (append_assoc (count_behind begun n part) (counts_behind seconds_of (begun || not (n == 0)) parts rest) (counts_behind weight_of (begun_after begun (part ∷ parts) secs) short_parts (seconds_after (part ∷ parts) secs * 1_000_000_000 + ns)))
+    ∙ sym (append_assoc (count_behind begun n part) (counts_behind seconds_of (begun || not (n == 0)) parts rest)
+        (counts_behind weight_of (begun_after begun (part ∷ parts) secs) short_parts
+        (seconds_after (part ∷ parts) secs * 1_000_000_000 + ns)))
 
 not_none : (n : ℕ) → nat_eq (suc n) 0 ≡ false
 not_none n = ne_eqb (suc n) 0 (λ e. omega (arith, e))
@@ -137,15 +145,20 @@ begun_by_seconds (suc secs) false e =
 
 -- the counts of whole seconds, then those below a second
 pub pushed : (secs ns : ℕ) → ns < 1_000_000_000 → (nanos_of (secs, ns) ≢ 0)
-    → counts_behind seconds_of false long_parts secs ++ counts_behind weight_of (not (secs == 0)) short_parts ns ≡ length_text (nanos_of (secs, ns))
+    → counts_behind seconds_of false long_parts secs ++ counts_behind weight_of (not (secs == 0)) short_parts ns
+        ≡ length_text (nanos_of (secs, ns))
 unfolding length_text
 pushed secs ns h some =
     let none_left : seconds_after long_parts secs * 1_000_000_000 + ns ≡ ns = omega arith in
     let e : nat_eq (nanos_of (secs, ns)) 0 ≡ false = ne_eqb (nanos_of (secs, ns)) 0 some in
-    let whole : counts_behind weight_of false all_parts (secs * 1_000_000_000 + ns) ≡ join_with_byte 32 (length_words all_parts (secs * 1_000_000_000 + ns)) = counts_are false all_parts (secs * 1_000_000_000 + ns) in
+    let whole : counts_behind weight_of false all_parts (secs * 1_000_000_000 + ns)
+        ≡ join_with_byte 32 (length_words all_parts (secs * 1_000_000_000 + ns)) = counts_are false all_parts (secs * 1_000_000_000 + ns) in
     let split = in_seconds false long_parts secs ns (refl, (refl, (refl, (refl, (refl, (refl, (refl, tt))))))) h in
-    let same = ap (λ (t : Bool). counts_behind seconds_of false long_parts secs ++ counts_behind weight_of t short_parts (seconds_after long_parts secs * 1_000_000_000 + ns)) (begun_by_seconds secs (begun_after false long_parts secs) refl) in
-    simp e (ap (λ (n : ℕ). counts_behind seconds_of false long_parts secs ++ counts_behind weight_of (not (secs == 0)) short_parts n) (sym none_left) ∙ sym same ∙ sym split ∙ whole)
+    let same = ap (λ (t : Bool). counts_behind seconds_of false long_parts secs
+        ++ counts_behind weight_of t short_parts (seconds_after long_parts secs * 1_000_000_000 + ns))
+        (begun_by_seconds secs (begun_after false long_parts secs) refl) in
+    simp e (ap (λ (n : ℕ). counts_behind seconds_of false long_parts secs ++ counts_behind weight_of (not (secs == 0)) short_parts n)
+        (sym none_left) ∙ sym same ∙ sym split ∙ whole)
 
 pub pushed_nothing : (secs ns : ℕ) → secs ≡ 0 → ns ≡ 0 → codes "0" ≡ length_text (nanos_of (secs, ns))
 unfolding length_text

@@ -1,7 +1,8 @@
 -- Where the written texts are ambiguous: `m` is months and minutes, and what it is read as hangs on
 -- what follows it.
 use Rattle.std.specs.Prelude.{◌≡◌, ℕ, ◌<◌, ◌≤◌, ◌⊎◌}
-use Rattle.fancy_duration.specs.declared.part.DurationPart.TheVariants.{Years, Months, Weeks, Days, Hours, Minutes, Seconds, Milliseconds, Microseconds, Nanoseconds}
+use Rattle.fancy_duration.specs.declared.part.DurationPart.TheVariants.{Years, Months, Weeks, Days, Hours, Minutes, Seconds, Milliseconds}
+use Rattle.fancy_duration.specs.declared.part.DurationPart.TheVariants.{Microseconds, Nanoseconds}
 use Rattle.fancy_duration.specs.Breakdown.{count_of}
 
 -- a length has months, and no weeks, days, hours or minutes, so that its written `m` is read as

@@ -2,7 +2,8 @@
 -- month 30.
 use Rattle.std.specs.Prelude.{ℕ, ◌*◌, Bool, ◌==◌, List, [], ◌∷◌, codes}
 use Rattle.fancy_duration.specs.declared.part.DurationPart.{DurationPart}
-use Rattle.fancy_duration.specs.declared.part.DurationPart.TheVariants.{Years, Months, Weeks, Days, Hours, Minutes, Seconds, Milliseconds, Microseconds, Nanoseconds}
+use Rattle.fancy_duration.specs.declared.part.DurationPart.TheVariants.{Years, Months, Weeks, Days, Hours, Minutes, Seconds, Milliseconds}
+use Rattle.fancy_duration.specs.declared.part.DurationPart.TheVariants.{Microseconds, Nanoseconds}
 
 -- from the greatest to the least
 abbrev pub all_parts : List DurationPart

@@ -1,5 +1,6 @@
 -- File times as a form: what a count is worth, what count is at an instant, and that it is read back.
-use Rattle.std.proofs.Common.{◌≡◌, ℕ, ◌+◌, ◌-◌, ◌*◌, ◌/◌, ◌%◌, ◌^◌, ◌<◌, ◌≤◌, ◌==◌, false, List, [], length, Ok, Err, decimal, ◌⊎◌, refl, sym, ◌∙◌, ap, subst, inl, inr, arith}
+use Rattle.std.proofs.Common.{◌≡◌, ℕ, ◌+◌, ◌-◌, ◌*◌, ◌/◌, ◌%◌, ◌^◌, ◌<◌, ◌≤◌, ◌==◌, false, List, [], length, Ok, Err, decimal, ◌⊎◌, refl}
+use Rattle.std.proofs.Common.{sym, ◌∙◌, ap, subst, inl, inr, arith}
 use Rattle.std.specs.Prelude.{ℤ, pos, negsuc, ◌-ℤ◌, ◌<ℤ◌, ◌≤ℤ◌, nat_lt, ◌≢◌}
 use Rattle.std.proofs.lemmas.Bool.{ltb-true, lt-ltb, le-ltb}
 use Rattle.std.proofs.lemmas.Bool.Decides.{nat_tests}
@@ -42,7 +43,8 @@ pub reads_beyond : (text : List ℕ) (cause : ParseFileTimeCause) → IsReadFrom
 reads_beyond text cause from is = let h = from.overflow.0 (ap Err is) in inl (h.0, h.1, sym (worth_beyond h.0 h.2))
 
 empty_spells : (n : ℕ) → IsTextOf [] n → ⊥
-empty_spells n (digits, numeral, value, inl e) = let some = numeral.0 in absurd (subst (λ (l : List ℕ). 0 < length l → ⊥) e (λ less. omega arith) some)
+empty_spells n (digits, numeral, value, inl e) = let some = numeral.0 in
+    absurd (subst (λ (l : List ℕ). 0 < length l → ⊥) e (λ less. omega arith) some)
 empty_spells n (digits, numeral, value, inr e) = cc
 
 reads_none : (text : List ℕ) (cause : ParseFileTimeCause) → IsReadFrom text (Err cause)
@@ -103,7 +105,8 @@ pub between : (nanos : ℤ) (ticks : ℕ) → IsFromUnixNanos nanos (Ok ticks) �
     → ticks_after (nanos -ℤ unix_nanos 0) ≡ Err Precision
 between nanos ticks from not =
     let floor = from.ok in
-    let next : nanos <ℤ unix_nanos (ticks + 1) = less (unix_nanos (ticks + 1)) nanos (λ h. let more = floor.1 (ticks + 1) h in omega arith) in
+    let next : nanos <ℤ unix_nanos (ticks + 1) = less (unix_nanos (ticks + 1)) nanos
+        (λ h. let more = floor.1 (ticks + 1) h in omega arith) in
     let last : nanos ≤ℤ unix_nanos (2 ^ 64 - 1) = no_more (unix_nanos (2 ^ 64 - 1)) nanos (λ h. let e = from.overflow.1 h in cc) in
     let least : pos (100 * ticks) ≤ℤ (nanos -ℤ unix_nanos 0) = let l = floor.0 in omega (arith, ints) in
     not_whole (nanos -ℤ unix_nanos 0) ticks least (omega (arith, ints)) (λ e. not (omega (arith, ints))) (omega (arith, ints))
@@ -140,11 +143,15 @@ held_back : ((ticks : ℕ) → IsFileTime ticks → IsTextOf (decimal ticks) tic
 held_back digits (Instant nanos) ticks w h =
     let count = ticks_held (nanos -ℤ unix_nanos 0) ticks h in
     let same : unix_nanos ticks ≡ nanos = let e = count.0 in omega (arith, ints) in
-    record { meaning = ticks; back = Instant nanos; spelled = digits ticks count.1; valued = sym (worth_within ticks count.1 ∙ ap (λ (z : ℤ). Ok (Instant z)) same); same = refl; again = sym h }
+    record { meaning = ticks; back = Instant nanos; spelled = digits ticks count.1;
+        valued = sym (worth_within ticks count.1 ∙ ap (λ (z : ℤ). Ok (Instant z)) same); same = refl; again = sym h }
 held_back digits _ ticks w h = absurd (let e : Err Kind ≡ Ok ticks = h in cc)
 
 pub file_times : ((text : List ℕ) (m n : ℕ) → IsTextOf text m → IsTextOf text n → m ≡ n)
     → ((ticks : ℕ) → IsFileTime ticks → IsTextOf (decimal ticks) ticks) → Lawful FileTime
 file_times one digits =
-    lawful_by FileTime IsTextOf (Is worth) (Is held) decimal (record { reads = λ text a h. h; read = λ text a h. h; writes = λ value a h. h; written = λ value a h. h })
-    (record { one = one; one_worth = one_image worth; one_held = one_image held; within = λ text ticks value spelled h. within text ticks value spelled (sym h); back = λ value ticks w h. held_back digits value ticks w (sym h) })
+    lawful_by FileTime IsTextOf (Is worth) (Is held) decimal (record { reads = λ text a h. h; read = λ text a h. h; writes = λ value a h. h;
+        written = λ value a h. h })
+    (record { one = one; one_worth = one_image worth; one_held = one_image held;
+        within = λ text ticks value spelled h. within text ticks value spelled (sym h); back =
+        λ value ticks w h. held_back digits value ticks w (sym h) })

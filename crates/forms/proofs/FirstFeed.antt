@@ -14,7 +14,8 @@ no_feed_before (byte ∷ bytes) (suc n) fits nowhere = (
 )
 
 -- where a byte was found the bytes are what stands before it, the byte and what follows
-pub split_at : (found : ℕ) (bytes : List ℕ) (n : ℕ) → n < length bytes → Passes (is_byte found) bytes n → bytes ≡ take n bytes ++ (found ∷ drop (suc n) bytes)
+pub split_at : (found : ℕ) (bytes : List ℕ) (n : ℕ) → n < length bytes → Passes (is_byte found) bytes n
+    → bytes ≡ take n bytes ++ (found ∷ drop (suc n) bytes)
 split_at found [] n inside passes = absurd (omega arith)
 split_at found (byte ∷ bytes) zero inside passes = ap (λ b. b ∷ bytes) (eqb-true byte found passes)
 split_at found (byte ∷ bytes) (suc n) inside passes = ap (λ (l : List ℕ). byte ∷ l) (split_at found bytes n (omega arith) passes)

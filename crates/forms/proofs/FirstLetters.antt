@@ -3,7 +3,8 @@ use Rattle.std.proofs.Common.{◌≡◌, ℕ, ◌==◌, false, List, ◌∷◌, 
 use Rattle.std.specs.Prelude.{IfNone}
 use Rattle.std.proofs.lemmas.Bool.{eqb-false}
 use Rattle.forms.specs.declared.form.Form.{Form}
-use Rattle.forms.specs.declared.form.Form.TheVariants.{FileTime, IsoDateTime, IsoDate, IsoDuration, Toml, Fancy, PgIso, Postgres, PgVerbose, PgSql, IsoStrict}
+use Rattle.forms.specs.declared.form.Form.TheVariants.{FileTime, IsoDateTime, IsoDate, IsoDuration, Toml, Fancy, PgIso, Postgres, PgVerbose}
+use Rattle.forms.specs.declared.form.Form.TheVariants.{PgSql, IsoStrict}
 use Rattle.forms.specs.inside.Reading.{behind, by_another, by_i, by_p, Begins, HasNoneOf, IsNamed}
 
 -- no form's name is the first word

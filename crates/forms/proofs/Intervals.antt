@@ -1,5 +1,6 @@
 -- The interval forms: what counts are worth, what interval is held of a value, and that it is read back. What is said is said of any style.
-use Rattle.std.proofs.Common.{◌≡◌, ℕ, ◌/◌, ◌%◌, ◌==◌, ◌&&◌, true, false, IsTrue, List, Some, None, Ok, Err, FitsSigned, w32, w64, refl, sym, ◌∙◌, ap, subst, inl, inr, arith}
+use Rattle.std.proofs.Common.{◌≡◌, ℕ, ◌/◌, ◌%◌, ◌==◌, ◌&&◌, true, false, IsTrue, List, Some, None, Ok, Err, FitsSigned, w32, w64, refl, sym}
+use Rattle.std.proofs.Common.{◌∙◌, ap, subst, inl, inr, arith}
 use Rattle.std.specs.Prelude.{ℤ, pos}
 use Rattle.std.proofs.lemmas.Bool.{and_parts, and_left, and_right, false_from_ne_true}
 use Rattle.std.proofs.lemmas.Bool.Decides.{nat_tests}
@@ -62,7 +63,8 @@ unfolding worth
 worth_misfits counts h = rw h refl
 
 pub not_fitting : (counts : List Count) (part : Part) → misfit counts ≡ Some part → fits counts ≡ false
-not_fitting counts part h = false_from_ne_true (fits counts) (λ all. let none : None ≡ Some part = sym ((misfit-none counts).1 all) ∙ h in cc)
+not_fitting counts part h = false_from_ne_true (fits counts) (λ all. let none : None ≡ Some part = sym ((misfit-none counts).1 all)
+    ∙ h in cc)
 
 pub reads_interval : (s : Style) (text : List ℕ) (t : Interval) → Denotes (Shape s) text t
     → ReadsBy (Shape s) (Is worth) text (Ok (triple t))
@@ -103,9 +105,12 @@ outside : (z : ℤ) → (FitsSigned w32 z → ⊥) → fits_type Days z ≡ fals
 outside z isnt = false_from_ne_true (fits_type Days z) (λ h. isnt (within_32 z h))
 
 -- an interval that was made of such parts
-pub made_of : (made : Interval) (m d u months days micros : ℤ) → made ≡ record { months = m; days = d; microseconds = u } → m ≡ months → d ≡ days → u ≡ micros → FitsSigned w32 months → FitsSigned w32 days → FitsSigned w64 micros
+pub made_of : (made : Interval) (m d u months days micros : ℤ) → made ≡ record { months = m; days = d; microseconds = u } → m ≡ months
+    → d ≡ days → u ≡ micros → FitsSigned w32 months → FitsSigned w32 days → FitsSigned w64 micros
     → Ok made ≡ interval_of months days micros
-made_of made m d u months days micros is me de ue mf df uf = let whole : made ≡ record { months = months; days = days; microseconds = micros } = is ∙ rw (me, de, ue) refl in ap Ok whole ∙ sym (held_parts months days micros mf df uf)
+made_of made m d u months days micros is me de ue mf df uf = let whole : made
+    ≡ record { months = months; days = days; microseconds = micros } = is ∙ rw (me, de, ue) refl in
+    ap Ok whole ∙ sym (held_parts months days micros mf df uf)
 
 pub no_months : (months days micros : ℤ) → (FitsSigned w32 months → ⊥) → interval_of months days micros ≡ Err Range
 unfolding interval_of
@@ -121,9 +126,11 @@ unfolding interval_of_length
 held_length nanos d whole = rw (fits_32 _ d, whole) refl
 
 -- an interval that was made of a length
-pub made_of_length : (made : Interval) (d u : ℤ) (nanos : ℕ) → made ≡ record { months = pos 0; days = d; microseconds = u } → d ≡ pos (nanos / 86_400_000_000_000) → u ≡ pos (nanos % 86_400_000_000_000 / 1000)
+pub made_of_length : (made : Interval) (d u : ℤ) (nanos : ℕ) → made ≡ record { months = pos 0; days = d; microseconds = u }
+    → d ≡ pos (nanos / 86_400_000_000_000) → u ≡ pos (nanos % 86_400_000_000_000 / 1000)
     → FitsSigned w32 (pos (nanos / 86_400_000_000_000)) → nanos % 1000 ≡ 0 → Ok made ≡ interval_of_length nanos
-made_of_length made d u nanos is de ue fits whole = let same : made ≡ length_in_days nanos = is ∙ rw (de, ue) refl in ap Ok same ∙ sym (held_length nanos fits whole)
+made_of_length made d u nanos is de ue fits whole = let same : made ≡ length_in_days nanos = is ∙ rw (de, ue) refl in
+    ap Ok same ∙ sym (held_length nanos fits whole)
 
 pub no_length_days : (nanos : ℕ) → (FitsSigned w32 (pos (nanos / 86_400_000_000_000)) → ⊥)
     → interval_of_length nanos ≡ Err Range
@@ -166,7 +173,8 @@ interval_held months days micros t h =
     let second = and_parts (fits_type Days days) (fits_type Micros micros) first.1 in
     let made : Interval = record { months = months; days = days; microseconds = micros } in
     let same : made ≡ t = same_ok made t parts.1 in
-    let range : IsInRange made = record { months = within_32 _ first.0; days = within_32 _ second.0; microseconds = within_64 _ second.1 } in
+    let range : IsInRange made = record { months = within_32 _ first.0; days = within_32 _ second.0; microseconds = within_64 _ second.1 }
+        in
     (subst IsInRange same range, ap triple same)
 
 length_held : (nanos : ℕ) (t : Interval) → interval_of_length nanos ≡ Ok t
@@ -177,8 +185,10 @@ length_held nanos t h =
     let second = then_ok (nanos % 1000 == 0) (Ok (length_in_days nanos)) t Precision first.1 in
     let same = same_ok (length_in_days nanos) t second.1 in
     let whole : nanos % 1000 ≡ 0 = let e = second.0 in grind (arith, nat_tests) in
-    let made : IsInRange (length_in_days nanos) = record { months = record { sfits = omega arith }; days = within_32 _ first.0; microseconds = record { sfits = omega arith } } in
-    let long : IsLength nanos (pos 0) (pos (nanos / 86_400_000_000_000)) (pos (nanos % 86_400_000_000_000 / 1000)) = (refl, omega (arith, ints)) in
+    let made : IsInRange (length_in_days nanos) = record { months = record { sfits = omega arith }; days = within_32 _ first.0;
+        microseconds = record { sfits = omega arith } } in
+    let long : IsLength nanos (pos 0) (pos (nanos / 86_400_000_000_000))
+        (pos (nanos % 86_400_000_000_000 / 1000)) = (refl, omega (arith, ints)) in
     (subst IsInRange same made, subst (λ (u : Interval). IsLength nanos u.months u.days u.microseconds) same long)
 
 abbrev pub IsHeld : Style → Value → Interval → Type 0
@@ -199,7 +209,8 @@ held_by s written_back value t range same =
 
 held_back : (s : Style) → IsWrittenBack s → (value : Value) (t : Interval) → IsWithinBounds value → held value ≡ Ok t
     → IsHeld s value t
-held_back s written_back (Triple months days micros) t w h = let found = interval_held months days micros t h in held_by s written_back (Triple months days micros) t found.0 found.1
+held_back s written_back (Triple months days micros) t w h = let found = interval_held months days micros t h in
+    held_by s written_back (Triple months days micros) t found.0 found.1
 held_back s written_back (Length nanos) t w h = let found = length_held nanos t h in held_by s written_back (Length nanos) t found.0 found.1
 held_back s written_back _ t w h = absurd (let e : Err Kind ≡ Ok t = h in cc)
 

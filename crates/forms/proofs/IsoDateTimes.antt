@@ -1,5 +1,6 @@
 -- Date-times of ISO 8601 as a form: their moments, and that the text of a moment is short and read back.
-use Rattle.std.proofs.Common.{◌≡◌, ℕ, ◌+◌, ◌*◌, ◌/◌, ◌%◌, ◌^◌, ◌<◌, ◌≤◌, ◌==◌, Bool, true, false, List, ◌++◌, codes, length, Result, Ok, Err, refl, sym, ◌∙◌, ap, subst, inl, inr, length-append, arith, ap₂, if◌then◌else◌}
+use Rattle.std.proofs.Common.{◌≡◌, ℕ, ◌+◌, ◌*◌, ◌/◌, ◌%◌, ◌^◌, ◌<◌, ◌≤◌, ◌==◌, Bool, true, false, List, ◌++◌, codes, length, Result, Ok}
+use Rattle.std.proofs.Common.{Err, refl, sym, ◌∙◌, ap, subst, inl, inr, length-append, arith, ap₂, if◌then◌else◌}
 use Rattle.std.specs.Prelude.{ℤ, pos, ◌+ℤ◌, ◌-ℤ◌, ◌*ℤ◌, unsigned_abs}
 use Rattle.std.specs.Int.{is_negative}
 use Rattle.std.proofs.lemmas.Bool.Decides.{nat_tests}
@@ -42,21 +43,26 @@ use Rattle.forms.proofs.Lawful.{then_ok, same_ok, IsHeldBack, lawful_by}
 
 -- ---- reading
 
-clock_same : (hour minute second millis n : ℕ) → n ≡ 1_000_000 * millis → ((hour * 60 + minute) * 60 + second) * 1_000_000_000 + millis * 1_000_000 ≡ (hour * 3600 + minute * 60 + second) * 1_000_000_000 + n
+clock_same : (hour minute second millis n : ℕ) → n ≡ 1_000_000 * millis
+    → ((hour * 60 + minute) * 60 + second) * 1_000_000_000 + millis * 1_000_000 ≡ (hour * 3600 + minute * 60 + second) * 1_000_000_000 + n
 clock_same hour minute second millis n e = omega arith
 
 -- the moment of a civil date-time and its offset
-pub moment_value : (t : DateTime) (m : FixedMoment) → IsMomentOf t m → civil_nanos m.local -ℤ m.offset_seconds *ℤ pos 1_000_000_000 ≡ instant_of t
+pub moment_value : (t : DateTime) (m : FixedMoment) → IsMomentOf t m
+    → civil_nanos m.local -ℤ m.offset_seconds *ℤ pos 1_000_000_000 ≡ instant_of t
 moment_value t m h =
     let parts = civil_nanos-parts m.local in
     let day = h.0 in
     let clock = h.1 in
     let offset = h.2 in
-    let times : time_nanos m.local.time ≡ clock_of t.time = rw (clock.0, clock.1, clock.2) (sym (clock_same t.time.hour t.time.minute t.time.second t.time.millisecond m.local.time.subsec_nanosecond clock.3)) in
+    let times : time_nanos m.local.time ≡ clock_of t.time = rw (clock.0, clock.1, clock.2)
+        (sym (clock_same t.time.hour t.time.minute t.time.second t.time.millisecond m.local.time.subsec_nanosecond clock.3)) in
     omega (arith, ints)
 
-pub is_worth : (t : DateTime) (m : FixedMoment) → IsMoment t → IsMomentOf t m → Worth t (Ok (Instant (civil_nanos m.local -ℤ m.offset_seconds *ℤ pos 1_000_000_000)))
-is_worth t m real of = inl (record { day = real.0; clock = real.2; offset = real.3 }, real.1, ap (λ (z : ℤ). Ok (Instant z)) (moment_value t m of))
+pub is_worth : (t : DateTime) (m : FixedMoment) → IsMoment t → IsMomentOf t m
+    → Worth t (Ok (Instant (civil_nanos m.local -ℤ m.offset_seconds *ℤ pos 1_000_000_000)))
+is_worth t m real of = inl (record { day = real.0; clock = real.2; offset = real.3 }, real.1,
+    ap (λ (z : ℤ). Ok (Instant z)) (moment_value t m of))
 
 pub is_out : (t : DateTime) → IsReal t → (IsMoment t → ⊥) → Worth t (Err Range)
 is_out t real isnt = inr (inr (real, (λ day. isnt (real.day, day, real.clock, real.offset)), refl))
@@ -75,12 +81,16 @@ minus_short false = omega arith
 
 year_short : (year : ℤ) → unsigned_abs year ≤ 9999 → length (year_text year) ≤ 5
 unfolding year_text
-year_short year h = joined (minus (is_negative year)) (padded_digits 4 (unsigned_abs year)) 1 4 (minus_short (is_negative year)) (small 4 (unsigned_abs year) (omega arith) (omega arith))
+year_short year h = joined (minus (is_negative year)) (padded_digits 4 (unsigned_abs year)) 1 4 (minus_short (is_negative year))
+    (small 4 (unsigned_abs year) (omega arith) (omega arith))
 
-date_short : (year : ℤ) (month day : ℕ) → unsigned_abs year ≤ 9999 → month < 10 ^ 4 → day < 10 ^ 4 → length (date_text (YMD year month day)) ≤ 15
+date_short : (year : ℤ) (month day : ℕ) → unsigned_abs year ≤ 9999 → month < 10 ^ 4 → day < 10 ^ 4
+    → length (date_text (YMD year month day)) ≤ 15
 unfolding date_text
 date_short year month day y m d =
-    joined (year_text year) _ 5 10 (year_short year y) (joined (codes "-") _ 1 9 (omega arith) (joined (padded_digits 2 month) _ 4 5 (small 2 month (omega arith) m) (joined (codes "-") (padded_digits 2 day) 1 4 (omega arith) (small 2 day (omega arith) d))))
+    joined (year_text year) _ 5 10 (year_short year y) (joined (codes "-") _ 1 9 (omega arith)
+        (joined (padded_digits 2 month) _ 4 5 (small 2 month (omega arith) m)
+        (joined (codes "-") (padded_digits 2 day) 1 4 (omega arith) (small 2 day (omega arith) d))))
 
 pub short_date : (c : CivilDate) → length (date_text (date_of c)) ≤ 28
 short_date c =
@@ -125,12 +135,14 @@ clock_within : (hour minute second subsec : ℕ)
 clock_within hour minute second subsec = omega arith
 
 -- a civil date-time is at its moment
-at_civil : AreCalendarDates → (c : CivilDateTime) (nanos : ℤ) → civil_nanos c ≡ nanos → IsAt nanos (utc c) (c.time.subsec_nanosecond % 1_000_000)
+at_civil : AreCalendarDates → (c : CivilDateTime) (nanos : ℤ) → civil_nanos c ≡ nanos
+    → IsAt nanos (utc c) (c.time.subsec_nanosecond % 1_000_000)
 at_civil laws c nanos same =
     let year : IsYear c.date.year = c.date.year_in in
     let parts = civil_nanos-parts c in
     let day = laws.day c.date in
-    let times : clock_of (utc c).time + c.time.subsec_nanosecond % 1_000_000 ≡ time_nanos c.time = clock_within c.time.hour c.time.minute c.time.second c.time.subsec_nanosecond in
+    let times : clock_of (utc c).time + c.time.subsec_nanosecond % 1_000_000
+        ≡ time_nanos c.time = clock_within c.time.hour c.time.minute c.time.second c.time.subsec_nanosecond in
     record {
       year = c.date.year;
       month = c.date.month;
@@ -151,7 +163,8 @@ pub record HasCivilTime (nanos : ℤ) (t : DateTime) (part : ℕ) : Type 0 where
   pub utc_is : utc civil ≡ t
   pub part_is : civil.time.subsec_nanosecond % 1_000_000 ≡ part
 
-same_utc : (t : DateTime) (d : Date) (millis : ℕ) (hours minutes : ℤ) → d ≡ t.date → millis ≡ t.time.millisecond → hours ≡ t.time.tz_offset_hours
+same_utc : (t : DateTime) (d : Date) (millis : ℕ) (hours minutes : ℤ) → d ≡ t.date → millis ≡ t.time.millisecond
+    → hours ≡ t.time.tz_offset_hours
     → minutes ≡ t.time.tz_offset_minutes
     → (record {
       date = d;
@@ -202,7 +215,8 @@ civil_at laws nanos t part at =
     record { civil = c; same = sym whole ∙ (ap₂ (λ (z : ℤ) (n : ℕ). z +ℤ pos n) moment rest ∙ at.same); utc_is = is; part_is = rest }
 
 -- what is held by the civil date-time is held
-pub from_civil : AreCalendarDates → (nanos : ℤ) (held : Result DateTime Cause) → HoldsCivil (Instant nanos) held → Holds (Instant nanos) held
+pub from_civil : AreCalendarDates → (nanos : ℤ) (held : Result DateTime Cause) → HoldsCivil (Instant nanos) held
+    → Holds (Instant nanos) held
 unfolding in_millis
 from_civil laws nanos held (inl (c, same, is)) = inl (utc c, c.time.subsec_nanosecond % 1_000_000, at_civil laws c nanos same, is)
 from_civil laws nanos held (inr (isnt, is)) =
@@ -262,10 +276,12 @@ utc_value laws c whole =
     let parts = civil_nanos-parts c in
     let day = laws.day c.date in
     let millis : c.time.subsec_nanosecond ≡ 1_000_000 * (c.time.subsec_nanosecond / 1_000_000) = omega arith in
-    let times : clock_of (utc c).time ≡ time_nanos c.time = clock_same c.time.hour c.time.minute c.time.second (c.time.subsec_nanosecond / 1_000_000) c.time.subsec_nanosecond millis in
+    let times : clock_of (utc c).time ≡ time_nanos c.time = clock_same c.time.hour c.time.minute c.time.second
+        (c.time.subsec_nanosecond / 1_000_000) c.time.subsec_nanosecond millis in
     omega (arith, ints)
 
-held_back : AreCalendarDates → ((t : DateTime) → IsDateTimeInRange t → IsDateTime (date_time_text t) t) → (value : Value) (t : DateTime) → IsWithinBounds value → Holds value (Ok t) → IsHeldBack IsDateTime Worth Holds (date_time_text t) value t
+held_back : AreCalendarDates → ((t : DateTime) → IsDateTimeInRange t → IsDateTime (date_time_text t) t) → (value : Value) (t : DateTime)
+    → IsWithinBounds value → Holds value (Ok t) → IsHeldBack IsDateTime Worth Holds (date_time_text t) value t
 held_back laws spelled (Instant nanos) t w (inl (u, part, at, is)) =
     let h = to_civil laws nanos (Ok t) u part at is in
     let found = in_millis_held h.0 t (sym h.2) in
@@ -286,22 +302,29 @@ held_back laws spelled (Clock nanos) t w h = absurd (let e : Ok t ≡ Err Kind =
 held_back laws spelled (Triple months days micros) t w h = absurd (let e : Ok t ≡ Err Kind = h in cc)
 held_back laws spelled (Length nanos) t w h = absurd (let e : Ok t ≡ Err Kind = h in cc)
 
-instant_within : (day offset : ℤ) (clock : ℕ) → IsEpochDay day → unsigned_abs offset < 86_400 → clock < 86_400_000_000_000 → IsWithinBounds (Instant ((day *ℤ pos 86_400_000_000_000 +ℤ pos clock) -ℤ offset *ℤ pos 1_000_000_000))
+instant_within : (day offset : ℤ) (clock : ℕ) → IsEpochDay day → unsigned_abs offset < 86_400 → clock < 86_400_000_000_000
+    → IsWithinBounds (Instant ((day *ℤ pos 86_400_000_000_000 +ℤ pos clock) -ℤ offset *ℤ pos 1_000_000_000))
 instant_within day offset clock d o c = (omega (arith, ints), omega (arith, ints))
 
-clock_bound : (hour minute second millis : ℕ) → hour < 24 → minute < 60 → second < 60 → millis < 1000 → ((hour * 60 + minute) * 60 + second) * 1_000_000_000 + millis * 1_000_000 < 86_400_000_000_000
+clock_bound : (hour minute second millis : ℕ) → hour < 24 → minute < 60 → second < 60 → millis < 1000
+    → ((hour * 60 + minute) * 60 + second) * 1_000_000_000 + millis * 1_000_000 < 86_400_000_000_000
 clock_bound hour minute second millis h m s f = omega arith
 
 real_within : AreCalendarDates → (t : DateTime) → IsReal t → IsCivilDay (day_of t.date) → IsWithinBounds (Instant (instant_of t))
-real_within laws t real day = instant_within (day_of t.date) (offset_of t.time) (clock_of t.time) (civil_bounds laws (day_of t.date) day) real.offset (clock_bound t.time.hour t.time.minute t.time.second t.time.millisecond real.clock.0 real.clock.1 real.clock.2 real.clock.3)
+real_within laws t real day = instant_within (day_of t.date) (offset_of t.time) (clock_of t.time)
+    (civil_bounds laws (day_of t.date) day) real.offset (clock_bound t.time.hour t.time.minute t.time.second t.time.millisecond real.clock.0
+    real.clock.1 real.clock.2 real.clock.3)
 
-pub iso_date_times : ((text : List ℕ) (a b : DateTime) → IsDateTime text a → IsDateTime text b → a ≡ b) → ((t : DateTime) → IsDateTimeInRange t → IsDateTime (date_time_text t) t) → AreCalendarDates → Lawful IsoDateTime
+pub iso_date_times : ((text : List ℕ) (a b : DateTime) → IsDateTime text a → IsDateTime text b → a ≡ b)
+    → ((t : DateTime) → IsDateTimeInRange t → IsDateTime (date_time_text t) t) → AreCalendarDates → Lawful IsoDateTime
 iso_date_times one spelled laws =
-    lawful_by IsoDateTime IsDateTime Worth Holds date_time_text (record { reads = λ text a h. h; read = λ text a h. h; writes = λ value a h. h; written = λ value a h. h })
+    lawful_by IsoDateTime IsDateTime Worth Holds date_time_text
+        (record { reads = λ text a h. h; read = λ text a h. h; writes = λ value a h. h; written = λ value a h. h })
     (record {
       one = one;
       one_worth = λ t a b h k. one_judged (IsReal t) (IsCivilDay (day_of t.date)) (Instant (instant_of t)) a b h k;
       one_held = one_held laws;
-      within = λ text t value spelled h. judged_within (IsReal t) (IsCivilDay (day_of t.date)) (Instant (instant_of t)) value (real_within laws t) h;
+      within = λ text t value spelled h. judged_within (IsReal t) (IsCivilDay (day_of t.date)) (Instant (instant_of t)) value
+          (real_within laws t) h;
       back = held_back laws spelled;
     })

@@ -84,7 +84,8 @@ one_held laws (Day day) a b h k =
     c.is ∙ (ap Ok same ∙ sym d.is)
 one_held laws _ a b h k = h ∙ sym k
 
-held_back : AreCalendarDates → ((date : Date) → IsDateInRange date → IsDate (date_text date) date) → (value : Value) (date : Date) → IsWithinBounds value → Holds value (Ok date) → IsHeldBack IsDate Worth Holds (date_text date) value date
+held_back : AreCalendarDates → ((date : Date) → IsDateInRange date → IsDate (date_text date) date) → (value : Value) (date : Date)
+    → IsWithinBounds value → Holds value (Ok date) → IsHeldBack IsDate Worth Holds (date_text date) value date
 held_back laws spelled (Day day) date w h =
     let c = civil_held laws day (Ok date) h in
     let is : date ≡ date_of c.civil = same_ok date (date_of c.civil) c.is in
@@ -101,13 +102,16 @@ held_back laws spelled (Day day) date w h =
     subst P (sym is) whole
 held_back laws spelled _ date w h = absurd (let e : Ok date ≡ Err Kind = h in cc)
 
-pub iso_dates : ((text : List ℕ) (a b : Date) → IsDate text a → IsDate text b → a ≡ b) → ((date : Date) → IsDateInRange date → IsDate (date_text date) date) → AreCalendarDates → Lawful IsoDate
+pub iso_dates : ((text : List ℕ) (a b : Date) → IsDate text a → IsDate text b → a ≡ b)
+    → ((date : Date) → IsDateInRange date → IsDate (date_text date) date) → AreCalendarDates → Lawful IsoDate
 iso_dates one spelled laws =
-    lawful_by IsoDate IsDate Worth Holds date_text (record { reads = λ text a h. h; read = λ text a h. h; writes = λ value a h. h; written = λ value a h. h })
+    lawful_by IsoDate IsDate Worth Holds date_text (record { reads = λ text a h. h; read = λ text a h. h; writes = λ value a h. h;
+        written = λ value a h. h })
     (record {
       one = one;
       one_worth = λ date a b h k. one_judged (Exists date) (IsCivilDay (day_of date)) (Day (day_of date)) a b h k;
       one_held = one_held laws;
-      within = λ text date value spelled h. judged_within (Exists date) (IsCivilDay (day_of date)) (Day (day_of date)) value (λ real day. civil_bounds laws (day_of date) day) h;
+      within = λ text date value spelled h. judged_within (Exists date) (IsCivilDay (day_of date)) (Day (day_of date)) value
+          (λ real day. civil_bounds laws (day_of date) day) h;
       back = held_back laws spelled;
     })

@@ -1,5 +1,6 @@
 -- Durations of ISO 8601 as a form: the triple of a duration, the duration of a value, and that it is read back.
-use Rattle.std.proofs.Common.{◌≡◌, ◌⊎◌, ℕ, ◌+◌, ◌*◌, ◌/◌, ◌%◌, ◌^◌, ◌<◌, ◌≤◌, ◌==◌, ◌&&◌, Bool, true, false, List, codes, Ok, Err, refl, sym, ◌∙◌, ap, subst, inl, inr, arith}
+use Rattle.std.proofs.Common.{◌≡◌, ◌⊎◌, ℕ, ◌+◌, ◌*◌, ◌/◌, ◌%◌, ◌^◌, ◌<◌, ◌≤◌, ◌==◌, ◌&&◌, Bool, true, false, List, codes, Ok, Err, refl}
+use Rattle.std.proofs.Common.{sym, ◌∙◌, ap, subst, inl, inr, arith}
 use Rattle.std.specs.Prelude.{pos, negsuc, ◌+ℤ◌, ◌*ℤ◌, nat_lt}
 use Rattle.std.proofs.lemmas.Bool.{and_parts, false_from_ne_true, ltb-true, lt-ltb, le-ltb}
 use Rattle.std.proofs.lemmas.Bool.Decides.{nat_tests}
@@ -38,7 +39,8 @@ unfolding triple_of
 triple_within months days micros m d value h =
     let parts = then_ok (nat_lt micros (2 ^ 63)) (Ok (Triple (pos months) (pos days) (pos micros))) value Range h in
     let fits = ltb-true micros (2 ^ 63) parts.0 in
-    subst IsWithinBounds (same_ok (Triple (pos months) (pos days) (pos micros)) value parts.1) (record { sfits = m }, (record { sfits = d }, record { sfits = fits }))
+    subst IsWithinBounds (same_ok (Triple (pos months) (pos days) (pos micros)) value parts.1)
+        (record { sfits = m }, (record { sfits = d }, record { sfits = fits }))
 
 -- ---- what a text spells has counts of 32 bits
 
@@ -78,7 +80,8 @@ all_three a b c h = let one = and_parts a (b && c) h in (one.0, and_parts b c on
 pub counts_fit : (months days micros : ℕ) → months / 12 < 2 ^ 32 → days < 2 ^ 32 → micros / 3_600_000_000 < 2 ^ 32
     → micros % 1000 ≡ 0 → counts_of months days micros ≡ Ok (duration_of months days (micros / 1000))
 unfolding counts_of
-counts_fit months days micros y d h whole = rw (lt-ltb (months / 12) (2 ^ 32) y, lt-ltb days (2 ^ 32) d, lt-ltb (micros / 3_600_000_000) (2 ^ 32) h, whole) refl
+counts_fit months days micros y d h whole = rw (lt-ltb (months / 12) (2 ^ 32) y, lt-ltb days (2 ^ 32) d,
+    lt-ltb (micros / 3_600_000_000) (2 ^ 32) h, whole) refl
 
 pub counts_part : (months days micros : ℕ) → months / 12 < 2 ^ 32 → days < 2 ^ 32 → micros / 3_600_000_000 < 2 ^ 32
     → (micros % 1000 ≡ 0 → ⊥) → counts_of months days micros ≡ Err Precision
@@ -106,7 +109,8 @@ length_fits nanos d whole = rw (lt-ltb (nanos / 86_400_000_000_000) (2 ^ 32) d, 
 pub length_part : (nanos : ℕ) → nanos / 86_400_000_000_000 < 2 ^ 32 → (nanos % 1_000_000 ≡ 0 → ⊥)
     → held_length nanos ≡ Err Precision
 unfolding held_length
-length_part nanos d isnt = let rest : (nanos % 1_000_000 == 0) ≡ false = grind (arith, nat_tests) in rw (lt-ltb (nanos / 86_400_000_000_000) (2 ^ 32) d, rest) refl
+length_part nanos d isnt = let rest : (nanos % 1_000_000 == 0) ≡ false = grind (arith, nat_tests) in
+    rw (lt-ltb (nanos / 86_400_000_000_000) (2 ^ 32) d, rest) refl
 
 pub length_beyond : (nanos : ℕ) → 2 ^ 32 ≤ nanos / 86_400_000_000_000 → held_length nanos ≡ Err Range
 unfolding held_length
@@ -149,7 +153,8 @@ counted_worth : (months days millis : ℕ) → millis * 1000 < 2 ^ 63
     → worth (duration_of months days millis) ≡ Ok (Triple (pos months) (pos days) (pos (millis * 1000)))
 counted_worth months days millis h =
     let m : 12 * (months / 12) + months % 12 ≡ months = omega arith in
-    let same : micros_of (millis / 3_600_000) (millis / 60_000 % 60) (millis / 1000 % 60) (millis % 1000) ≡ millis * 1000 = parts_back millis in
+    let same : micros_of (millis / 3_600_000) (millis / 60_000 % 60) (millis / 1000 % 60) (millis % 1000)
+        ≡ millis * 1000 = parts_back millis in
     rw (m, same) (triple_fits months days (millis * 1000) h)
 
 abbrev pub AreSpelled : Type 0
@@ -166,8 +171,10 @@ back_of spelled value months days micros d fits h same =
     let whole = h.whole in
     let back : micros / 1000 * 1000 ≡ micros = omega arith in
     let made : Duration = duration_of months days (micros / 1000) in
-    let valued : worth made ≡ Ok (Triple (pos months) (pos days) (pos micros)) = counted_worth months days (micros / 1000) (omega arith) ∙ ap (λ (n : ℕ). Ok (Triple (pos months) (pos days) (pos n))) back in
-    let again : held (Triple (pos months) (pos days) (pos micros)) ≡ Ok made = counts_fit months days micros h.years h.days_fit h.hours h.whole in
+    let valued : worth made ≡ Ok (Triple (pos months) (pos days) (pos micros)) = counted_worth months days (micros / 1000) (omega arith)
+        ∙ ap (λ (n : ℕ). Ok (Triple (pos months) (pos days) (pos n))) back in
+    let again : held (Triple (pos months) (pos days) (pos micros))
+        ≡ Ok made = counts_fit months days micros h.years h.days_fit h.hours h.whole in
     let whole_back : IsBack value made = record {
       meaning = made;
       back = Triple (pos months) (pos days) (pos micros);
@@ -179,23 +186,28 @@ back_of spelled value months days micros d fits h same =
     subst (IsBack value) h.is whole_back
 
 length_held : (nanos : ℕ) (d : Duration) → held_length nanos ≡ Ok d
-    → (nanos / 86_400_000_000_000 < 2 ^ 32) × ((nanos % 1_000_000 ≡ 0) × (duration_of 0 (nanos / 86_400_000_000_000) (nanos % 86_400_000_000_000 / 1_000_000) ≡ d))
+    → (nanos / 86_400_000_000_000 < 2 ^ 32) × ((nanos % 1_000_000 ≡ 0)
+        × (duration_of 0 (nanos / 86_400_000_000_000) (nanos % 86_400_000_000_000 / 1_000_000) ≡ d))
 unfolding held_length
 length_held nanos d h =
     let first = then_ok (nat_lt (nanos / 86_400_000_000_000) (2 ^ 32)) _ d Range h in
-    let second = then_ok (nanos % 1_000_000 == 0) (Ok (duration_of 0 (nanos / 86_400_000_000_000) (nanos % 86_400_000_000_000 / 1_000_000))) d Precision first.1 in
+    let second = then_ok (nanos % 1_000_000 == 0) (Ok (duration_of 0 (nanos / 86_400_000_000_000) (nanos % 86_400_000_000_000 / 1_000_000)))
+        d Precision first.1 in
     let whole : nanos % 1_000_000 ≡ 0 = let e = second.0 in grind (arith, nat_tests) in
-    (ltb-true (nanos / 86_400_000_000_000) (2 ^ 32) first.0, (whole, same_ok (duration_of 0 (nanos / 86_400_000_000_000) (nanos % 86_400_000_000_000 / 1_000_000)) d second.1))
+    (ltb-true (nanos / 86_400_000_000_000) (2 ^ 32) first.0, (whole,
+        same_ok (duration_of 0 (nanos / 86_400_000_000_000) (nanos % 86_400_000_000_000 / 1_000_000)) d second.1))
 
 thousandth : (n : ℕ) → n * 1000 / 1000 ≡ n
 thousandth n = omega arith
 
 length_parts : (nanos : ℕ) → nanos % 1_000_000 ≡ 0
-    → (pos (nanos / 86_400_000_000_000) *ℤ pos 86_400_000_000 +ℤ pos (nanos % 86_400_000_000_000 / 1_000_000 * 1000)) *ℤ pos 1000 ≡ pos nanos
+    → (pos (nanos / 86_400_000_000_000) *ℤ pos 86_400_000_000 +ℤ pos (nanos % 86_400_000_000_000 / 1_000_000 * 1000)) *ℤ pos 1000
+        ≡ pos nanos
 length_parts nanos whole = omega (arith, ints)
 
 held_back : AreSpelled → (value : Value) (d : Duration) → IsWithinBounds value → held value ≡ Ok d → IsBack value d
-held_back spelled (Triple (pos months) (pos days) (pos micros)) d w h = back_of spelled (Triple (pos months) (pos days) (pos micros)) months days micros d w.1.1.sfits (counts_held months days micros d h) refl
+held_back spelled (Triple (pos months) (pos days) (pos micros)) d w h =
+    back_of spelled (Triple (pos months) (pos days) (pos micros)) months days micros d w.1.1.sfits (counts_held months days micros d h) refl
 held_back spelled (Triple (pos months) (pos days) (negsuc micros)) d w h = absurd (let e : Err Range ≡ Ok d = h in cc)
 held_back spelled (Triple (pos months) (negsuc days) micros) d w h = absurd (let e : Err Range ≡ Ok d = h in cc)
 held_back spelled (Triple (negsuc months) days micros) d w h = absurd (let e : Err Range ≡ Ok d = h in cc)
@@ -218,7 +230,8 @@ held_back spelled _ d w h = absurd (let e : Err Kind ≡ Ok d = h in cc)
 pub iso_durations : ((text : List ℕ) (a b : Duration) → IsDuration text a → IsDuration text b → a ≡ b) → AreSpelled
     → Lawful IsoDuration
 iso_durations one spelled =
-    lawful_by IsoDuration IsDuration (Is worth) (Is held) duration_text (record { reads = λ text a h. h; read = λ text a h. h; writes = λ value a h. h; written = λ value a h. h })
+    lawful_by IsoDuration IsDuration (Is worth) (Is held) duration_text
+        (record { reads = λ text a h. h; read = λ text a h. h; writes = λ value a h. h; written = λ value a h. h })
     (record {
       one = one;
       one_worth = one_image worth;

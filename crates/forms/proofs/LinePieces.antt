@@ -1,5 +1,6 @@
 -- Lemmas on lines whose bytes come in pieces.
-use Rattle.std.proofs.Common.{◌≡◌, ℕ, ◌<◌, ◌==◌, Bool, true, false, List, [], ◌∷◌, ◌++◌, cond, length, codes, refl, ◌∙◌, ap, arith, append_assoc}
+use Rattle.std.proofs.Common.{◌≡◌, ℕ, ◌<◌, ◌==◌, Bool, true, false, List, [], ◌∷◌, ◌++◌, cond, length, codes, refl, ◌∙◌, ap, arith}
+use Rattle.std.proofs.Common.{append_assoc}
 use Rattle.std.specs.List.{onto_first}
 use Rattle.forms.specs.Lines.{lines, onto_line, whole_lines}
 use Rattle.forms.specs.inside.Pieces.{NoFeed, AreWhole}
@@ -19,7 +20,8 @@ feed_whole [] rest h = refl
 feed_whole (byte ∷ line) rest h = rw (h.0, feed_whole line rest h.1) refl
 
 -- the first of whole lines in front of a rest
-first_ended : (line piece more front rest : List ℕ) → piece ≡ line ++ codes "\n" → front ≡ piece ++ more → front ++ rest ≡ line ++ (codes "\n" ++ (more ++ rest))
+first_ended : (line piece more front rest : List ℕ) → piece ≡ line ++ codes "\n" → front ≡ piece ++ more
+    → front ++ rest ≡ line ++ (codes "\n" ++ (more ++ rest))
 first_ended line piece more front rest ended joined =
     ap (λ (l : List ℕ). l ++ rest) (joined ∙ ap (λ (l : List ℕ). l ++ more) ended)
     ∙ (ap (λ (l : List ℕ). l ++ rest) (append_assoc line (codes "\n") more) ∙ append_assoc line (codes "\n" ++ more) rest)
@@ -30,7 +32,8 @@ lines_behind (line ∷ whole) front rest h =
     ap lines (first_ended line h.0 h.1 front rest h.2.1 h.4)
     ∙ (feed_line line (h.1 ++ rest) h.2.0 ∙ ap (λ (l : List (List ℕ)). line ∷ l) (lines_behind whole h.1 rest h.3))
 
-pub whole_lines_behind : (whole : List (List ℕ)) (front rest : List ℕ) → AreWhole whole front → whole_lines (front ++ rest) ≡ whole ++ whole_lines rest
+pub whole_lines_behind : (whole : List (List ℕ)) (front rest : List ℕ) → AreWhole whole front
+    → whole_lines (front ++ rest) ≡ whole ++ whole_lines rest
 whole_lines_behind [] front rest h = rw h refl
 whole_lines_behind (line ∷ whole) front rest h =
     ap whole_lines (first_ended line h.0 h.1 front rest h.2.1 h.4)

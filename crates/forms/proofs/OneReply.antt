@@ -24,9 +24,11 @@ asked : (line : List ℕ) (from to : Form) (text : List ℕ) → IsRequest line 
 asked line from to text h =
     let parts = by_tail line from to text h in
     let tail = tail_behind text parts.tail parts.rest in
-    record { rest = tail.0; first = parts.joined ∙ ap (λ (l : List ℕ). name_of from ++ (codes " " ++ (name_of to ++ l))) tail.1; end = tail.2 }
+    record { rest = tail.0; first = parts.joined ∙ ap (λ (l : List ℕ). name_of from ++ (codes " " ++ (name_of to ++ l))) tail.1;
+        end = tail.2 }
 
-one_request : (line : List ℕ) (f g : Form) (s : List ℕ) (h k : Form) (t : List ℕ) → IsRequest line f g s → IsRequest line h k t → (f ≡ h) × (g ≡ k) × (s ≡ t)
+one_request : (line : List ℕ) (f g : Form) (s : List ℕ) (h k : Form) (t : List ℕ) → IsRequest line f g s → IsRequest line h k t → (f ≡ h)
+    × (g ≡ k) × (s ≡ t)
 one_request line f g s h k t a b =
     let p = asked line f g s a in
     let q = asked line h k t b in
@@ -39,8 +41,10 @@ one_request line f g s h k t a b =
 abbrev pub OneAnswer : Type 0
 OneAnswer = (from to : Form) (text : List ℕ) (a b : Result (List ℕ) Cause) → IsAnswer from to text a → IsAnswer from to text b → a ≡ b
 
-pub one_answer : ((form : Form) → Lawful form) → ((from to : Form) (text : List ℕ) (answer : Result (List ℕ) Cause) → IsAnswer from to text answer → Turns from to text answer) → OneAnswer
-one_answer lawful turns from to text a b h k = one_turn from to (lawful from) (lawful to) text a b (turns from to text a h) (turns from to text b k)
+pub one_answer : ((form : Form) → Lawful form) → ((from to : Form) (text : List ℕ) (answer : Result (List ℕ) Cause)
+    → IsAnswer from to text answer → Turns from to text answer) → OneAnswer
+one_answer lawful turns from to text a b h k = one_turn from to (lawful from) (lawful to) text a b (turns from to text a h)
+    (turns from to text b k)
 
 pub one_reply : OneAnswer → (line a b : List ℕ) → IsReply line a → IsReply line b → a ≡ b
 one_reply one line a b (inl h) (inl k) = h.1 ∙ sym k.1

@@ -1,5 +1,7 @@
 -- The lines of the sample: each is a line of ASCII, and the generator's numbers go on.
-use Rattle.std.proofs.Common.{◌≡◌, ℕ, zero, suc, ◌+◌, ◌*◌, ◌/◌, ◌%◌, ◌^◌, ◌<◌, ◌&&◌, ◌==◌, not, Bool, true, false, cond, IsTrue, List, [], ◌∷◌, ◌++◌, codes, ℤ, pos, negsuc, neg_ℤ, ◌≤ℤ◌, FitsSigned, w32, w64, ◌-ℤ◌, append_assoc, refl, sym, ◌∙◌, ap, subst, arith, add-one}
+use Rattle.std.proofs.Common.{◌≡◌, ℕ, zero, suc, ◌+◌, ◌*◌, ◌/◌, ◌%◌, ◌^◌, ◌<◌, ◌&&◌, ◌==◌, not, Bool, true, false, cond, IsTrue, List, []}
+use Rattle.std.proofs.Common.{◌∷◌, ◌++◌, codes, ℤ, pos, negsuc, neg_ℤ, ◌≤ℤ◌, FitsSigned, w32, w64, ◌-ℤ◌, append_assoc, refl, sym, ◌∙◌, ap}
+use Rattle.std.proofs.Common.{subst, arith, add-one}
 use Rattle.std.proofs.lemmas.Int.{ints}
 use Rattle.std.proofs.lemmas.List.Folds.{list_all-append}
 use Rattle.std.specs.List.{list_all}
@@ -12,7 +14,8 @@ use Rattle.pg_interval_2.specs.declared.interval.Interval.{Interval}
 use Rattle.pg_interval_2.specs.declared.style.Style.{Style}
 use Rattle.pg_interval_2.specs.declared.style.Style.TheVariants as style
 use Rattle.forms.specs.Names.{name_of}
-use Rattle.forms.specs.Sample.{drawn, drawn_after, form_of, interval_of_draws, line_of, mark_of, sample_interval, sample_lines, style_from, style_to}
+use Rattle.forms.specs.Sample.{drawn, drawn_after, form_of, interval_of_draws, line_of, mark_of, sample_interval, sample_lines, style_from}
+use Rattle.forms.specs.Sample.{style_to}
 use Rattle.forms.specs.inside.Pieces.{NoFeed, IsEnded, AreWhole}
 
 -- ---- the generator
@@ -36,7 +39,8 @@ pub record AreDrawn (index a b c : ℕ) : Type 0 where
   pub second : b ≡ drawn (3 * index + 2)
   pub third : c ≡ drawn (3 * index + 3)
 
-pub are_drawn : (index x a b c : ℕ) → x ≡ drawn (3 * index) → a ≡ drawn_after x → b ≡ drawn_after a → c ≡ drawn_after b → AreDrawn index a b c
+pub are_drawn : (index x a b c : ℕ) → x ≡ drawn (3 * index) → a ≡ drawn_after x → b ≡ drawn_after a → c ≡ drawn_after b
+    → AreDrawn index a b c
 are_drawn index x a b c is ha hb hc =
     let first : a ≡ drawn (3 * index + 1) = ha ∙ next_drawn (3 * index) (3 * index + 1) x refl is in
     let second : b ≡ drawn (3 * index + 2) = hb ∙ next_drawn (3 * index + 1) (3 * index + 2) a (omega arith) first in
@@ -71,7 +75,8 @@ unfolding interval_of_draws
 interval_in_range a b c small = record { months = months_fit (a / 2 ^ 33); days = days_fit (b / 2 ^ 33); microseconds = micros_fit c small }
 
 pub sample_in_range : (index : ℕ) → IsInRange (sample_interval index)
-sample_in_range index = interval_in_range (drawn (3 * index + 1)) (drawn (3 * index + 2)) (drawn (3 * index + 3)) (drawn_small (3 * index + 3))
+sample_in_range index = interval_in_range (drawn (3 * index + 1)) (drawn (3 * index + 2)) (drawn (3 * index + 3))
+    (drawn_small (3 * index + 3))
 
 -- ---- tests that each byte of a line passes
 
@@ -83,14 +88,17 @@ each_mark p h true = h
 each_mark p h false = refl
 
 -- what holds of names, the mark and a space, and of a written text, holds of a line
-pub each_of_line : (p : ℕ → Bool) → ((s : Style) → list_all p (name_of (form_of s)) ≡ true) → list_all p (codes " ") ≡ true → list_all p (codes "x") ≡ true
+pub each_of_line : (p : ℕ → Bool) → ((s : Style) → list_all p (name_of (form_of s)) ≡ true) → list_all p (codes " ") ≡ true
+    → list_all p (codes "x") ≡ true
     → (index : ℕ) (t : Interval) → list_all p (style_text (style_from index) t) ≡ true → list_all p (line_of index t) ≡ true
 unfolding line_of mark_of
 each_of_line p names space mark index t text =
     let end : List ℕ = if index % 10 == 9 then codes "x" else [] in
     let marked : list_all p end ≡ true = each_mark p mark (index % 10 == 9) in
-    let body = each p (codes " ") (style_text (style_from index) t ++ end) space (each p (style_text (style_from index) t) end text marked) in
-    let second = each p (name_of (form_of (style_to index))) (codes " " ++ (style_text (style_from index) t ++ end)) (names (style_to index)) body in
+    let body = each p (codes " ") (style_text (style_from index) t ++ end) space
+        (each p (style_text (style_from index) t) end text marked) in
+    let second = each p (name_of (form_of (style_to index))) (codes " " ++ (style_text (style_from index) t ++ end))
+        (names (style_to index)) body in
     let rest : List ℕ = name_of (form_of (style_to index)) ++ (codes " " ++ (style_text (style_from index) t ++ end)) in
     each p (name_of (form_of (style_from index))) (codes " " ++ rest) (names (style_from index)) (each p (codes " ") rest space second)
 
@@ -118,14 +126,19 @@ OneLineEach = (s : Style) (t : Interval) → IsInRange t → IsTrue (list_all is
 line_no_feed : OneLineEach → (index : ℕ) → NoFeed (line_of index (sample_interval index))
 line_no_feed one_line index =
     let t : Interval = sample_interval index in
-    no_feed_each (line_of index t) (each_of_line is_no_feed names_no_feed refl refl index t (one_line (style_from index) t (sample_in_range index)))
+    no_feed_each (line_of index t) (each_of_line is_no_feed names_no_feed refl refl index t
+        (one_line (style_from index) t (sample_in_range index)))
 
 -- one more line
-pub whole_more : OneLineEach → (index : ℕ) (bytes line : List ℕ) (t : Interval) → AreWhole (sample_lines index) bytes → t ≡ sample_interval index → line ≡ line_of index t ++ codes "\n" → AreWhole (sample_lines (index + 1)) (bytes ++ line)
+pub whole_more : OneLineEach → (index : ℕ) (bytes line : List ℕ) (t : Interval) → AreWhole (sample_lines index) bytes
+    → t ≡ sample_interval index → line ≡ line_of index t ++ codes "\n" → AreWhole (sample_lines (index + 1)) (bytes ++ line)
 whole_more one_line index bytes line t whole is ended =
-    let next : sample_lines (index + 1) ≡ sample_lines index ++ line_of index (sample_interval index) ∷ [] = ap sample_lines (add-one index) in
-    let piece : IsEnded line (line_of index (sample_interval index)) = (line_no_feed one_line index, ended ∙ ap (λ (u : Interval). line_of index u ++ codes "\n") is) in
-    subst (λ (lines : List (List ℕ)). AreWhole lines (bytes ++ line)) (sym next) (join_push IsEnded bytes line (sample_lines index) (line_of index (sample_interval index)) whole piece)
+    let next : sample_lines (index + 1) ≡ sample_lines index ++ line_of index (sample_interval index) ∷ [] = ap sample_lines
+        (add-one index) in
+    let piece : IsEnded line (line_of index (sample_interval index))
+        = (line_no_feed one_line index, ended ∙ ap (λ (u : Interval). line_of index u ++ codes "\n") is) in
+    subst (λ (lines : List (List ℕ)). AreWhole lines (bytes ++ line)) (sym next)
+        (join_push IsEnded bytes line (sample_lines index) (line_of index (sample_interval index)) whole piece)
 
 -- ---- what is pushed
 
@@ -136,13 +149,16 @@ joined_on a b c x = append_assoc a (b ++ c) x ∙ ap (λ (l : List ℕ). a ++ l)
 pub pushed : (before after a b rest : List ℕ) → after ≡ before ++ (a ++ b) → after ++ rest ≡ before ++ (a ++ (b ++ rest))
 pushed before after a b rest h = ap (λ (l : List ℕ). l ++ rest) h ∙ joined_on before a b rest
 
-pub made_of_draws : (made : Interval) (m d u : ℤ) (a b c : ℕ) → made ≡ record { months = m; days = d; microseconds = u } → m ≡ pos (a / 2 ^ 33 % 4801) -ℤ pos 2400 → d ≡ pos (b / 2 ^ 33 % 20_001) -ℤ pos 10_000
+pub made_of_draws : (made : Interval) (m d u : ℤ) (a b c : ℕ) → made ≡ record { months = m; days = d; microseconds = u }
+    → m ≡ pos (a / 2 ^ 33 % 4801) -ℤ pos 2400 → d ≡ pos (b / 2 ^ 33 % 20_001) -ℤ pos 10_000
     → u ≡ pos (c / 2 ^ 24) -ℤ pos 549_755_813_888 → made ≡ interval_of_draws a b c
 unfolding interval_of_draws
 made_of_draws made m d u a b c is me de ue = is ∙ rw (me, de, ue) refl
 
-pub line_pushed : (index : ℕ) (t : Interval) (from to : Style) (text a b c d e f : List ℕ) → from ≡ style_from index → to ≡ style_to index → a ≡ [] → b ≡ a ++ (name_of (form_of from) ++ codes " ")
-    → c ≡ b ++ (name_of (form_of to) ++ codes " ") → text ≡ style_text from t → d ≡ c ++ text → e ≡ d ++ mark_of index → f ≡ e ++ codes "\n" → f ≡ line_of index t ++ codes "\n"
+pub line_pushed : (index : ℕ) (t : Interval) (from to : Style) (text a b c d e f : List ℕ) → from ≡ style_from index → to ≡ style_to index
+    → a ≡ [] → b ≡ a ++ (name_of (form_of from) ++ codes " ")
+    → c ≡ b ++ (name_of (form_of to) ++ codes " ") → text ≡ style_text from t → d ≡ c ++ text → e ≡ d ++ mark_of index → f ≡ e ++ codes "\n"
+        → f ≡ line_of index t ++ codes "\n"
 unfolding line_of
 line_pushed index t from to text a b c d e f hs hu ha hb hc ht hd he hf =
     let first : List ℕ = name_of (form_of from) in
@@ -151,15 +167,21 @@ line_pushed index t from to text a b c d e f hs hu ha hb hc ht hd he hf =
     let marked : e ++ codes "\n" ≡ d ++ end = ap (λ (l : List ℕ). l ++ codes "\n") he ∙ append_assoc d (mark_of index) (codes "\n") in
     let texted : d ++ end ≡ c ++ (text ++ end) = ap (λ (l : List ℕ). l ++ end) hd ∙ append_assoc c text end in
     let named : c ++ (text ++ end) ≡ b ++ (second ++ (codes " " ++ (text ++ end))) = pushed b c second (codes " ") (text ++ end) hc in
-    let both : b ++ (second ++ (codes " " ++ (text ++ end))) ≡ a ++ (first ++ (codes " " ++ (second ++ (codes " " ++ (text ++ end))))) = pushed a b first (codes " ") (second ++ (codes " " ++ (text ++ end))) hb in
+    let both : b ++ (second ++ (codes " " ++ (text ++ end))) ≡ a
+        ++ (first ++ (codes " " ++ (second ++ (codes " " ++ (text ++ end))))) =
+        pushed a b first (codes " ") (second ++ (codes " " ++ (text ++ end))) hb in
     let all : f ≡ first ++ (codes " " ++ (second ++ (codes " " ++ (text ++ end)))) =
-    hf ∙ (marked ∙ (texted ∙ (named ∙ (both ∙ ap (λ (l : List ℕ). l ++ (first ++ (codes " " ++ (second ++ (codes " " ++ (text ++ end)))))) ha)))) in
+    hf ∙ (marked ∙ (texted ∙ (named ∙ (both ∙ ap (λ (l : List ℕ). l ++ (first ++ (codes " " ++ (second ++ (codes " " ++ (text ++ end))))))
+        ha)))) in
     let body : List ℕ = style_text from t ++ mark_of index in
     let inner : (second ++ (codes " " ++ body)) ++ codes "\n" ≡ second ++ (codes " " ++ (style_text from t ++ end)) =
-    joined_on second (codes " ") body (codes "\n") ∙ ap (λ (l : List ℕ). second ++ (codes " " ++ l)) (append_assoc (style_text from t) (mark_of index) (codes "\n")) in
-    let outer : (first ++ (codes " " ++ (second ++ (codes " " ++ body)))) ++ codes "\n" ≡ first ++ (codes " " ++ (second ++ (codes " " ++ (style_text from t ++ end)))) =
+    joined_on second (codes " ") body (codes "\n") ∙ ap (λ (l : List ℕ). second ++ (codes " " ++ l))
+        (append_assoc (style_text from t) (mark_of index) (codes "\n")) in
+    let outer : (first ++ (codes " " ++ (second ++ (codes " " ++ body)))) ++ codes "\n" ≡ first
+        ++ (codes " " ++ (second ++ (codes " " ++ (style_text from t ++ end)))) =
     joined_on first (codes " ") (second ++ (codes " " ++ body)) (codes "\n") ∙ ap (λ (l : List ℕ). first ++ (codes " " ++ l)) inner in
     let line : f ≡ (first ++ (codes " " ++ (second ++ (codes " " ++ body)))) ++ codes "\n" =
     all ∙ (ap (λ (l : List ℕ). first ++ (codes " " ++ (second ++ (codes " " ++ (l ++ end))))) ht ∙ sym outer) in
-    subst (λ (s : Style). f ≡ (name_of (form_of s) ++ (codes " " ++ (name_of (form_of (style_to index)) ++ (codes " " ++ (style_text s t ++ mark_of index))))) ++ codes "\n") hs
+    subst (λ (s : Style). f ≡ (name_of (form_of s) ++ (codes " "
+        ++ (name_of (form_of (style_to index)) ++ (codes " " ++ (style_text s t ++ mark_of index))))) ++ codes "\n") hs
     (subst (λ (u : Style). f ≡ (first ++ (codes " " ++ (name_of (form_of u) ++ (codes " " ++ body)))) ++ codes "\n") hu line)

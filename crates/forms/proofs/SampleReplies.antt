@@ -1,5 +1,6 @@
 -- The replies to the sample: each tenth is a refusal, and no other.
-use Rattle.std.proofs.Common.{◌≡◌, ◌≢◌, ℕ, zero, suc, ◌+◌, ◌-◌, ◌/◌, ◌%◌, ◌&&◌, ◌==◌, Bool, true, false, IsTrue, List, [], ◌∷◌, ◌++◌, codes, Some, Result, Ok, Err, refl, inl, sym, ◌∙◌, ap, subst, inr, arith, append-nil, take}
+use Rattle.std.proofs.Common.{◌≡◌, ◌≢◌, ℕ, zero, suc, ◌+◌, ◌-◌, ◌/◌, ◌%◌, ◌&&◌, ◌==◌, Bool, true, false, IsTrue, List, [], ◌∷◌, ◌++◌, codes}
+use Rattle.std.proofs.Common.{Some, Result, Ok, Err, refl, inl, sym, ◌∙◌, ap, subst, inr, arith, append-nil, take}
 use Rattle.std.specs.Prelude.{nat_eq, ◌||◌, IsUtf8, if◌then◌else◌}
 use Rattle.std.proofs.lemmas.Bool.{and_parts}
 use Rattle.std.proofs.lemmas.Bool.Decides.{nat_tests}
@@ -24,7 +25,8 @@ use Rattle.forms.specs.Lines.{whole_lines}
 use Rattle.forms.specs.Names.{name_of, style_of}
 use Rattle.forms.specs.Replies.{IsRequest, IsIntervalAnswer, IsAnswer, IsReply, AreReplies}
 use Rattle.forms.specs.Buffers.{IsReplyLine}
-use Rattle.forms.specs.Sample.{answers, form_of, is_refusal, line_of, mark_of, refusals, sample_interval, sample_lines, style_from, style_to}
+use Rattle.forms.specs.Sample.{answers, form_of, is_refusal, line_of, mark_of, refusals, sample_interval, sample_lines, style_from}
+use Rattle.forms.specs.Sample.{style_to}
 use Rattle.forms.specs.inside.Pieces.{NoFeed, IsEnded, AreWhole}
 use Rattle.forms.proofs.Requests.{whole}
 use Rattle.forms.proofs.AsciiNames.{is_small, ascii, small_name}
@@ -70,18 +72,22 @@ all_small (b ∷ bs) h =
 line_utf8 : Texts → (index : ℕ) (t : Interval) → IsInRange t → IsUtf8 (line_of index t)
 line_utf8 texts index t range =
     IsUtf8-from_ascii (line_of index t)
-    (ascii (line_of index t) (each_of_line is_small (λ s. small_name (form_of s)) refl refl index t (all_small (style_text (style_from index) t) (written_in texts (style_from index) t range))))
+    (ascii (line_of index t) (each_of_line is_small (λ s. small_name (form_of s)) refl refl index t
+        (all_small (style_text (style_from index) t) (written_in texts (style_from index) t range))))
 
 -- the text that a line asks for
 abbrev text_of : ℕ → Interval → List ℕ
 text_of index t = style_text (style_from index) t ++ mark_of index
 
-spelled : (index : ℕ) (t : Interval) → line_of index t ≡ name_of (form_of (style_from index)) ++ (codes " " ++ (name_of (form_of (style_to index)) ++ (codes " " ++ text_of index t)))
+spelled : (index : ℕ) (t : Interval) → line_of index t ≡ name_of (form_of (style_from index))
+    ++ (codes " " ++ (name_of (form_of (style_to index)) ++ (codes " " ++ text_of index t)))
 unfolding line_of
 spelled index t = refl
 
-asked : Texts → (index : ℕ) (t : Interval) → IsInRange t → IsRequest (line_of index t) (form_of (style_from index)) (form_of (style_to index)) (text_of index t)
-asked texts index t range = whole _ _ _ _ (record { tail = codes " " ++ text_of index t; utf8 = line_utf8 texts index t range; rest = inr refl; joined = spelled index t })
+asked : Texts → (index : ℕ) (t : Interval) → IsInRange t → IsRequest (line_of index t) (form_of (style_from index))
+    (form_of (style_to index)) (text_of index t)
+asked texts index t range = whole _ _ _ _ (record { tail = codes " " ++ text_of index t; utf8 = line_utf8 texts index t range;
+    rest = inr refl; joined = spelled index t })
 
 -- ---- its answer
 
@@ -92,7 +98,8 @@ same_style style.Verbose = refl
 same_style style.Sql = refl
 same_style style.IsoStrict = refl
 
-is_answer : (s u : Style) (text : List ℕ) (answer : Result (List ℕ) Cause) → IsIntervalAnswer s u text answer → IsAnswer (form_of s) (form_of u) text answer
+is_answer : (s u : Style) (text : List ℕ) (answer : Result (List ℕ) Cause) → IsIntervalAnswer s u text answer
+    → IsAnswer (form_of s) (form_of u) text answer
 unfolding IsAnswer
 is_answer s u text answer h = inl (s, u, same_style s, same_style u, h)
 
@@ -117,17 +124,25 @@ mark_is : (index : ℕ) (tenth : Bool) → (index % 10 == 9) ≡ tenth → mark_
 unfolding mark_of
 mark_is index tenth h = rw h refl
 
-answered : Texts → (index : ℕ) (tenth : Bool) → (index % 10 == 9) ≡ tenth → IsReply (line_of index (sample_interval index)) (reply_when tenth index)
+answered : Texts → (index : ℕ) (tenth : Bool) → (index % 10 == 9) ≡ tenth
+    → IsReply (line_of index (sample_interval index)) (reply_when tenth index)
 answered texts index true h =
     let t : Interval = sample_interval index in
-    let text : text_of index t ≡ style_text (style_from index) t ++ codes "x" = ap (λ (l : List ℕ). style_text (style_from index) t ++ l) (mark_is index true h) in
-    let none : HasNoShape (Shape (style_from index)) (text_of index t) = subst (HasNoShape (Shape (style_from index))) (sym text) (no_shape texts (style_from index) (style_text (style_from index) t)) in
-    inr (form_of (style_from index), form_of (style_to index), text_of index t, Err Syntax, asked texts index t (sample_in_range index), is_answer (style_from index) (style_to index) (text_of index t) (Err Syntax) none, refl)
+    let text : text_of index t ≡ style_text (style_from index) t
+        ++ codes "x" = ap (λ (l : List ℕ). style_text (style_from index) t ++ l) (mark_is index true h) in
+    let none : HasNoShape (Shape (style_from index)) (text_of index t) = subst (HasNoShape (Shape (style_from index))) (sym text)
+        (no_shape texts (style_from index) (style_text (style_from index) t)) in
+    inr (form_of (style_from index), form_of (style_to index), text_of index t, Err Syntax, asked texts index t (sample_in_range index),
+        is_answer (style_from index) (style_to index) (text_of index t) (Err Syntax) none, refl)
 answered texts index false h =
     let t : Interval = sample_interval index in
-    let text : text_of index t ≡ style_text (style_from index) t = ap (λ (l : List ℕ). style_text (style_from index) t ++ l) (mark_is index false h) ∙ append-nil (style_text (style_from index) t) in
-    let back : Denotes (Shape (style_from index)) (text_of index t) t = subst (λ (l : List ℕ). Denotes (Shape (style_from index)) l t) (sym text) (texts.back (style_from index) t (sample_in_range index)) in
-    inr (form_of (style_from index), form_of (style_to index), text_of index t, Ok (style_text (style_to index) t), asked texts index t (sample_in_range index), is_answer (style_from index) (style_to index) (text_of index t) (Ok (style_text (style_to index) t)) (t, back, refl), refl)
+    let text : text_of index t ≡ style_text (style_from index) t = ap (λ (l : List ℕ). style_text (style_from index) t ++ l)
+        (mark_is index false h) ∙ append-nil (style_text (style_from index) t) in
+    let back : Denotes (Shape (style_from index)) (text_of index t) t = subst (λ (l : List ℕ). Denotes (Shape (style_from index)) l t)
+        (sym text) (texts.back (style_from index) t (sample_in_range index)) in
+    inr (form_of (style_from index), form_of (style_to index), text_of index t, Ok (style_text (style_to index) t),
+        asked texts index t (sample_in_range index), is_answer (style_from index) (style_to index) (text_of index t)
+        (Ok (style_text (style_to index) t)) (t, back, refl), refl)
 
 replied : Texts → (index : ℕ) → IsReply (line_of index (sample_interval index)) (sample_reply index)
 replied texts index = answered texts index (index % 10 == 9) refl
@@ -163,11 +178,13 @@ no_refusal (a ∷ b ∷ c ∷ bytes) h =
 
 refused_when : Texts → (index : ℕ) (tenth : Bool) → is_refusal (reply_when tenth index) ≡ tenth
 refused_when texts index true = refl
-refused_when texts index false = no_refusal (style_text (style_to index) (sample_interval index)) (written_in texts (style_to index) (sample_interval index) (sample_in_range index))
+refused_when texts index false = no_refusal (style_text (style_to index) (sample_interval index))
+    (written_in texts (style_to index) (sample_interval index) (sample_in_range index))
 
 reply_no_feed : Texts → (index : ℕ) (tenth : Bool) → NoFeed (reply_when tenth index)
 reply_no_feed texts index true = no_feed_each (codes "refused Syntax") refl
-reply_no_feed texts index false = no_feed_each (style_text (style_to index) (sample_interval index)) (texts.one_line (style_to index) (sample_interval index) (sample_in_range index))
+reply_no_feed texts index false = no_feed_each (style_text (style_to index) (sample_interval index))
+    (texts.one_line (style_to index) (sample_interval index) (sample_in_range index))
 
 -- ---- all replies
 
@@ -182,18 +199,21 @@ sample_output (suc index) = sample_output index ++ (sample_reply index ++ codes 
 pub are_replies : Texts → (count : ℕ) → AreReplies (sample_lines count) (sample_output count)
 are_replies texts zero = refl
 are_replies texts (suc index) =
-    join_push IsReplyLine (sample_output index) (sample_reply index ++ codes "\n") (sample_lines index) (line_of index (sample_interval index)) (are_replies texts index)
+    join_push IsReplyLine (sample_output index) (sample_reply index ++ codes "\n") (sample_lines index)
+        (line_of index (sample_interval index)) (are_replies texts index)
     (sample_reply index, replied texts index, refl)
 
 are_whole : Texts → (count : ℕ) → AreWhole (sample_replies count) (sample_output count)
 are_whole texts zero = refl
 are_whole texts (suc index) =
-    join_push IsEnded (sample_output index) (sample_reply index ++ codes "\n") (sample_replies index) (sample_reply index) (are_whole texts index)
+    join_push IsEnded (sample_output index) (sample_reply index ++ codes "\n") (sample_replies index) (sample_reply index)
+        (are_whole texts index)
     (reply_no_feed texts index (index % 10 == 9), refl)
 
 output_lines : Texts → (count : ℕ) → whole_lines (sample_output count) ≡ sample_replies count
 output_lines texts count =
-    ap whole_lines (sym (append-nil (sample_output count))) ∙ (whole_lines_behind (sample_replies count) (sample_output count) [] (are_whole texts count) ∙ append-nil (sample_replies count))
+    ap whole_lines (sym (append-nil (sample_output count))) ∙ (whole_lines_behind (sample_replies count) (sample_output count) []
+        (are_whole texts count) ∙ append-nil (sample_replies count))
 
 -- ---- how many of each kind
 
@@ -207,22 +227,29 @@ answers_push (x ∷ xs) y = let below = answers_push xs y in omega (arith, below
 
 tenth_more : (index refused ok : ℕ) (tenth : Bool) → (index % 10 == 9) ≡ tenth → refused ≡ index / 10 → ok ≡ index - index / 10
     → (refused + (if tenth then 1 else 0) ≡ suc index / 10) × (ok + (if tenth then 0 else 1) ≡ suc index - suc index / 10)
-tenth_more index refused ok true h r o = let last : index % 10 ≡ 9 = grind (arith, nat_tests) in (omega (arith, last, r), omega (arith, last, o))
-tenth_more index refused ok false h r o = let last : index % 10 ≢ 9 = grind (arith, nat_tests) in (omega (arith, last, r), omega (arith, last, o))
+tenth_more index refused ok true h r o = let last : index % 10 ≡ 9 =
+    grind (arith, nat_tests) in (omega (arith, last, r), omega (arith, last, o))
+tenth_more index refused ok false h r o = let last : index % 10 ≢ 9 =
+    grind (arith, nat_tests) in (omega (arith, last, r), omega (arith, last, o))
 
 counts : Texts → (count : ℕ) → (refusals (sample_replies count) ≡ count / 10) × (answers (sample_replies count) ≡ count - count / 10)
 counts texts zero = (refl, refl)
 counts texts (suc index) =
     let below = counts texts index in
     let kind : is_refusal (sample_reply index) ≡ (index % 10 == 9) = refused_when texts index (index % 10 == 9) in
-    let more = tenth_more index (refusals (sample_replies index)) (answers (sample_replies index)) (index % 10 == 9) refl below.0 below.1 in (
-      refusals_push (sample_replies index) (sample_reply index) ∙ (ap (λ (b : Bool). refusals (sample_replies index) + (if b then 1 else 0)) kind ∙ more.0),
-      answers_push (sample_replies index) (sample_reply index) ∙ (ap (λ (b : Bool). answers (sample_replies index) + (if b then 0 else 1)) kind ∙ more.1),
+    let more = tenth_more index (refusals (sample_replies index)) (answers (sample_replies index)) (index % 10 == 9) refl below.0 below.1 in
+        (
+      refusals_push (sample_replies index) (sample_reply index)
+          ∙ (ap (λ (b : Bool). refusals (sample_replies index) + (if b then 1 else 0)) kind ∙ more.0),
+      answers_push (sample_replies index) (sample_reply index) ∙
+          (ap (λ (b : Bool). answers (sample_replies index) + (if b then 0 else 1)) kind ∙ more.1),
     )
 
-pub tenth_refused : Texts → ((lines : List (List ℕ)) (a b : List ℕ) → AreReplies lines a → AreReplies lines b → a ≡ b) → (count : ℕ) (replies : List ℕ) → AreReplies (sample_lines count) replies
+pub tenth_refused : Texts → ((lines : List (List ℕ)) (a b : List ℕ) → AreReplies lines a → AreReplies lines b → a ≡ b)
+    → (count : ℕ) (replies : List ℕ) → AreReplies (sample_lines count) replies
     → (refusals (whole_lines replies) ≡ count / 10) × (answers (whole_lines replies) ≡ count - count / 10)
 tenth_refused texts one count replies h =
-    let same : whole_lines replies ≡ sample_replies count = ap whole_lines (one (sample_lines count) replies (sample_output count) h (are_replies texts count)) ∙ output_lines texts count in
+    let same : whole_lines replies ≡ sample_replies count = ap whole_lines
+        (one (sample_lines count) replies (sample_output count) h (are_replies texts count)) ∙ output_lines texts count in
     let both = counts texts count in
     (ap refusals same ∙ both.0, ap answers same ∙ both.1)

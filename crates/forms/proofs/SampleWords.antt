@@ -14,16 +14,20 @@ use Rattle.forms.specs.inside.Pieces.{AreWhole}
 use Rattle.forms.proofs.LinePieces.{lines_behind}
 
 all_lines : (count : ℕ) (input : List ℕ) → AreWhole (sample_lines count) input → lines input ≡ sample_lines count
-all_lines count input whole = ap lines (sym (append-nil input)) ∙ (lines_behind (sample_lines count) input [] whole ∙ append-nil (sample_lines count))
+all_lines count input whole = ap lines (sym (append-nil input))
+    ∙ (lines_behind (sample_lines count) input [] whole ∙ append-nil (sample_lines count))
 
 -- a run that is done wrote the replies to all lines of its input
-pub done_replies : (limit count : ℕ) (old new : Streams) (input held : List ℕ) → AreWhole (sample_lines count) input → Ended limit old new Done → old.left ≡ Some input → old.held ≡ Some [] → new.held ≡ Some held → AreReplies (sample_lines count) held
+pub done_replies : (limit count : ℕ) (old new : Streams) (input held : List ℕ) → AreWhole (sample_lines count) input
+    → Ended limit old new Done → old.left ≡ Some input → old.held ≡ Some [] → new.held ≡ Some held → AreReplies (sample_lines count) held
 done_replies limit count old new input held whole ended left empty full =
     let P : List ℕ → Type 0 = λ bytes. GainsReplies (lines bytes) old.held new.held in
     let all : IfSome old.left P = Consumes-whole old.left new.left ended.gave.given P ended.gave.bytes ended.stands.0 ended.stands.2 in
     let gains : GainsReplies (lines input) old.held new.held = subst (λ (l : Option (List ℕ)). IfSome l P) left all in
-    let known : Appends (Some []) (Some held) gains.0 = subst (λ (h : Option (List ℕ)). Appends h (Some held) gains.0) empty (subst (λ (h : Option (List ℕ)). Appends old.held h gains.0) full gains.2) in
-    let replies : AreReplies (sample_lines count) gains.0 = subst (λ (ls : List (List ℕ)). AreReplies ls gains.0) (all_lines count input whole) gains.1 in
+    let known : Appends (Some []) (Some held) gains.0 = subst (λ (h : Option (List ℕ)). Appends h (Some held) gains.0) empty
+        (subst (λ (h : Option (List ℕ)). Appends old.held h gains.0) full gains.2) in
+    let replies : AreReplies (sample_lines count) gains.0 = subst (λ (ls : List (List ℕ)). AreReplies ls gains.0)
+        (all_lines count input whole) gains.1 in
     subst (λ (out : List ℕ). AreReplies (sample_lines count) out) (sym known) replies
 
 -- words ask for one count

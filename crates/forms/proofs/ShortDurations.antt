@@ -1,5 +1,6 @@
 -- Short durations as a form: what a length is worth, which lengths are held, and that they are read back.
-use Rattle.std.proofs.Common.{◌≡◌, ℕ, ◌*◌, ◌%◌, ◌^◌, ◌<◌, ◌≤◌, ◌==◌, ◌&&◌, Bool, true, false, List, Result, Ok, Err, refl, sym, ◌∙◌, ap, subst, inl, inr, arith}
+use Rattle.std.proofs.Common.{◌≡◌, ℕ, ◌*◌, ◌%◌, ◌^◌, ◌<◌, ◌≤◌, ◌==◌, ◌&&◌, Bool, true, false, List, Result, Ok, Err, refl, sym, ◌∙◌, ap}
+use Rattle.std.proofs.Common.{subst, inl, inr, arith}
 use Rattle.std.specs.Prelude.{ℤ, pos, negsuc, ◌<ℤ◌, nat_le, nat_lt, IsErrOf, ◌↔◌}
 use Rattle.std.specs.Ordering.{int_eq}
 use Rattle.std.proofs.lemmas.Bool.{and_from, and_parts, false_from_ne_true, leb-true, le-leb, ltb-true, lt-ltb, le-ltb}
@@ -51,7 +52,8 @@ reads_length sums text times strict h given e =
     let seconds = h.seconds in
     let rest = h.nanoseconds in
     let fits : nanos_of times < 2 ^ 64 * 1_000_000_000 = omega arith in
-    inl (nanos_of times, (sums text (nanos_of times)).1 (strict, h.sums), ap (λ (n : ℕ). Ok (Length n)) e ∙ sym (worth_within (nanos_of times) fits))
+    inl (nanos_of times, (sums text (nanos_of times)).1 (strict, h.sums), ap (λ (n : ℕ). Ok (Length n)) e
+        ∙ sym (worth_within (nanos_of times) fits))
 
 pub reads_too_big : AreSums → (text : List ℕ) → IsStrict text → IsTooBig text → ReadsBy SpellsLength (Is worth) text (Err Range)
 reads_too_big sums text strict h =
@@ -64,7 +66,8 @@ reads_too_big sums text strict h =
 pub months_alone : (nanos : ℕ) → has_months_alone nanos ≡ true → MonthsStandAlone nanos
 unfolding has_months_alone breakdown count_of
 months_alone nanos h =
-    let parts = and_parts (nat_le (weight_of Months) (nanos % weight_of Years)) (nat_lt (nanos % weight_of Years % weight_of Months) (weight_of Minutes)) h in
+    let parts = and_parts (nat_le (weight_of Months) (nanos % weight_of Years))
+        (nat_lt (nanos % weight_of Years % weight_of Months) (weight_of Minutes)) h in
     let some : weight_of Months ≤ nanos % weight_of Years = leb-true _ _ parts.0 in
     let short : nanos % weight_of Years % weight_of Months < weight_of Minutes = ltb-true _ _ parts.1 in
     record {
@@ -93,7 +96,8 @@ too_long nanos h = rw (le-ltb nanos (2 ^ 64 * 1_000_000_000) h) refl
 pub read_back : (nanos : ℕ) → nanos < 2 ^ 64 * 1_000_000_000 → (MonthsStandAlone nanos → ⊥)
     → length_of (pos nanos) ≡ Ok nanos
 unfolding length_of
-read_back nanos fits isnt = rw (lt-ltb nanos (2 ^ 64 * 1_000_000_000) fits, false_from_ne_true (has_months_alone nanos) (λ h. isnt (months_alone nanos h))) refl
+read_back nanos fits isnt = rw (lt-ltb nanos (2 ^ 64 * 1_000_000_000) fits,
+    false_from_ne_true (has_months_alone nanos) (λ h. isnt (months_alone nanos h))) refl
 
 alone_from : (nanos : ℕ) (test : Bool) → has_months_alone nanos ≡ test → ((MonthsStandAlone nanos → ⊥) → ⊥)
     → has_months_alone nanos ≡ true
@@ -137,7 +141,8 @@ abbrev pub AreStrict : Type 0
 AreStrict = (nanos : ℕ) → nanos < 2 ^ 64 * 1_000_000_000 → IsStrict (length_text nanos)
 
 abbrev pub AreReadBack : Type 0
-AreReadBack = (times : ℕ × ℕ) → times.0 < 2 ^ 64 → times.1 < 1_000_000_000 → Denotes (length_text (nanos_of times)) times ↔ (MonthsStandAlone (nanos_of times) → ⊥)
+AreReadBack = (times : ℕ × ℕ) → times.0 < 2 ^ 64 → times.1 < 1_000_000_000 → Denotes (length_text (nanos_of times)) times
+    ↔ (MonthsStandAlone (nanos_of times) → ⊥)
 
 sums_back : AreReadBack → (nanos : ℕ) → nanos < 2 ^ 64 * 1_000_000_000 → (MonthsStandAlone nanos → ⊥)
     → SumsTo (length_text nanos) nanos
@@ -190,7 +195,8 @@ held_back sums strict back _ nanos w h = absurd (let e : Err Kind ≡ Ok nanos =
 pub short_durations : ((text : List ℕ) (a b : ℕ) → SumsTo text a → SumsTo text b → a ≡ b) → AreSums → AreStrict → AreReadBack
     → Lawful Fancy
 short_durations one sums strict back =
-    lawful_by Fancy SpellsLength (Is worth) (Is held) length_text (record { reads = λ text a h. h; read = λ text a h. h; writes = λ value a h. h; written = λ value a h. h })
+    lawful_by Fancy SpellsLength (Is worth) (Is held) length_text
+        (record { reads = λ text a h. h; read = λ text a h. h; writes = λ value a h. h; written = λ value a h. h })
     (record {
       one = λ text a b h k. one text a b ((sums text a).0 h).1 ((sums text b).0 k).1;
       one_worth = one_image worth;

@@ -1,5 +1,6 @@
 -- Date-times of TOML as a form: the day of a date, the time of nanoseconds, and that what is written is read back.
-use Rattle.std.proofs.Common.{◌≡◌, ◌≢◌, ℕ, ◌+◌, ◌*◌, ◌/◌, ◌%◌, ◌^◌, ◌<◌, ◌≤◌, ◌==◌, cond, Bool, true, false, List, Option, Some, None, Result, Ok, Err, refl, sym, ◌∙◌, ap, subst, inl, inr, arith, to_z, of_z}
+use Rattle.std.proofs.Common.{◌≡◌, ◌≢◌, ℕ, ◌+◌, ◌*◌, ◌/◌, ◌%◌, ◌^◌, ◌<◌, ◌≤◌, ◌==◌, cond, Bool, true, false, List, Option, Some, None}
+use Rattle.std.proofs.Common.{Result, Ok, Err, refl, sym, ◌∙◌, ap, subst, inl, inr, arith, to_z, of_z}
 use Rattle.std.specs.Prelude.{ℤ, pos, negsuc, neg_ℤ, ◌+ℤ◌, ◌-ℤ◌, ◌*ℤ◌, ◌<ℤ◌, ◌≤ℤ◌, unsigned_abs, unwrap_or}
 use Rattle.std.specs.Int.{int_div_euclid, int_rem_euclid, w16}
 use Rattle.std.proofs.lemmas.Bool.Decides.{nat_tests}
@@ -85,13 +86,16 @@ real_of c year e =
       days = subst (λ (n : ℕ). c.day ≤ n) (ap (λ (z : ℤ). civil_days_in_month z c.month) e ∙ same_month year c.month) c.day_in.1;
     }
 
-pub held_day : SameDays → (c : CivilDate) (year : ℕ) (day : ℤ) → c.year ≡ pos year → epoch_day c ≡ day → HoldsDay day (Ok (record { year = year; month = c.month; day = c.day }))
-held_day days c year day e same = inl (record { year = year; month = c.month; day = c.day }, real_of c year e, ap (λ (z : ℤ). iso_day_of (YMD z c.month c.day)) (sym e) ∙ (days c ∙ same), refl)
+pub held_day : SameDays → (c : CivilDate) (year : ℕ) (day : ℤ) → c.year ≡ pos year → epoch_day c ≡ day
+    → HoldsDay day (Ok (record { year = year; month = c.month; day = c.day }))
+held_day days c year day e same = inl (record { year = year; month = c.month; day = c.day }, real_of c year e,
+    ap (λ (z : ℤ). iso_day_of (YMD z c.month c.day)) (sym e) ∙ (days c ∙ same), refl)
 
 -- a day before the year 0
 pub early_day : SameDays → (c : CivilDate) (day : ℤ) → c.year <ℤ pos 0 → epoch_day c ≡ day → HoldsDay day (Err Range)
 unfolding civil_of
-early_day days c day early same = inr (λ d real e. let years = (epoch_day_injective (civil_of d real) c (sym (civil_day days d real) ∙ (e ∙ sym same))).0 in absurd (omega (arith, ints)), refl)
+early_day days c day early same = inr (λ d real e. let years = (epoch_day_injective (civil_of d real) c
+    (sym (civil_day days d real) ∙ (e ∙ sym same))).0 in absurd (omega (arith, ints)), refl)
 
 -- no civil day
 pub no_day : SameDays → (day : ℤ) → (IsEpochDay day → ⊥) → HoldsDay day (Err Range)
@@ -112,8 +116,10 @@ one_day days day a b (inl h) (inr k) = absurd (k.0 h.0 h.1 h.2)
 one_day days day a b (inr h) (inl k) = absurd (h.0 k.0 k.1 k.2)
 one_day days day a b (inr h) (inr k) = h.1 ∙ sym k.1
 
-one_dated : SameDays → (day : ℤ) (time : Option Time) (offset : Option Offset) (a b : Result Datetime Cause) → HoldsDated day time offset a → HoldsDated day time offset b → a ≡ b
-one_dated days day time offset a b h k = h.2 ∙ (ap (result_map (λ (d : Date). datetime_of (Some d) time offset)) (one_day days day h.0 k.0 h.1 k.1) ∙ sym k.2)
+one_dated : SameDays → (day : ℤ) (time : Option Time) (offset : Option Offset) (a b : Result Datetime Cause) → HoldsDated day time offset a
+    → HoldsDated day time offset b → a ≡ b
+one_dated days day time offset a b h k = h.2 ∙ (ap (result_map (λ (d : Date). datetime_of (Some d) time offset))
+    (one_day days day h.0 k.0 h.1 k.1) ∙ sym k.2)
 
 one_held : SameDays → (value : Value) (a b : Result Datetime Cause) → Holds value a → Holds value b → a ≡ b
 one_held days (Instant nanos) a b h k = one_dated days _ _ _ a b h k
@@ -145,11 +151,13 @@ fraction_if n false h = refl
 fraction_value : (nanos : ℕ) → unwrap_or (fraction_of nanos) 0 ≡ nanos % 1_000_000_000
 fraction_value nanos = fraction_if (nanos % 1_000_000_000) (nanos % 1_000_000_000 == 0) refl
 
-clock_parts : (n : ℕ) → ((n / 3_600_000_000_000 * 60 + n / 60_000_000_000 % 60) * 60 + n / 1_000_000_000 % 60) * 1_000_000_000 + n % 1_000_000_000 ≡ n
+clock_parts : (n : ℕ) → ((n / 3_600_000_000_000 * 60 + n / 60_000_000_000 % 60) * 60 + n / 1_000_000_000 % 60) * 1_000_000_000
+    + n % 1_000_000_000 ≡ n
 clock_parts n = omega arith
 
 clock_back : (nanos : ℕ) → clock_of (time_of nanos) ≡ nanos
-clock_back nanos = ap (λ (f : ℕ). ((nanos / 3_600_000_000_000 * 60 + nanos / 60_000_000_000 % 60) * 60 + nanos / 1_000_000_000 % 60) * 1_000_000_000 + f) (fraction_value nanos) ∙ clock_parts nanos
+clock_back nanos = ap (λ (f : ℕ). ((nanos / 3_600_000_000_000 * 60 + nanos / 60_000_000_000 % 60) * 60 + nanos / 1_000_000_000 % 60) *
+    1_000_000_000 + f) (fraction_value nanos) ∙ clock_parts nanos
 
 time_back : (nanos : ℕ) → clock (time_of nanos) ≡ Ok (pos nanos)
 time_back nanos = no_leap (time_of nanos) (λ e. absurd (omega arith)) ∙ ap (λ (n : ℕ). Ok (pos n)) (clock_back nanos)
@@ -159,11 +167,13 @@ fraction_real second n true s f = s
 fraction_real second n false s f = (s, f)
 
 time_real : (nanos : ℕ) → nanos < 86_400_000_000_000 → IsRealTime (time_of nanos)
-time_real nanos h = record { hour = omega arith; minute = omega arith; seconds = fraction_real (nanos / 1_000_000_000 % 60) (nanos % 1_000_000_000) (nanos % 1_000_000_000 == 0) (omega arith) (omega arith) }
+time_real nanos h = record { hour = omega arith; minute = omega arith;
+    seconds = fraction_real (nanos / 1_000_000_000 % 60) (nanos % 1_000_000_000) (nanos % 1_000_000_000 == 0) (omega arith) (omega arith) }
 
 -- ---- what a value is worth, within the bounds
 
-seconds_within : (second nanosecond : Option ℕ) → AreRealSeconds second nanosecond → (unwrap_or second 0 ≤ 60) × (unwrap_or nanosecond 0 < 10 ^ 9)
+seconds_within : (second nanosecond : Option ℕ) → AreRealSeconds second nanosecond → (unwrap_or second 0 ≤ 60)
+    × (unwrap_or nanosecond 0 < 10 ^ 9)
 seconds_within None None h = (omega arith, omega arith)
 seconds_within None (Some n) h = absurd h
 seconds_within (Some s) None h = (h, omega arith)
@@ -188,17 +198,23 @@ offset_bound Z h = (omega (arith, ints), omega (arith, ints))
 offset_bound (Custom (pos n)) h = (omega (arith, ints), omega (arith, ints))
 offset_bound (Custom (negsuc n)) h = (omega (arith, ints), omega (arith, ints))
 
-mapped_within : (make : ℤ → Value) (t : Time) → IsRealTime t → ((z : ℤ) → IsOfDay z → IsWithinBounds (make z)) → (value : Value) → result_map make (clock t) ≡ Ok value → IsWithinBounds value
+mapped_within : (make : ℤ → Value) (t : Time) → IsRealTime t → ((z : ℤ) → IsOfDay z → IsWithinBounds (make z)) → (value : Value)
+    → result_map make (clock t) ≡ Ok value → IsWithinBounds value
 mapped_within make t real bound value h =
     let found = map_ok make (clock t) value (sym h) in
     subst IsWithinBounds found.2 (bound found.0 (clock_bound t real found.0 found.1))
 
-instant_within : (day minutes z : ℤ) → IsEpochDay day → (neg_ℤ (pos 1439) ≤ℤ minutes) × (minutes ≤ℤ pos 1439) → IsOfDay z → IsWithinBounds (Instant ((day *ℤ pos 86_400_000_000_000 +ℤ z) -ℤ minutes *ℤ pos 60_000_000_000))
+instant_within : (day minutes z : ℤ) → IsEpochDay day → (neg_ℤ (pos 1439) ≤ℤ minutes) × (minutes ≤ℤ pos 1439) → IsOfDay z
+    → IsWithinBounds (Instant ((day *ℤ pos 86_400_000_000_000 +ℤ z) -ℤ minutes *ℤ pos 60_000_000_000))
 instant_within day minutes z d m c = (omega (arith, ints), omega (arith, ints))
 
-within_of : SameDays → (date : Option Date) (time : Option Time) (offset : Option Offset) (value : Value) → AreWellFormed date time offset → worth_of date time offset ≡ Ok value → IsWithinBounds value
-within_of days (Some d) (Some t) (Some o) value (d', t', o') h = mapped_within (moment_of (day_of d) (Some o)) t t' (λ z c. instant_within (day_of d) (minutes_of o) z (day_in_range days d d') (offset_bound o o') c) value h
-within_of days (Some d) (Some t) None value (d', t') h = mapped_within (moment_of (day_of d) None) t t' (λ z c. (day_in_range days d d', c)) value h
+within_of : SameDays → (date : Option Date) (time : Option Time) (offset : Option Offset) (value : Value) → AreWellFormed date time offset
+    → worth_of date time offset ≡ Ok value → IsWithinBounds value
+within_of days (Some d) (Some t) (Some o) value (d', t', o') h =
+    mapped_within (moment_of (day_of d) (Some o)) t t' (λ z c. instant_within (day_of d) (minutes_of o) z (day_in_range days d d')
+    (offset_bound o o') c) value h
+within_of days (Some d) (Some t) None value (d', t') h = mapped_within (moment_of (day_of d) None) t t'
+    (λ z c. (day_in_range days d d', c)) value h
 within_of days (Some d) None None value d' h = subst IsWithinBounds (same_ok (Day (day_of d)) value h) (day_in_range days d d')
 within_of days (Some d) None (Some o) value w h = absurd w
 within_of days None (Some t) None value t' h = mapped_within Clock t t' (λ z c. c) value h
@@ -222,7 +238,8 @@ magnitude_bound : (z : ℤ) → IsOfDay z → unsigned_abs z < 86_400_000_000_00
 magnitude_bound z h = let least = h.0 in let most = h.1 in omega (arith, ints)
 
 real_held : (day : ℤ) (date : Date) → HoldsDay day (Ok date) → IsRealDay date × (day_of date ≡ day)
-real_held day date (inl h) = let same : h.0 ≡ date = sym (same_ok date h.0 h.3) in subst (λ (d : Date). IsRealDay d × (day_of d ≡ day)) same (h.1, h.2)
+real_held day date (inl h) = let same : h.0 ≡ date = sym (same_ok date h.0 h.3) in
+    subst (λ (d : Date). IsRealDay d × (day_of d ≡ day)) same (h.1, h.2)
 real_held day date (inr h) = absurd (let e : Ok date ≡ Err Range = h.1 in cc)
 
 abbrev pub IsBack : Value → Datetime → Type 0
@@ -232,45 +249,57 @@ abbrev pub AreReadBack : Type 0
 AreReadBack = (value : Datetime) → IsWellFormed value → IsDatetime (text_of value) value
 
 back_by : AreReadBack → (value : Value) (d : Datetime) → IsWellFormed d → worth d ≡ Ok value → Holds value (Ok d) → IsBack value d
-back_by back value d formed valued held = record { meaning = d; back = value; spelled = back d formed; valued = sym valued; same = same_value value; again = held }
+back_by back value d formed valued held = record { meaning = d; back = value; spelled = back d formed; valued = sym valued;
+    same = same_value value; again = held }
 
-dated_back : AreReadBack → (value : Value) (day : ℤ) (time : Option Time) (offset : Option Offset) (d : Datetime) → HoldsDated day time offset (Ok d) → Holds value (Ok d) → ((date : Date) → IsRealDay date → AreWellFormed (Some date) time offset)
+dated_back : AreReadBack → (value : Value) (day : ℤ) (time : Option Time) (offset : Option Offset) (d : Datetime)
+    → HoldsDated day time offset (Ok d) → Holds value (Ok d) → ((date : Date) → IsRealDay date → AreWellFormed (Some date) time offset)
     → dated_worth day time offset ≡ Ok value → IsBack value d
 dated_back back value day time offset d h held formed worth_is =
     let found = map_ok (λ (date : Date). datetime_of (Some date) time offset) h.0 d h.2 in
     let P : Result Date Cause → Type 0 = λ r. HoldsDay day r in
     let date = real_held day found.0 (subst P found.1 h.1) in
     let Q : Datetime → Type 0 = λ x. Holds value (Ok x) → IsBack value x in
-    let whole : Q (datetime_of (Some found.0) time offset) = λ k. back_by back value (datetime_of (Some found.0) time offset) (formed found.0 date.0) (ap (λ (z : ℤ). dated_worth z time offset) date.1 ∙ worth_is) k in
+    let whole : Q (datetime_of (Some found.0) time offset) = λ k. back_by back value (datetime_of (Some found.0) time offset)
+        (formed found.0 date.0) (ap (λ (z : ℤ). dated_worth z time offset) date.1 ∙ worth_is) k in
     subst Q found.2 whole held
 
 local_worth : (day nanos : ℤ) → IsOfDay nanos → dated_worth day (Some (time_of (unsigned_abs nanos))) None ≡ Ok (Local day nanos)
-local_worth day nanos h = ap (result_map (moment_of day None)) (time_back (unsigned_abs nanos)) ∙ ap (λ (z : ℤ). Ok (Local day z)) (magnitude nanos h)
+local_worth day nanos h = ap (result_map (moment_of day None)) (time_back (unsigned_abs nanos))
+    ∙ ap (λ (z : ℤ). Ok (Local day z)) (magnitude nanos h)
 
-instant_parts : (nanos : ℤ) → (int_div_euclid nanos (pos 86_400_000_000_000) *ℤ pos 86_400_000_000_000 +ℤ pos (unsigned_abs (int_rem_euclid nanos (pos 86_400_000_000_000)))) -ℤ pos 0 *ℤ pos 60_000_000_000 ≡ nanos
+instant_parts : (nanos : ℤ) → (int_div_euclid nanos (pos 86_400_000_000_000) *ℤ pos 86_400_000_000_000 +ℤ pos
+    (unsigned_abs (int_rem_euclid nanos (pos 86_400_000_000_000)))) -ℤ pos 0 *ℤ pos 60_000_000_000 ≡ nanos
 instant_parts nanos = omega (arith, signed_arith)
 
-instant_worth : (nanos : ℤ) → dated_worth (int_div_euclid nanos (pos 86_400_000_000_000)) (Some (time_of (unsigned_abs (int_rem_euclid nanos (pos 86_400_000_000_000))))) (Some Z) ≡ Ok (Instant nanos)
-instant_worth nanos = ap (result_map (moment_of (int_div_euclid nanos (pos 86_400_000_000_000)) (Some Z))) (time_back (unsigned_abs (int_rem_euclid nanos (pos 86_400_000_000_000)))) ∙ ap (λ (z : ℤ). Ok (Instant z)) (instant_parts nanos)
+instant_worth : (nanos : ℤ) → dated_worth (int_div_euclid nanos (pos 86_400_000_000_000))
+    (Some (time_of (unsigned_abs (int_rem_euclid nanos (pos 86_400_000_000_000))))) (Some Z) ≡ Ok (Instant nanos)
+instant_worth nanos = ap (result_map (moment_of (int_div_euclid nanos (pos 86_400_000_000_000)) (Some Z)))
+    (time_back (unsigned_abs (int_rem_euclid nanos (pos 86_400_000_000_000)))) ∙ ap (λ (z : ℤ). Ok (Instant z)) (instant_parts nanos)
 
 rest_bound : (nanos : ℤ) → unsigned_abs (int_rem_euclid nanos (pos 86_400_000_000_000)) < 86_400_000_000_000
 rest_bound nanos = omega (arith, signed_arith)
 
 held_back : AreReadBack → (value : Value) (d : Datetime) → IsWithinBounds value → Holds value (Ok d) → IsBack value d
-held_back back (Instant nanos) d w h = dated_back back (Instant nanos) _ _ _ d h h (λ date real. (real, time_real _ (rest_bound nanos), tt)) (instant_worth nanos)
+held_back back (Instant nanos) d w h = dated_back back (Instant nanos) _ _ _ d h h (λ date real. (real, time_real _ (rest_bound nanos), tt))
+    (instant_worth nanos)
 held_back back (Day day) d w h = dated_back back (Day day) _ _ _ d h h (λ date real. real) refl
-held_back back (Local day nanos) d w h = dated_back back (Local day nanos) _ _ _ d h h (λ date real. (real, time_real _ (magnitude_bound nanos w.1))) (local_worth day nanos w.1)
+held_back back (Local day nanos) d w h = dated_back back (Local day nanos) _ _ _ d h h
+    (λ date real. (real, time_real _ (magnitude_bound nanos w.1))) (local_worth day nanos w.1)
 held_back back (Clock nanos) d w h =
     let made : Datetime = datetime_of None (Some (time_of (unsigned_abs nanos))) None in
     let same : made ≡ d = sym (same_ok d made h) in
     let Q : Datetime → Type 0 = λ x. Holds (Clock nanos) (Ok x) → IsBack (Clock nanos) x in
-    let whole : Q made = λ k. back_by back (Clock nanos) made (time_real _ (magnitude_bound nanos w)) (ap (result_map Clock) (time_back (unsigned_abs nanos)) ∙ ap (λ (z : ℤ). Ok (Clock z)) (magnitude nanos w)) k in
+    let whole : Q made = λ k. back_by back (Clock nanos) made (time_real _ (magnitude_bound nanos w))
+        (ap (result_map Clock) (time_back (unsigned_abs nanos)) ∙ ap (λ (z : ℤ). Ok (Clock z)) (magnitude nanos w)) k in
     subst Q same whole h
 held_back back _ d w h = absurd (let e : Ok d ≡ Err Kind = h in cc)
 
-pub toml_date_times : SameDays → ((text : List ℕ) (a b : Datetime) → IsDatetime text a → IsDatetime text b → a ≡ b) → ((text : List ℕ) (value : Datetime) → IsDatetime text value → IsWellFormed value) → AreReadBack → Lawful Toml
+pub toml_date_times : SameDays → ((text : List ℕ) (a b : Datetime) → IsDatetime text a → IsDatetime text b → a ≡ b)
+    → ((text : List ℕ) (value : Datetime) → IsDatetime text value → IsWellFormed value) → AreReadBack → Lawful Toml
 toml_date_times days one formed back =
-    lawful_by Toml IsDatetime (Is worth) Holds text_of (record { reads = λ text a h. h; read = λ text a h. h; writes = λ value a h. h; written = λ value a h. h })
+    lawful_by Toml IsDatetime (Is worth) Holds text_of (record { reads = λ text a h. h; read = λ text a h. h; writes = λ value a h. h;
+        written = λ value a h. h })
     (record {
       one = one;
       one_worth = one_image worth;

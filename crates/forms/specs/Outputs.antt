@@ -1,4 +1,5 @@
--- What is written for the lines of an input: one output a line, in order. A relation says what a line's output is, with its line feed, and how
+-- What is written for the lines of an input: one output a line, in order. A relation says what a line's output is, with its line feed, and
+-- how
 -- what answers the lines changes by it.
 use Rattle.std.specs.Prelude.{◌≡◌, ◌⊎◌, ℕ, ◌+◌, ◌≤◌, List, [], ◌∷◌, ◌++◌, length, take, Option}
 use Rattle.std.specs.Io.KnownBytes.{Appends, IsAtEnd}
@@ -21,7 +22,8 @@ AreOutputs {A} Says s (line ∷ more) out t =
     × (out ≡ first ++ rest)
 
 -- a front of the outputs: a front of those for the first so many lines
-pub record IsFrontOfOutputs {A : Type 0} (Says : A → List ℕ → List ℕ → A → Type 0) (s : A) (lines : List (List ℕ)) (out : List ℕ) : Type 0 where
+pub record IsFrontOfOutputs {A : Type 0} (Says : A → List ℕ → List ℕ → A → Type 0) (s : A) (lines : List (List ℕ))
+    (out : List ℕ) : Type 0 where
   pub answered : List (List ℕ)
   pub others : List (List ℕ)
   pub back : List ℕ
@@ -67,7 +69,8 @@ StandsBy Says limit given s t old new NoMemory = (given ≡ []) × (t ≡ s) × 
 
 -- a run within a limit ended so: it took some bytes, one more than the limit at most, no count of faults fell, and
 -- this stands
-pub record EndedBy {A : Type 0} (Says : A → List ℕ → List ℕ → A → Type 0) (limit : ℕ) (s t : A) (old new : Streams) (end : RunEnd) : Type 0 where
+pub record EndedBy {A : Type 0} (Says : A → List ℕ → List ℕ → A → Type 0) (limit : ℕ) (s t : A) (old new : Streams)
+    (end : RunEnd) : Type 0 where
   pub gave : Gives old.left new.left old.taken new.taken (limit + 1)
   pub stands : StandsBy Says limit gave.given s t old new end
   pub reads_later : old.read_faults ≤ new.read_faults

@@ -1,7 +1,8 @@
 -- The command `sample`: its words, its lines, which ask for intervals that a generator draws, and the line that it writes of their
 -- replies. The generator is linear congruential modulo 2^64, with the multiplier and increment of Knuth's MMIX (The Art of Computer
 -- Programming, volume 2, section 3.3.4).
-use Rattle.std.specs.Prelude.{◌≡◌, ◌≢◌, ℕ, zero, suc, ◌+◌, ◌*◌, ◌/◌, ◌%◌, ◌^◌, ◌≤◌, ◌==◌, nat_eq, Bool, pos, ◌-ℤ◌, List, [], ◌∷◌, ◌++◌, length, codes, decimal, Option, if◌then◌else◌}
+use Rattle.std.specs.Prelude.{◌≡◌, ◌≢◌, ℕ, zero, suc, ◌+◌, ◌*◌, ◌/◌, ◌%◌, ◌^◌, ◌≤◌, ◌==◌, nat_eq, Bool, pos, ◌-ℤ◌, List, [], ◌∷◌, ◌++◌}
+use Rattle.std.specs.Prelude.{length, codes, decimal, Option, if◌then◌else◌}
 use Rattle.std.specs.Io.KnownBytes.{Appends}
 use Rattle.std.specs.List.{starts_with}
 use Rattle.pg_interval_2.specs.declared.interval.Interval.{Interval}

@@ -14,7 +14,7 @@ ghost use Rattle.forms.specs.inside.Putting.{Gains};
 
 use crate::cause::Cause;
 use crate::form::Form;
-use crate::laws::{all_lawful, answers_are_readings_written};
+use crate::laws;
 use crate::line::named_text;
 use crate::text_reply::push_text_reply;
 use crate::value::{Value, push_value, read_counted, read_value};
@@ -47,8 +47,8 @@ pub fn reply(from: Form, to: Form, text: &str) -> Result<Short, Cause>
     if from.is_counted() {
         return reply_alone::<Brand>(from, to, &Looked::new(text), Blank::new(1));
     }
-    all_lawful();
-    answers_are_readings_written();
+    laws::all_lawful();
+    laws::answers_are_readings_written();
     written(to, read_value(from, text))
 }
 
@@ -73,8 +73,8 @@ pub fn reply_counted<L: Ledger>(
     ensures bound { steps.new ≤ steps.old + (32 * length text.now + 256) }
     ensures least { IfOk result (λ _. steps.old + length text.now ≤ steps.new) }
 {
-    all_lawful();
-    answers_are_readings_written();
+    laws::all_lawful();
+    laws::answers_are_readings_written();
     written(to, read_counted(from, text, steps))
 }
 
@@ -199,7 +199,7 @@ pub fn push_answer<const CAP: usize>(
         × (result ≡ is_refusal answer) }
     ensures len { array_string_len out.new ≤ array_string_len out.old + 96 }
 {
-    answers_are_readings_written();
+    laws::answers_are_readings_written();
     match push_turned(from, to, text, out) {
         Ok(()) => false,
         Err(cause) => {

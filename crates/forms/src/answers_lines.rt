@@ -4,7 +4,7 @@ ghost use Rattle.std.specs.Io.KnownBytes.{Appends};
 ghost use Rattle.forms.specs.Outside.{HasCause, AppendsFront};
 ghost use Rattle.forms.specs.Outputs.{PutsOutput, FailsOutput};
 
-use crate::outside::{Failed, Sink};
+use crate::streams::{Failed, Sink};
 use crate::waiting::{Batch, flush};
 
 /// Bytes that wait for one write.

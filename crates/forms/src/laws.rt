@@ -8,7 +8,7 @@ ghost use Rattle.pg_interval_2.specs.declared.style.Style.{Style as AnyStyle};
 ghost use Rattle.forms.specs.declared.answer.ConvertError.{ConvertError as AnyConvertError};
 ghost use Rattle.forms.specs.declared.cause.Cause.{Cause as AnyCause};
 ghost use Rattle.forms.specs.declared.form.Form.{Form as AnyForm};
-ghost use Rattle.forms.specs.declared.outside.Failed.{Failed as AnyFailed};
+ghost use Rattle.forms.specs.declared.streams.Failed.{Failed as AnyFailed};
 ghost use Rattle.forms.specs.declared.run_end.RunEnd.{RunEnd as AnyEnd};
 ghost use Rattle.forms.specs.declared.run_end.RunEnd.TheVariants.{TooLong, WriteFault};
 ghost use Rattle.forms.specs.declared.value.Value.{Value as AnyValue};
@@ -27,8 +27,8 @@ ghost use Rattle.forms.specs.inside.Lawful.{Lawful};
 use crate::answer::{ConvertError, line_reply};
 use crate::cause::Cause;
 use crate::form::{Form, fancy, file_time, intervals, iso_date, iso_date_time, iso_duration, toml};
-use crate::outside::Failed;
 use crate::run_end::RunEnd;
+use crate::streams::Failed;
 use crate::value::Value;
 
 /// Each form is lawful.

@@ -2,7 +2,7 @@
 ghost use Rattle.std.specs.Prelude.{◌≡◌};
 
 use crate::faults::Faults;
-use crate::outside::{Failed, Sink};
+use crate::streams::{Failed, Sink};
 use std::alloc::{AllocError, Global};
 use std::marker::Model;
 

@@ -2,7 +2,7 @@
 ghost use Rattle.std.specs.Prelude.{◌≡◌, ◌≤◌, ◌++◌, min, length, take, drop};
 
 use crate::faults::Faults;
-use crate::outside::{Failed, Source};
+use crate::streams::{Failed, Source};
 use std::alloc::{AllocError, Global};
 use std::marker::Model;
 

@@ -7,11 +7,11 @@ ghost use Rattle.forms.specs.Ends.{GainsFront, Ended, EndedWith, streams};
 ghost use Rattle.forms.specs.Replies.{AreReplies};
 ghost use Rattle.forms.specs.Sample.{AreUnknown, IsSample, SampleEndedWith, told};
 
-use crate::outside::{Sink, Source};
-use crate::pieces::answer_lines;
 use crate::request_lines::Requests;
 use crate::run_end::RunEnd;
 use crate::sample::{sample, sample_count};
+use crate::source_lines::answer_lines;
+use crate::streams::{Sink, Source};
 use crate::waiting::Batch;
 use std::alloc::Global;
 

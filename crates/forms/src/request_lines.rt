@@ -2,8 +2,8 @@
 ghost use Rattle.forms.specs.Buffers.{IsReplyLine};
 
 use crate::answers_lines::AnswersLines;
-use crate::output::{LONGEST, push_reply};
-use crate::outside::{Failed, Sink};
+use crate::piece_lines::{LONGEST, push_reply};
+use crate::streams::{Failed, Sink};
 use crate::waiting::{Batch, make_room};
 
 /// Answers requests.

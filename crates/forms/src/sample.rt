@@ -8,13 +8,13 @@ mod lines;
 mod summary;
 
 use crate::decimal::number_in_decimal;
-use crate::laws::a_tenth_of_a_sample_is_refused;
+use crate::laws;
 use crate::memory_sink::MemSink;
 use crate::memory_source::MemSource;
-use crate::output::LONGEST;
-use crate::outside::{Failed, Sink};
+use crate::piece_lines::LONGEST;
 use crate::program::{LIMIT, run};
 use crate::run_end::RunEnd;
+use crate::streams::{Failed, Sink};
 use crate::writing::write_all;
 use lines::sample_bytes;
 use std::alloc::Global;
@@ -51,7 +51,7 @@ pub fn sample<K: Sink>(alloc: Global, count: u64, sink: &mut K) -> RunEnd
         × Appends (K.held sink.old) (K.held sink.new)
         (told count (count - count / 10) (count / 10) bytes) }
 {
-    a_tenth_of_a_sample_is_refused();
+    laws::a_tenth_of_a_sample_is_refused();
     let Some(replies) = answer_sample(alloc, count) else {
         return RunEnd::NoMemory;
     };

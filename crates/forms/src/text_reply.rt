@@ -10,7 +10,6 @@ use crate::cause::Cause;
 use crate::form::{Form, intervals};
 use arrayvec::ArrayString;
 use pg_interval_2::Style;
-use pg_interval_2::laws::texts_are_of_one_alphabet;
 use std::str;
 
 /// Appends the reply to a text by its bytes, of at most 96 bytes, without a line feed, and answers whether it is a refusal: what
@@ -56,7 +55,7 @@ fn push_interval_reply<const CAP: usize>(
         × (out.new.bytes ≡ out.old.bytes ++ reply) }
     ensures len { array_string_len out.new ≤ array_string_len out.old + 96 }
 {
-    texts_are_of_one_alphabet();
+    pg_interval_2::laws::texts_are_of_one_alphabet();
     match intervals::read_interval(from, text) {
         Ok(interval) => {
             interval.push_text(to, out);

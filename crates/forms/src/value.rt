@@ -11,7 +11,7 @@ ghost use Rattle.forms.specs.Values.{IsWithinBounds};
 
 use crate::cause::Cause;
 use crate::form::{Form, fancy, file_time, intervals, iso_date, iso_date_time, iso_duration, toml};
-use crate::laws::all_lawful;
+use crate::laws;
 use arrayvec::ArrayString;
 use pg_interval_2::{Short, Style};
 use scan_core::{Looked, Steps};
@@ -45,7 +45,7 @@ pub fn read_value(form: Form, text: &str) -> Result<Value, Cause>
         → (result ≡ answer) ↔ Reads form text.now answer }
     ensures within { IfOk result IsWithinBounds }
 {
-    all_lawful();
+    laws::all_lawful();
     read(form, text)
 }
 
@@ -61,7 +61,7 @@ pub fn write_value(form: Form, value: Value) -> Result<Short, Cause>
         → (bytes_of result ≡ answer) ↔ Writes form value answer }
     ensures len { IfOk result (λ out. array_string_len out ≤ 96) }
 {
-    all_lawful();
+    laws::all_lawful();
     let mut out = Short::new();
     match push_value(form, value, &mut out) {
         Ok(()) => Ok(out),
@@ -106,7 +106,7 @@ pub(crate) fn read_counted<L: Ledger>(
     ensures most { steps.new ≤ steps.old + (2 * length text.now + 4) }
     ensures least { IfOk result (λ _. steps.old + length text.now ≤ steps.new) }
 {
-    all_lawful();
+    laws::all_lawful();
     read_by_looks(form, text, steps)
 }
 

@@ -5,7 +5,7 @@ ghost use Rattle.arrayvec.specs.ArrayString.{array_string_len};
 ghost use Rattle.forms.specs.Outside.{HasCause, AppendsFront};
 ghost use Rattle.forms.specs.Waiting.{Moves};
 
-use crate::outside::{Failed, Sink};
+use crate::streams::{Failed, Sink};
 use crate::writing::write_all;
 use arrayvec::ArrayString;
 

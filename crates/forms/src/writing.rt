@@ -4,7 +4,7 @@ ghost use Rattle.std.specs.Io.{WritesAtMost};
 ghost use Rattle.std.specs.Io.KnownBytes.{Appends, WriteAppends};
 ghost use Rattle.forms.specs.Outside.{HasCause, AppendsFront};
 
-use crate::outside::{Failed, Sink};
+use crate::streams::{Failed, Sink};
 
 /// Writes the whole text, or as much as the sink takes before it fails.
 pub fn write_all<K: Sink>(sink: &mut K, text: &[u8]) -> Result<(), Failed>

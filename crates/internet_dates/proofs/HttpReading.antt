@@ -1,5 +1,6 @@
 -- Dates of HTTP are read: what is read is one, and each is read.
-use Rattle.std.proofs.Common.{◌≡◌, ℕ, ◌<◌, ◌==◌, Bool, true, false, cond, ℤ, pos, List, [], ◌∷◌, ◌++◌, codes, Option, Some, None, refl, sym, ◌∙◌, ap, subst, inl, inr, arith}
+use Rattle.std.proofs.Common.{◌≡◌, ℕ, ◌<◌, ◌==◌, Bool, true, false, cond, ℤ, pos, List, [], ◌∷◌, ◌++◌, codes, Option, Some, None, refl, sym}
+use Rattle.std.proofs.Common.{◌∙◌, ap, subst, inl, inr, arith}
 use Rattle.std.specs.Char.{digit_value}
 use Rattle.std.proofs.lemmas.Bool.{and_parts, eqb-true}
 use Rattle.std.proofs.lemmas.Bool.Decides.{nat_tests}
@@ -9,8 +10,10 @@ use Rattle.scan_core.specs.Fields.{IsField}
 use Rattle.internet_dates.specs.Names.{IsDayName}
 use Rattle.internet_dates.specs.HttpDate.{IsFixdate, IsPaddedDay, IsAsctimeDate, IsHttpDate}
 use Rattle.internet_dates.specs.declared.date_time.DateTime.{DateTime}
-use Rattle.internet_dates.specs.inside.Reading.{read_mark, two_number, clock_made, made, is_text, read_fixdate, read_year, tens, read_padded, read_padded_day, read_asctime, read_behind_name, read_http_date}
-use Rattle.internet_dates.proofs.Readers.{Sound, Exact, mark_sound, rest_parts, behind_sound, behind_exact, two_from, two_is, two_bytes, one_from, one_is, one_byte, pair_sound, pair_exact, year_sound, year_exact}
+use Rattle.internet_dates.specs.inside.Reading.{read_mark, two_number, clock_made, made, is_text, read_fixdate, read_year, tens}
+use Rattle.internet_dates.specs.inside.Reading.{read_padded, read_padded_day, read_asctime, read_behind_name, read_http_date}
+use Rattle.internet_dates.proofs.Readers.{Sound, Exact, mark_sound, rest_parts, behind_sound, behind_exact, two_from, two_is, two_bytes}
+use Rattle.internet_dates.proofs.Readers.{one_from, one_is, one_byte, pair_sound, pair_exact, year_sound, year_exact}
 use Rattle.internet_dates.proofs.NameFacts.{weekday_sound, weekday_exact, month_sound, month_exact}
 use Rattle.internet_dates.proofs.ClockFacts.{clock_sound, clock_exact}
 
@@ -50,7 +53,8 @@ fixdate_sound : (weekday : ℕ) (name bytes : List ℕ) (t : DateTime) → IsDay
     → IsFixdate (name ++ (44 ∷ bytes)) t
 unfolding read_fixdate
 fixdate_sound weekday name bytes t named h =
-    option_and_then_some _ _ _ h (λ d found_day a. option_and_then_some _ _ _ a (λ m found_month b. option_and_then_some _ _ _ b (λ y found_year e. option_and_then_some _ _ _ e (λ c found_clock ready.
+    option_and_then_some _ _ _ h (λ d found_day a. option_and_then_some _ _ _ a
+        (λ m found_month b. option_and_then_some _ _ _ b (λ y found_year e. option_and_then_some _ _ _ e (λ c found_clock ready.
     let day = pair_sound 32 1 31 bytes d.1 d.0 found_day in
     let month = month_sound d.1 m.1 m.0 found_month in
     let year = year_sound m.1 y.1 y.0 found_year in
@@ -145,7 +149,8 @@ asctime_sound : (weekday : ℕ) (name bytes : List ℕ) (t : DateTime) → IsDay
     → IsAsctimeDate (name ++ bytes) t
 unfolding read_asctime
 asctime_sound weekday name bytes t named h =
-    option_and_then_some _ _ _ h (λ m found_month a. option_and_then_some _ _ _ a (λ d found_day b. option_and_then_some _ _ _ b (λ c found_clock e. option_and_then_some _ _ _ e (λ y found_year ready.
+    option_and_then_some _ _ _ h (λ m found_month a. option_and_then_some _ _ _ a
+        (λ d found_day b. option_and_then_some _ _ _ b (λ c found_clock e. option_and_then_some _ _ _ e (λ y found_year ready.
     let month = month_sound bytes m.1 m.0 found_month in
     let day = padded_day_sound m.1 d.1 d.0 found_day in
     let clock = clock_sound d.1 c.1 c.0 found_clock in

@@ -1,5 +1,6 @@
 -- Dates of mail are read: what is read is one, and each is read.
-use Rattle.std.proofs.Common.{◌≡◌, ℕ, ◌+◌, ◌*◌, ◌⊎◌, ◌||◌, ◌==◌, Bool, true, false, cond, ℤ, pos, List, [], ◌∷◌, ◌++◌, codes, get_or, Option, Some, None, refl, sym, ◌∙◌, ap, subst, append_assoc, inl, inr, arith}
+use Rattle.std.proofs.Common.{◌≡◌, ℕ, ◌+◌, ◌*◌, ◌⊎◌, ◌||◌, ◌==◌, Bool, true, false, cond, ℤ, pos, List, [], ◌∷◌, ◌++◌, codes, get_or}
+use Rattle.std.proofs.Common.{Option, Some, None, refl, sym, ◌∙◌, ap, subst, append_assoc, inl, inr, arith}
 use Rattle.std.specs.Prelude.{option_map, if◌then◌else◌}
 use Rattle.std.proofs.lemmas.Bool.{eqb-true}
 use Rattle.std.proofs.lemmas.Option.{cond_some, some_pair_parts, option_and_then_some}
@@ -12,8 +13,11 @@ use Rattle.scan_core.proofs.FrontFacts.{behind_of, leading_passes, leading_and_b
 use Rattle.internet_dates.specs.Names.{day_names, zone_names, IsZoneName}
 use Rattle.internet_dates.specs.MailDate.{IsNamedFront, IsNumericZone, IsZone, is_comment_byte, IsComment, IsMailDate}
 use Rattle.internet_dates.specs.declared.date_time.DateTime.{DateTime}
-use Rattle.internet_dates.specs.inside.Reading.{two_number, with_rest, read_name, made, is_text, begins_with_digit, read_named, read_front, read_day, read_numeric, read_ut, minutes_of, read_zone_name, ut_or_name, read_zone, read_spaced_zone, read_opening, is_closed, is_comment, read_mail_date}
-use Rattle.internet_dates.proofs.Readers.{Sound, Exact, mark_sound, rest_parts, behind_sound, behind_exact, two_from, two_is, two_bytes, one_from, one_is, one_byte, two_sound, two_exact, year_sound, year_exact}
+use Rattle.internet_dates.specs.inside.Reading.{two_number, with_rest, read_name, made, is_text, begins_with_digit, read_named, read_front}
+use Rattle.internet_dates.specs.inside.Reading.{read_day, read_numeric, read_ut, minutes_of, read_zone_name, ut_or_name, read_zone}
+use Rattle.internet_dates.specs.inside.Reading.{read_spaced_zone, read_opening, is_closed, is_comment, read_mail_date}
+use Rattle.internet_dates.proofs.Readers.{Sound, Exact, mark_sound, rest_parts, behind_sound, behind_exact, two_from, two_is, two_bytes}
+use Rattle.internet_dates.proofs.Readers.{one_from, one_is, one_byte, two_sound, two_exact, year_sound, year_exact}
 use Rattle.internet_dates.proofs.NameFacts.{AllBelow, below, name_sound, weekday_sound, weekday_exact, month_sound, month_exact}
 use Rattle.internet_dates.proofs.ClockFacts.{mail_clock_sound, mail_clock_exact}
 use Rattle.internet_dates.proofs.HttpReading.{text_is, made_is, no_blank}
@@ -44,7 +48,8 @@ named_sound : (bytes rest : List ℕ) (named : Option ℕ) → read_named bytes 
     → (text : List ℕ) × IsNamedFront text named × (bytes ≡ text ++ rest)
 unfolding read_named
 named_sound bytes rest named h =
-    option_and_then_some _ _ _ h (λ w found a. option_and_then_some _ _ _ a (λ comma found_comma b. option_and_then_some _ _ _ b (λ last found_blank ready.
+    option_and_then_some _ _ _ h (λ w found a. option_and_then_some _ _ _ a
+        (λ comma found_comma b. option_and_then_some _ _ _ b (λ last found_blank ready.
     let name = weekday_sound bytes w.1 w.0 found in
     let parts = some_pair_parts _ _ _ _ ready in
     let one = mark_sound 44 w.1 comma found_comma in
@@ -130,7 +135,8 @@ numeric_sound negative bytes rest offset h =
     let split : bytes ≡ (hours.0 ++ minutes.0) ++ rest =
     hours.2 ∙ ap (λ (l : List ℕ). hours.0 ++ l) (minutes.2 ∙ ap (λ (l : List ℕ). minutes.0 ++ l) parts.1)
     ∙ sym (zone_joins hours.0 minutes.0 rest) in
-    (hours.0 ++ minutes.0, record { negative = negative; hour_text = hours.0; minute_text = minutes.0; hour = x.0; minute = y.0; hours = hours.1; minutes = minutes.1; joined = refl; value = sym parts.0 }, split)))
+    (hours.0 ++ minutes.0, record { negative = negative; hour_text = hours.0; minute_text = minutes.0; hour = x.0; minute = y.0;
+        hours = hours.1; minutes = minutes.1; joined = refl; value = sym parts.0 }, split)))
 
 signed_zone : (negative : Bool) (h m rest : List ℕ) (hour minute : ℕ) → IsField 2 0 24 h hour → IsField 2 0 59 m minute
     → read_zone (((if negative then codes "-" else codes "+") ++ (h ++ m)) ++ rest) ≡ Some (signed negative (60 * hour + minute), rest)
@@ -149,7 +155,8 @@ unfolding read_ut read_zone_name
 zones_found = (λ r. refl, (λ r. refl, (λ r. refl, (λ r. refl, (λ r. refl, (λ r. refl, (λ r. refl, (λ r. refl, (λ r. refl, tt)))))))))
 
 zone_exact : Exact IsZone read_zone
-zone_exact text rest offset (inl z) = rw (z.joined, z.value) (signed_zone z.negative z.hour_text z.minute_text rest z.hour z.minute z.hours z.minutes)
+zone_exact text rest offset (inl z) = rw (z.joined, z.value) (signed_zone z.negative z.hour_text z.minute_text rest z.hour z.minute z.hours
+    z.minutes)
 zone_exact text rest offset (inr (inl ut)) = rw (ut.0, ut.1) (ut_exact rest)
 zone_exact text rest offset (inr (inr (n, within, name, value))) = rw (name, value) (below IsZoneFound 9 zones_found n within rest)
 
@@ -172,7 +179,8 @@ zone_name_sound bytes rest offset h =
 ut_sound : (bytes rest : List ℕ) → read_ut bytes ≡ Some rest → bytes ≡ 85 ∷ 84 ∷ rest
 unfolding read_ut
 ut_sound bytes rest h =
-    option_and_then_some _ _ _ h (λ later found body. mark_sound 85 bytes later found ∙ ap (λ (l : List ℕ). 85 ∷ l) (mark_sound 84 later rest body))
+    option_and_then_some _ _ _ h (λ later found body. mark_sound 85 bytes later found
+        ∙ ap (λ (l : List ℕ). 85 ∷ l) (mark_sound 84 later rest body))
 
 ut_or : (bytes rest : List ℕ) (offset : ℤ) (found : Option (List ℕ)) → read_ut bytes ≡ found → ut_or_name bytes found ≡ Some (offset, rest)
     → (text : List ℕ) × IsZone text offset × (bytes ≡ text ++ rest)
@@ -218,7 +226,8 @@ comment_exact text (inr (inner, all, joined)) =
 opening_sound : (text inner : List ℕ) → read_opening text ≡ Some inner → text ≡ 32 ∷ 40 ∷ inner
 unfolding read_opening
 opening_sound text inner h =
-    option_and_then_some _ _ _ h (λ later found body. mark_sound 32 text later found ∙ ap (λ (l : List ℕ). 32 ∷ l) (mark_sound 40 later inner body))
+    option_and_then_some _ _ _ h (λ later found body. mark_sound 32 text later found
+        ∙ ap (λ (l : List ℕ). 32 ∷ l) (mark_sound 40 later inner body))
 
 closed_sound : (text : List ℕ) (found : Option (List ℕ)) → read_opening text ≡ found → is_closed found ≡ true → IsComment text
 closed_sound text None found h = absurd cc
@@ -261,8 +270,10 @@ mail_exact text t d =
 pub mail_sound : (text : List ℕ) (t : DateTime) → read_mail_date text ≡ Some t → IsMailDate text t
 unfolding read_mail_date
 mail_sound text t h =
-    option_and_then_some _ _ _ h (λ w found_front a. option_and_then_some _ _ _ a (λ d found_day b. option_and_then_some _ _ _ b (λ m found_month e.
-    option_and_then_some _ _ _ e (λ y found_year f. option_and_then_some _ _ _ f (λ c found_clock g. option_and_then_some _ _ _ g (λ z found_zone ready.
+    option_and_then_some _ _ _ h (λ w found_front a. option_and_then_some _ _ _ a
+        (λ d found_day b. option_and_then_some _ _ _ b (λ m found_month e.
+    option_and_then_some _ _ _ e (λ y found_year f. option_and_then_some _ _ _ f
+        (λ c found_clock g. option_and_then_some _ _ _ g (λ z found_zone ready.
     let front = front_sound text w.1 w.0 found_front in
     let day = day_sound w.1 d.1 d.0 found_day in
     let month = month_sound d.1 m.1 m.0 found_month in

@@ -1,5 +1,6 @@
 -- Names are told by their three letters, and no two are the same.
-use Rattle.std.proofs.Common.{◌≡◌, ℕ, zero, suc, ◌+◌, ◌-◌, ◌<◌, ◌≤◌, ◌&&◌, ◌==◌, Bool, true, false, cond, List, [], ◌∷◌, ◌++◌, length, get_or, Some, refl, sym, ◌∙◌, ap, subst, inl, inr, arith}
+use Rattle.std.proofs.Common.{◌≡◌, ℕ, zero, suc, ◌+◌, ◌-◌, ◌<◌, ◌≤◌, ◌&&◌, ◌==◌, Bool, true, false, cond, List, [], ◌∷◌, ◌++◌, length}
+use Rattle.std.proofs.Common.{get_or, Some, refl, sym, ◌∙◌, ap, subst, inl, inr, arith}
 use Rattle.std.specs.List.{list_all}
 use Rattle.std.proofs.lemmas.Bool.{and_parts, eqb-true, cases_lt}
 use Rattle.internet_dates.specs.Names.{day_names, month_names, IsDayName, IsMonthName}
@@ -30,7 +31,8 @@ pub record IsPlace (names : List (List ℕ)) (first a b c n : ℕ) : Type 0 wher
 
 later : (name : List ℕ) (names : List (List ℕ)) (first a b c n : ℕ) → IsPlace names (suc first) a b c n
     → IsPlace (name ∷ names) first a b c n
-later name names first a b c n p = let number = p.number in let within = p.within in record { place = suc p.place; within = omega (arith, within); number = omega (arith, number); name = p.name }
+later name names first a b c n p = let number = p.number in let within = p.within in
+    record { place = suc p.place; within = omega (arith, within); number = omega (arith, number); name = p.name }
 
 place_if : (t : Bool) (name : List ℕ) (names : List (List ℕ)) (first a b c n : ℕ) → is_name name a b c ≡ t → is_three name ≡ true
     → (place_of names (suc first) a b c ≡ Some n → IsPlace names (suc first) a b c n)
@@ -83,11 +85,13 @@ days_found : AllBelow (IsFound day_names 0) 7
 days_found = (λ r. refl, (λ r. refl, (λ r. refl, (λ r. refl, (λ r. refl, (λ r. refl, (λ r. refl, tt)))))))
 
 months_found : AllBelow (IsFound month_names 1) 12
-months_found = (λ r. refl, (λ r. refl, (λ r. refl, (λ r. refl, (λ r. refl, (λ r. refl, (λ r. refl, (λ r. refl, (λ r. refl, (λ r. refl, (λ r. refl, (λ r. refl, tt))))))))))))
+months_found = (λ r. refl, (λ r. refl, (λ r. refl, (λ r. refl, (λ r. refl,
+    (λ r. refl, (λ r. refl, (λ r. refl, (λ r. refl, (λ r. refl, (λ r. refl, (λ r. refl, tt))))))))))))
 
 pub weekday_exact : Exact IsDayName read_weekday
 unfolding read_weekday
-weekday_exact text rest value is = let same : 0 + value ≡ value = omega arith in rw is.1 (below (IsFound day_names 0) 7 days_found value is.0 rest ∙ ap (λ (n : ℕ). Some (n, rest)) same)
+weekday_exact text rest value is = let same : 0 + value ≡ value = omega arith in
+    rw is.1 (below (IsFound day_names 0) 7 days_found value is.0 rest ∙ ap (λ (n : ℕ). Some (n, rest)) same)
 
 pub weekday_sound : Sound IsDayName read_weekday
 unfolding read_weekday

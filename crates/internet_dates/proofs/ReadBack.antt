@@ -1,5 +1,6 @@
 -- Written dates are in the grammars, and are read as the moment that was written.
-use Rattle.std.proofs.Common.{◌≡◌, ℕ, ◌<◌, false, ℤ, pos, List, [], ◌++◌, codes, Option, Some, None, Result, Ok, Err, refl, sym, ◌∙◌, ap, subst, append_assoc, inl, inr, arith}
+use Rattle.std.proofs.Common.{◌≡◌, ℕ, ◌<◌, false, ℤ, pos, List, [], ◌++◌, codes, Option, Some, None, Result, Ok, Err, refl, sym, ◌∙◌, ap}
+use Rattle.std.proofs.Common.{subst, append_assoc, inl, inr, arith}
 use Rattle.std.specs.Prelude.{IfSome, IsSome}
 use Rattle.scan_core.specs.Padded.{padded_digits}
 use Rattle.scan_core.proofs.PaddedFacts.{padded_field}
@@ -119,9 +120,11 @@ mail_spelled t r some utc =
 pub moment_back : (Spells : List ℕ → DateTime → Type 0) → ((text : List ℕ) (a b : DateTime) → Spells text a → Spells text b → a ≡ b)
     → (first : ℕ) (seconds : ℤ) (t : DateTime) (text : List ℕ) (answer : Result ℤ DateError) → Spells text t → IsAt first seconds t
     → IsRead Spells first text answer → answer ≡ Ok seconds
-moment_back Spells one first seconds t text (Ok s) spelled at (u, is, real, least, value) = ap Ok (value ∙ ap seconds_of (one text u t is spelled) ∙ at.same)
+moment_back Spells one first seconds t text (Ok s) spelled at (u, is, real, least, value) =
+    ap Ok (value ∙ ap seconds_of (one text u t is spelled) ∙ at.same)
 moment_back Spells one first seconds t text (Err Syntax) spelled at none = absurd (none t spelled)
-moment_back Spells one first seconds t text (Err NoSuchMoment) spelled at (u, is, unreal) = absurd (unreal (subst IsReal (one text t u spelled is) at.real))
+moment_back Spells one first seconds t text (Err NoSuchMoment) spelled at (u, is, unreal) =
+    absurd (unreal (subst IsReal (one text t u spelled is) at.real))
 moment_back Spells one first seconds t text (Err Range) spelled at (u, is, real, less) =
     let year = ap (λ (v : DateTime). v.year) (one text t u spelled is) in
     let least = at.least in

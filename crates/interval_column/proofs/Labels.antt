@@ -1,5 +1,6 @@
 -- Names in front of texts. Names have no space, so a whole has one name and one text at most.
-use Rattle.std.proofs.Common.{◌≡◌, ◌==◌, ◌&&◌, ℕ, Bool, true, false, not, List, [], ◌∷◌, ◌++◌, codes, Some, None, Option, cond, refl, sym, ◌∙◌, ap, subst, inl, inr, true≢false, arith, append-nil}
+use Rattle.std.proofs.Common.{◌≡◌, ◌==◌, ◌&&◌, ℕ, Bool, true, false, not, List, [], ◌∷◌, ◌++◌, codes, Some, None, Option, cond, refl, sym}
+use Rattle.std.proofs.Common.{◌∙◌, ap, subst, inl, inr, true≢false, arith, append-nil}
 use Rattle.std.specs.List.{list_all}
 use Rattle.std.specs.Str.{bytes_eq}
 use Rattle.std.specs.Option.{IfNone}
@@ -8,7 +9,8 @@ use Rattle.pg_interval_2.specs.declared.style.Style.{Style}
 use Rattle.pg_interval_2.specs.declared.style.Style.TheVariants as style
 use Rattle.forms.specs.Names.{name_of, style_of}
 use Rattle.forms.specs.declared.form.Form.{Form}
-use Rattle.forms.specs.declared.form.Form.TheVariants.{FileTime, IsoDateTime, IsoDate, IsoDuration, Toml, Fancy, PgIso, Postgres, PgVerbose, PgSql, IsoStrict}
+use Rattle.forms.specs.declared.form.Form.TheVariants.{FileTime, IsoDateTime, IsoDate, IsoDuration, Toml, Fancy, PgIso, Postgres, PgVerbose}
+use Rattle.forms.specs.declared.form.Form.TheVariants.{PgSql, IsoStrict}
 use Rattle.whole_input.specs.Parts.{HasNo, IsSplitAt}
 use Rattle.interval_column.specs.Lines.{IsEntry, IsLabelled}
 use Rattle.interval_column.specs.inside.Labels.{IsStyled, IsNotStyled, IsNoEntry}
@@ -99,7 +101,8 @@ one_style f g s t h k same = some_is s t (sym (style_is f s h) ∙ (ap style_nam
 
 pub one_entry : (line : List ℕ) (s t : Style) (a b : List ℕ) → IsEntry line s a → IsEntry line t b → (s ≡ t) × (a ≡ b)
 one_entry line s t a b h k =
-    let both = one_label line (name_of h.form) (name_of k.form) a b (names_have_no_space h.form) (names_have_no_space k.form) h.labelled k.labelled in
+    let both = one_label line (name_of h.form) (name_of k.form) a b (names_have_no_space h.form)
+        (names_have_no_space k.form) h.labelled k.labelled in
     (one_style h.form k.form s t h.named k.named both.0, both.1)
 
 -- ---- what readers of names answer
@@ -112,12 +115,14 @@ form_in other (Some form) = form
 form_in other None = other
 
 -- the word names no form
-pub no_form : (whole word rest : List ℕ) → HasNo 32 word → IsLabelled whole word rest → ((form : Form) → word ≡ name_of form → ⊥) → IsNotStyled whole
+pub no_form : (whole word rest : List ℕ) → HasNo 32 word → IsLabelled whole word rest → ((form : Form) → word ≡ name_of form → ⊥)
+    → IsNotStyled whole
 no_form whole word rest h labelled none s text is =
     none is.form (one_label whole word (name_of is.form) rest text h (names_have_no_space is.form) labelled is.labelled).0
 
 -- the word names a form that is no interval form
-pub no_style : (whole word rest : List ℕ) (form : Form) → HasNo 32 word → IsLabelled whole word rest → word ≡ name_of form → style_of form ≡ None → IsNotStyled whole
+pub no_style : (whole word rest : List ℕ) (form : Form) → HasNo 32 word → IsLabelled whole word rest → word ≡ name_of form
+    → style_of form ≡ None → IsNotStyled whole
 no_style whole word rest form h labelled named none s text is =
     let same = (one_label whole word (name_of is.form) rest text h (names_have_no_space is.form) labelled is.labelled).0 in
     none_is_no_some s (sym (unstyled form none) ∙ (ap style_named (sym named ∙ same) ∙ style_is is.form s is.named))
@@ -136,7 +141,8 @@ no_style whole word rest form h labelled named none s text is =
     unstyled IsoStrict h = h
 
 pub styled_entry : (line text : List ℕ) (s : Style) (rest : List ℕ) → text ≡ line → IsEntry line s rest → IsStyled text s rest
-styled_entry line text s rest same e = record { form = e.form; named = e.named; labelled = subst (λ (l : List ℕ). IsLabelled l (name_of e.form) rest) (sym same) e.labelled }
+styled_entry line text s rest same e = record { form = e.form; named = e.named;
+    labelled = subst (λ (l : List ℕ). IsLabelled l (name_of e.form) rest) (sym same) e.labelled }
 
 pub if_none_map : {T : Type 0} (r : Option T) (P Q : Type 0) → (P → Q) → IfNone r P → IfNone r Q
 if_none_map None P Q f h = f h

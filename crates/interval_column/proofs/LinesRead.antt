@@ -18,7 +18,8 @@ err_one a b h = cc
 never : (a : Interval) (b : LineFault) → ◌≡◌ {A = Result Interval LineFault} (Ok a) (Err b) → ⊥
 never a b h = cc
 
-pub read_one : OneLine → (n m : ℕ) (lines : List (List ℕ)) (xs ys : List Interval) → AreRead IsRead n lines xs → AreRead IsRead m lines ys → xs ≡ ys
+pub read_one : OneLine → (n m : ℕ) (lines : List (List ℕ)) (xs ys : List Interval) → AreRead IsRead n lines xs → AreRead IsRead m lines ys
+    → xs ≡ ys
 read_one one n m [] xs ys h k = h ∙ sym k
 read_one one n m (line ∷ lines) xs ys h k =
     let first = ok_one h.0 k.0 (one line (Ok h.0) (Ok k.0) h.2 k.2) in
@@ -26,8 +27,10 @@ read_one one n m (line ∷ lines) xs ys h k =
     let a = h.4 in let b = k.4 in
     cc
 
-fault_one : OneLine → (n m : ℕ) (before other : List (List ℕ)) (line line' : List ℕ) (after after' : List (List ℕ)) (xs ys : List Interval) (f g : LineFault)
-    → before ++ line ∷ after ≡ other ++ line' ∷ after' → AreRead IsRead n before xs → AreRead IsRead m other ys → IsLineRead line (Err f) → IsLineRead line' (Err g)
+fault_one : OneLine → (n m : ℕ) (before other : List (List ℕ)) (line line' : List ℕ) (after after' : List (List ℕ)) (xs ys : List Interval)
+    (f g : LineFault)
+    → before ++ line ∷ after ≡ other ++ line' ∷ after' → AreRead IsRead n before xs → AreRead IsRead m other ys → IsLineRead line (Err f)
+        → IsLineRead line' (Err g)
     → (length before ≡ length other) × (f ≡ g)
 fault_one one n m [] [] line line' after after' xs ys f g same h k bad bad' =
     let here : line ≡ line' = cc in
@@ -43,12 +46,15 @@ fault_one one n m (text ∷ before) (text' ∷ other) line line' after after' xs
     let rest = fault_one one (n + 1) (m + 1) before other line line' after after' h.1 k.1 f g tails h.3 k.3 bad bad' in
     (ap suc rest.0, rest.1)
 
-pub one_fault : OneLine → (lines : List (List ℕ)) (n m : ℕ) (f g : LineFault) → IsFirstFault IsRead lines n f → IsFirstFault IsRead lines m g → (n ≡ m) × (f ≡ g)
+pub one_fault : OneLine → (lines : List (List ℕ)) (n m : ℕ) (f g : LineFault) → IsFirstFault IsRead lines n f
+    → IsFirstFault IsRead lines m g → (n ≡ m) × (f ≡ g)
 one_fault one lines n m f g h k =
-    let both = fault_one one 1 1 h.before k.before h.line k.line h.after k.after h.values k.values f g (sym h.split ∙ k.split) h.read k.read h.faulty k.faulty in
+    let both = fault_one one 1 1 h.before k.before h.line k.line h.after k.after h.values k.values f g
+        (sym h.split ∙ k.split) h.read k.read h.faulty k.faulty in
     (let a = h.counted in let b = k.counted in let e = both.0 in omega (arith, a, b, e), both.1)
 
-read_at : (n : ℕ) (before : List (List ℕ)) (line : List ℕ) (after : List (List ℕ)) (xs : List Interval) → AreRead IsRead n (before ++ line ∷ after) xs → (t : Interval) × IsLineRead line (Ok t)
+read_at : (n : ℕ) (before : List (List ℕ)) (line : List ℕ) (after : List (List ℕ)) (xs : List Interval)
+    → AreRead IsRead n (before ++ line ∷ after) xs → (t : Interval) × IsLineRead line (Ok t)
 read_at n [] line after xs h = (h.0, h.2)
 read_at n (text ∷ before) line after xs h = read_at (n + 1) before line after h.1 h.3
 

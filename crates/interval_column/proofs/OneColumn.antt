@@ -1,5 +1,6 @@
 -- Intervals have one order.
-use Rattle.std.proofs.Common.{◌≡◌, ℕ, zero, suc, ◌+◌, ◌<◌, ◌≤◌, cond, true, false, true≢false, List, [], ◌∷◌, length, get_or, sum_by, Ordering, is_lt, Less, Equal, Greater, IsPermutation, IsSorted, refl, sym, ◌∙◌, ap, subst, arith}
+use Rattle.std.proofs.Common.{◌≡◌, ℕ, zero, suc, ◌+◌, ◌<◌, ◌≤◌, cond, true, false, true≢false, List, [], ◌∷◌, length, get_or, sum_by}
+use Rattle.std.proofs.Common.{Ordering, is_lt, Less, Equal, Greater, IsPermutation, IsSorted, refl, sym, ◌∙◌, ap, subst, arith}
 use Rattle.std.specs.Ordering.{is_eq, ordering_reverse}
 use Rattle.std.proofs.lemmas.List.Sums.{sum_by-cons}
 use Rattle.std.proofs.lemmas.List.Sorted.{sorted_far, ranks_by, sum_by-IsPermutation}
@@ -21,11 +22,13 @@ abbrev InOrder : List Interval → Type 0
 InOrder [] = Unit {0}
 InOrder (t ∷ more) = IsFirst t more × InOrder more
 
-first_of : (t : Interval) (more : List Interval) → ((k : ℕ) → k < length more → is_lt (order_of (get_or more k t) t) ≡ false) → IsFirst t more
+first_of : (t : Interval) (more : List Interval) → ((k : ℕ) → k < length more → is_lt (order_of (get_or more k t) t) ≡ false)
+    → IsFirst t more
 first_of t [] h = tt
 first_of t (u ∷ more) h = (h 0 (omega arith), first_of t more (λ k low. h (suc k) (omega (arith, low))))
 
-in_order : (xs : List Interval) → ((i j : ℕ) (d : Interval) → i ≤ j → j < length xs → is_lt (order_of (get_or xs j d) (get_or xs i d)) ≡ false) → InOrder xs
+in_order : (xs : List Interval) → ((i j : ℕ) (d : Interval) → i ≤ j → j < length xs
+    → is_lt (order_of (get_or xs j d) (get_or xs i d)) ≡ false) → InOrder xs
 in_order [] h = tt
 in_order (t ∷ more) h = (
   first_of t more (λ k low. h 0 (suc k) t (omega arith) (omega (arith, low))),
@@ -60,7 +63,8 @@ standing : (t : Interval) (more : List Interval) → 1 ≤ sum_by (tie t) (t ∷
 standing t more = let all = sum_by-cons (tie t) t more in let one = own t in omega (arith, all, one)
 
 -- the first of a list in order is not behind the first of another with the same intervals
-not_before : (t u : Interval) (xs ys : List Interval) → InOrder (u ∷ ys) → sum_by (tie t) (t ∷ xs) ≡ sum_by (tie t) (u ∷ ys) → order_of t u ≡ Less → ⊥
+not_before : (t u : Interval) (xs ys : List Interval) → InOrder (u ∷ ys) → sum_by (tie t) (t ∷ xs) ≡ sum_by (tie t) (u ∷ ys)
+    → order_of t u ≡ Less → ⊥
 not_before t u xs ys up same less =
     let some = standing t xs in
     let all = sum_by-cons (tie t) u ys in

@@ -1,5 +1,6 @@
 -- A line is read in one way.
-use Rattle.std.proofs.Common.{◌≡◌, ◌&&◌, ℕ, Bool, true, false, true≢false, List, [], ◌∷◌, Some, None, Option, Result, Ok, Err, refl, sym, ◌∙◌, ap, subst, inl, inr}
+use Rattle.std.proofs.Common.{◌≡◌, ◌&&◌, ℕ, Bool, true, false, true≢false, List, [], ◌∷◌, Some, None, Option, Result, Ok, Err, refl, sym}
+use Rattle.std.proofs.Common.{◌∙◌, ap, subst, inl, inr}
 use Rattle.std.specs.Prelude.{IsTrue}
 use Rattle.scan_core.specs.Count.{Count}
 use Rattle.scan_core.specs.Sums.{total, fits, misfit, part_fits, first_false}
@@ -30,8 +31,10 @@ none_out false b c part h k = true≢false (sym h)
 fits_or_not : (counts : List Count) (part : Part) → IsTrue (fits counts) → misfit counts ≡ Some part → ⊥
 fits_or_not counts part h k = none_out (part_fits Months counts) (part_fits Days counts) (part_fits Micros counts) part h k
 
-one_text : OneList → (style : Style) (text : List ℕ) (a b : Result Interval LineFault) → IsTextRead style text a → IsTextRead style text b → a ≡ b
-one_text one style text (Ok t) (Ok u) h k = let same = ap sum_of (one style text h.0 k.0 h.1 k.1) in let x = h.3 in let y = k.3 in ap Ok (x ∙ (same ∙ sym y))
+one_text : OneList → (style : Style) (text : List ℕ) (a b : Result Interval LineFault) → IsTextRead style text a → IsTextRead style text b
+    → a ≡ b
+one_text one style text (Ok t) (Ok u) h k = let same = ap sum_of (one style text h.0 k.0 h.1 k.1) in let x = h.3 in let y = k.3 in
+    ap Ok (x ∙ (same ∙ sym y))
 one_text one style text (Ok t) (Err Syntax) h k = absurd (k h.0 h.1)
 one_text one style text (Ok t) (Err Range) h k =
     absurd (fits_or_not h.0 k.0 h.2 (ap misfit (one style text h.0 k.1.0 h.1 k.1.1) ∙ k.1.2))
@@ -51,4 +54,5 @@ one_line one line a b (inl h) (inr (style, text, entry, read)) = absurd (h.0 sty
 one_line one line a b (inr (style, text, entry, read)) (inl k) = absurd (k.0 style text entry)
 one_line one line a b (inr (style, text, entry, read)) (inr (style', text', entry', read')) =
     let same = one_entry line style style' text text' entry entry' in
-    one_text one style' text' a b (subst (λ (s : Style). IsTextRead s text' a) same.0 (subst (λ (t : List ℕ). IsTextRead style t a) same.1 read)) read'
+    one_text one style' text' a b (subst (λ (s : Style). IsTextRead s text' a) same.0
+        (subst (λ (t : List ℕ). IsTextRead style t a) same.1 read)) read'

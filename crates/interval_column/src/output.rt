@@ -12,7 +12,6 @@ use crate::line_text::{fault_text, push_line};
 use crate::ranked::Ranked;
 use crate::reading::read_ranks;
 use crate::summary::summary;
-use forms::laws::waiting_texts_keep_their_order;
 use forms::{Batch, Failed, Sink, put_text};
 use pg_interval_2::{Interval, Style};
 use scan_core::Short;
@@ -50,7 +49,7 @@ fn respond_column<K: Sink>(style: Style, ranks: &[Ranked], sink: &mut K) -> Resp
     ensures memory { result ≢ Response.NoMemory }
     ensures later { K.faults sink.old ≤ K.faults sink.new }
 {
-    waiting_texts_keep_their_order();
+    forms::laws::waiting_texts_keep_their_order();
     let mut batch = Batch::new();
     match put_column(sink, &mut batch, style, ranks) {
         Ok(()) => respond_waiting(sink, &mut batch, 0),
@@ -84,7 +83,7 @@ fn put_column<K: Sink>(
         (batch.old.bytes ++ column_text style (intervals_of ranks.now))) }
     ensures cause { HasCause (K.faults sink.old) (K.faults sink.new) result }
 {
-    waiting_texts_keep_their_order();
+    forms::laws::waiting_texts_keep_their_order();
     put_intervals(sink, batch, style, ranks)?;
     let summary = summary(style, ranks);
     put_text(sink, batch, summary.as_str())
@@ -104,7 +103,7 @@ fn put_intervals<K: Sink>(
         (batch.old.bytes ++ flat_map (interval_line style []) (intervals_of ranks.now))) }
     ensures cause { HasCause (K.faults sink.old) (K.faults sink.new) result }
 {
-    waiting_texts_keep_their_order();
+    forms::laws::waiting_texts_keep_their_order();
     for ranked in ranks {
         put_interval(sink, batch, style, ranked.interval)?;
     }

@@ -5,7 +5,8 @@ use Rattle.std.proofs.lemmas.Int.{ints, by_lt_z}
 use Rattle.jiff_core.specs.Calendar.{days_from_civil, days_of_months as civil_months, IsDate, IsYear, IsBetween, IsEpochDay}
 use Rattle.jiff_core.specs.Date.{epoch_day, ordinal, IsYmd}
 use Rattle.jiff_core.specs.declared.civil.date.Date.{Date as CivilDate}
-use Rattle.jiff_core.proofs.CalendarLemmas.{days_from_civil-day_count, day_count-next_year, days_of_months_more, days_of_months_mono, days_of_months_all}
+use Rattle.jiff_core.proofs.CalendarLemmas.{days_from_civil-day_count, day_count-next_year, days_of_months_more, days_of_months_mono}
+use Rattle.jiff_core.proofs.CalendarLemmas.{days_of_months_all}
 use Rattle.jiff_core.proofs.DateLemmas.{civil, epoch_day-ordinal, days_from_civil-min}
 use Rattle.iso8601.specs.Calendar.{days_of_months, new_year, day_of, Exists, IsCivilDay}
 use Rattle.iso8601.specs.Calendar.{days_in_year}
@@ -24,7 +25,8 @@ pub first_year : new_year (neg_ℤ (pos 9999)) ≡ neg_ℤ (pos 4_371_587)
 unfolding new_year
 first_year = refl
 
-january_next : (y next : ℤ) → neg_ℤ (pos 9999) ≤ℤ y → next ≡ y +ℤ pos 1 → days_from_civil y 1 1 ≡ new_year y → days_from_civil next 1 1 ≡ new_year next
+january_next : (y next : ℤ) → neg_ℤ (pos 9999) ≤ℤ y → next ≡ y +ℤ pos 1 → days_from_civil y 1 1 ≡ new_year y
+    → days_from_civil next 1 1 ≡ new_year next
 january_next y next least e h =
     let days = day_count-next_year y next (omega (arith, ints)) e in
     let a = days_from_civil-day_count y 1 1 in
@@ -105,7 +107,8 @@ ymd_bounds y m d e =
 
 pub ymd_exists : (y : ℤ) (m d : ℕ) → IsDate y (pos m) (pos d) → Exists (YMD y m d) × IsCivilDay (day_of (YMD y m d))
 ymd_exists y m d is =
-    let e : Exists (YMD y m d) = (omega (arith, ints, is.1.0), omega (arith, ints, is.1.1), omega (arith, ints, is.2.0), omega (arith, ints, is.2.1)) in
+    let e : Exists (YMD y m d) = (omega (arith, ints, is.1.0), omega (arith, ints, is.1.1), omega (arith, ints, is.2.0),
+        omega (arith, ints, is.2.1)) in
     let b = ymd_bounds y m d e in
     (e, civil_is _ (in_years y _ is.0 b.0 b.1))
 
@@ -130,16 +133,19 @@ ymd_day d year month day ymd =
 
 -- ---- days of years
 
-pub ordinal_bounds : (y : ℤ) (ddd : ℕ) → Exists (Ordinal y ddd) → (new_year y ≤ℤ day_of (Ordinal y ddd)) × (day_of (Ordinal y ddd) <ℤ new_year (y +ℤ pos 1))
+pub ordinal_bounds : (y : ℤ) (ddd : ℕ) → Exists (Ordinal y ddd) → (new_year y ≤ℤ day_of (Ordinal y ddd))
+    × (day_of (Ordinal y ddd) <ℤ new_year (y +ℤ pos 1))
 ordinal_bounds y ddd e = let next = new_year-next y in (omega (arith, ints, e.0), omega (arith, ints, e.1))
 
-pub ordinal_exists : (y : ℤ) (ddd : ℕ) → IsYear y × IsBetween (pos 1) (pos (days_in_year y)) (pos ddd) → Exists (Ordinal y ddd) × IsCivilDay (day_of (Ordinal y ddd))
+pub ordinal_exists : (y : ℤ) (ddd : ℕ) → IsYear y × IsBetween (pos 1) (pos (days_in_year y)) (pos ddd) → Exists (Ordinal y ddd)
+    × IsCivilDay (day_of (Ordinal y ddd))
 ordinal_exists y ddd is =
     let e : Exists (Ordinal y ddd) = (omega (arith, ints, is.1.0), omega (arith, ints, is.1.1)) in
     let b = ordinal_bounds y ddd e in
     (e, civil_is _ (in_years y _ is.0 b.0 b.1))
 
-pub ordinal_is : (y : ℤ) (ddd : ℕ) → Exists (Ordinal y ddd) × IsCivilDay (day_of (Ordinal y ddd)) → IsYear y × IsBetween (pos 1) (pos (days_in_year y)) (pos ddd)
+pub ordinal_is : (y : ℤ) (ddd : ℕ) → Exists (Ordinal y ddd) × IsCivilDay (day_of (Ordinal y ddd)) → IsYear y
+    × IsBetween (pos 1) (pos (days_in_year y)) (pos ddd)
 ordinal_is y ddd h =
     let b = ordinal_bounds y ddd h.0 in
     (only_years y _ b.0 b.1 (is_civil _ h.1), (omega (arith, ints, h.0.0), omega (arith, ints, h.0.1)))

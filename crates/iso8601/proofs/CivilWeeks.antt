@@ -39,17 +39,21 @@ below_seven Friday = omega arith
 below_seven Saturday = omega arith
 below_seven Sunday = omega arith
 
-pub week_day : (y : ℤ) (ww : ℕ) (w : Weekday) (d : ℕ) → neg_ℤ (pos 9999) ≤ℤ y → 1 ≤ ww → monday_zero w + 1 ≡ d → days_from_iso y ww w ≡ day_of (Week y ww d)
+pub week_day : (y : ℤ) (ww : ℕ) (w : Weekday) (d : ℕ) → neg_ℤ (pos 9999) ≤ℤ y → 1 ≤ ww → monday_zero w + 1 ≡ d
+    → days_from_iso y ww w ≡ day_of (Week y ww d)
 unfolding days_from_iso
 week_day y ww w d least some same = let start = same_week_one y least in omega (arith, ints)
 
 -- week 1 begins 52 or 53 weeks before that of the next year
-next_week_one : (y : ℤ) → IsYear y → (week_one (y +ℤ pos 1) ≡ week_one y +ℤ pos (7 * weeks_in_year y)) × (52 ≤ weeks_in_year y) × (weeks_in_year y ≤ 53)
+next_week_one : (y : ℤ) → IsYear y → (week_one (y +ℤ pos 1) ≡ week_one y +ℤ pos (7 * weeks_in_year y)) × (52 ≤ weeks_in_year y)
+    × (weeks_in_year y ≤ 53)
 next_week_one y in_range =
     let next = weeks_in_year-next y (y +ℤ pos 1) in_range refl in
-    (sym (same_week_one (y +ℤ pos 1) (omega (arith, ints))) ∙ next.0 ∙ ap (λ (z : ℤ). z +ℤ pos (7 * weeks_in_year y)) (same_week_one y in_range.0), next.1, next.2)
+    (sym (same_week_one (y +ℤ pos 1) (omega (arith, ints))) ∙ next.0
+        ∙ ap (λ (z : ℤ). z +ℤ pos (7 * weeks_in_year y)) (same_week_one y in_range.0), next.1, next.2)
 
-pub week_exists : (y : ℤ) (ww : ℕ) (w : Weekday) (d : ℕ) → monday_zero w + 1 ≡ d → IsIsoWeekDate y (pos ww) w → Exists (Week y ww d) × IsCivilDay (day_of (Week y ww d))
+pub week_exists : (y : ℤ) (ww : ℕ) (w : Weekday) (d : ℕ) → monday_zero w + 1 ≡ d → IsIsoWeekDate y (pos ww) w → Exists (Week y ww d)
+    × IsCivilDay (day_of (Week y ww d))
 week_exists y ww w d same is =
     let seven = below_seven w in
     let next = next_week_one y is.0 in
@@ -83,7 +87,8 @@ late_week y day least most far =
     let start : week_one y ≡ pos 2_932_899 = ap week_one e ∙ last_week_one in
     absurd (omega (arith, ints)))
 
-early_week : (y : ℤ) (ww d : ℕ) → Exists (Week y ww d) → neg_ℤ (pos 4_371_587) ≤ℤ day_of (Week y ww d) → (y +ℤ pos 1) ≤ℤ neg_ℤ (pos 9999) → ⊥
+early_week : (y : ℤ) (ww d : ℕ) → Exists (Week y ww d) → neg_ℤ (pos 4_371_587) ≤ℤ day_of (Week y ww d) → (y +ℤ pos 1) ≤ℤ neg_ℤ (pos 9999)
+    → ⊥
 early_week y ww d e least far =
     by_lt_z y (neg_ℤ (pos 10000))
     (λ more.
@@ -102,7 +107,8 @@ early_week y ww d e least far =
 last_week : (ww weeks : ℕ) → ww ≤ 53 → 52 ≤ weeks → (ww ≡ 53 → 53 ≤ weeks) → ww ≤ weeks
 last_week ww weeks most least last = grind arith
 
-pub week_is : (y : ℤ) (ww : ℕ) (w : Weekday) (d : ℕ) → monday_zero w + 1 ≡ d → Exists (Week y ww d) × IsCivilDay (day_of (Week y ww d)) → IsIsoWeekDate y (pos ww) w
+pub week_is : (y : ℤ) (ww : ℕ) (w : Weekday) (d : ℕ) → monday_zero w + 1 ≡ d → Exists (Week y ww d) × IsCivilDay (day_of (Week y ww d))
+    → IsIsoWeekDate y (pos ww) w
 week_is y ww w d same h =
     let e = h.0 in
     let civil = is_civil _ h.1 in
@@ -113,5 +119,6 @@ week_is y ww w d same h =
     ) in
     let next = next_week_one y in_range in
     let near = week_one_near (y +ℤ pos 1) in
-    let most : pos ww ≤ℤ pos (weeks_in_year y) = let few = last_week ww (weeks_in_year y) e.1 next.1 (λ last. let late = e.4 last in omega (arith, ints)) in omega (arith, ints) in
+    let most : pos ww ≤ℤ pos (weeks_in_year y) = let few = last_week ww (weeks_in_year y) e.1 next.1
+        (λ last. let late = e.4 last in omega (arith, ints)) in omega (arith, ints) in
     (in_range, (omega (arith, ints, e.0), most), rw (week_day y ww w d in_range.0 e.0 same) civil)

@@ -1,5 +1,7 @@
 -- Runs of digits that a scan passed, as the readers on lists see them.
-use Rattle.std.proofs.Common.{◌≡◌, ◌≢◌, ℕ, pos, zero, suc, ◌-◌, ◌*◌, ◌^◌, ◌<◌, ◌≤◌, ◌⊎◌, ◌==◌, Bool, true, false, List, [], ◌∷◌, ◌++◌, length, take, drop, Option, Some, None, refl, sym, ◌∙◌, ap, subst, arith, inl, inr, length-take, length-append}
+use Rattle.std.proofs.Common.{◌≡◌, ◌≢◌, ℕ, pos, zero, suc, ◌-◌, ◌*◌, ◌^◌, ◌<◌, ◌≤◌, ◌⊎◌, ◌==◌, Bool, true, false, List, [], ◌∷◌, ◌++◌}
+use Rattle.std.proofs.Common.{length, take, drop, Option, Some, None, refl, sym, ◌∙◌, ap, subst, arith, inl, inr, length-take}
+use Rattle.std.proofs.Common.{length-append}
 use Rattle.std.proofs.lemmas.Bool.{eqb-true, eq-eqb, false_from_ne_true}
 use Rattle.std.proofs.lemmas.Bool.Decides.{nat_tests}
 use Rattle.std.proofs.lemmas.List.{take_at, drop_at}
@@ -41,17 +43,21 @@ at_least value n (inr great) h = omega (arith, great.1)
 
 -- ---- numbers of 32 bits
 
-pub number_some : (text : List ℕ) (run : Run) → IsRun text run → run.start ≢ run.end → run.value < 2 ^ 32 → number_in (digits_of text run) ≡ Some run.value
+pub number_some : (text : List ℕ) (run : Run) → IsRun text run → run.start ≢ run.end → run.value < 2 ^ 32
+    → number_in (digits_of text run) ≡ Some run.value
 number_some text run is apart fits =
     let same = known run.value (number_of (digits_of text run)) is.value (omega arith) in
     let long = run_length text run is in
-    number_exact (digits_of text run) run.value (record { some = omega (arith, is.order); all_digits = is.digits; number = same; fits = fits })
+    number_exact (digits_of text run) run.value (record { some = omega (arith, is.order); all_digits = is.digits; number = same;
+        fits = fits })
 
-pub number_none : (text : List ℕ) (run : Run) → IsRun text run → (run.start ≡ run.end) ⊎ (2 ^ 32 ≤ run.value) → number_in (digits_of text run) ≡ None
+pub number_none : (text : List ℕ) (run : Run) → IsRun text run → (run.start ≡ run.end) ⊎ (2 ^ 32 ≤ run.value)
+    → number_in (digits_of text run) ≡ None
 number_none text run is (inl same) =
     let long = run_length text run is in
     number_missing (digits_of text run) (inl (omega arith))
-number_none text run is (inr great) = number_missing (digits_of text run) (inr (at_least run.value (number_of (digits_of text run)) is.value great))
+number_none text run is (inr great) = number_missing (digits_of text run)
+    (inr (at_least run.value (number_of (digits_of text run)) is.value great))
 
 -- ---- fields
 
@@ -67,10 +73,12 @@ pub record IsShort (count : ℕ) (run : Run) (old new : Place) : Type 0 where
   pub front : digits_of new.text run ≡ take count (front_digits (ahead old))
   pub passed : Passes (take count (front_digits (ahead old))) old new
 
-short_length : (count : ℕ) (run : Run) (old new : Place) (s : IsShort count run old new) → length (take count (front_digits (ahead old))) ≡ run.end - run.start
+short_length : (count : ℕ) (run : Run) (old new : Place) (s : IsShort count run old new)
+    → length (take count (front_digits (ahead old))) ≡ run.end - run.start
 short_length count run old new s = ap length (sym s.front) ∙ run_length new.text run s.is_run
 
-short_value : (count : ℕ) (run : Run) (old new : Place) → IsShort count run old new → count ≤ 9 → run.value ≡ number_of (take count (front_digits (ahead old)))
+short_value : (count : ℕ) (run : Run) (old new : Place) → IsShort count run old new → count ≤ 9
+    → run.value ≡ number_of (take count (front_digits (ahead old)))
 short_value count run old new s most =
     let ds : List ℕ = take count (front_digits (ahead old)) in
     let are = digits-take count (front_digits (ahead old)) (front_are_digits (ahead old)) in
@@ -80,7 +88,8 @@ short_value count run old new s most =
     let P : List ℕ → Type 0 = λ l. Knows (10 ^ 18) run.value (number_of l) in
     small run.value (number_of ds) (subst P s.front s.is_run.value) (omega arith)
 
-pub field_passed : (count lo hi : ℕ) (run : Run) (old new : Place) → IsShort count run old new → count ≤ 9 → run.end - run.start ≡ count → lo ≤ run.value → run.value ≤ hi
+pub field_passed : (count lo hi : ℕ) (run : Run) (old new : Place) → IsShort count run old new → count ≤ 9 → run.end - run.start ≡ count
+    → lo ≤ run.value → run.value ≤ hi
     → read_field count lo hi (ahead old) ≡ Some (run.value, ahead new)
 field_passed count lo hi run old new s most all least bound =
     let ds : List ℕ = take count (front_digits (ahead old)) in
@@ -89,7 +98,8 @@ field_passed count lo hi run old new s most all least bound =
     let split : ahead old ≡ ds ++ ahead new = s.passed.split in
     let taken : take count (ahead old) ≡ ds = ap (take count) split ∙ take_at ds (ahead new) count long in
     let left : drop count (ahead old) ≡ ahead new = ap (drop count) split ∙ drop_at ds (ahead new) count long in
-    let enough : count ≤ length (ahead old) = omega (arith, long, length-take count (front_digits (ahead old)), ap length split, length-append ds (ahead new)) in
+    let enough : count ≤ length (ahead old) = omega (arith, long, length-take count (front_digits (ahead old)), ap length split,
+        length-append ds (ahead new)) in
     let are : AreDigits (take count (ahead old)) = rw taken (digits-take count (front_digits (ahead old)) (front_are_digits (ahead old))) in
     let number : run.value ≡ number_of (take count (ahead old)) = value ∙ ap number_of (sym taken) in
     field_some count lo hi (ahead old) enough are (omega (arith, number)) (omega (arith, number)) ∙ rw (left, sym number) refl
@@ -99,24 +109,29 @@ pub field_missing : (count lo hi : ℕ) (run : Run) (old new : Place) → IsShor
 field_missing count lo hi run old new s most never =
     field_none count lo hi (ahead old) (λ is.
     let same = front_take count (ahead old) is.1 in
-    let long : length (take count (front_digits (ahead old))) ≡ count = omega (arith, ap length same, length-take count (ahead old), is.0) in
+    let long : length (take count (front_digits (ahead old))) ≡ count = omega
+        (arith, ap length same, length-take count (ahead old), is.0) in
     let value = short_value count run old new s most ∙ ap number_of same in
     never (sym (short_length count run old new s) ∙ long) (omega (arith, value, is.2)) (omega (arith, value, is.3)))
 
 -- ---- milliseconds
 
 millis_of_front : (fd : List ℕ) (n v : ℕ) → n ≡ length (take 3 fd) → v ≡ number_of (take 3 fd)
-    → (n ≡ 0 → millis_of fd ≡ 0) × (n ≡ 1 → millis_of fd ≡ 100 * v) × (n ≡ 2 → millis_of fd ≡ 10 * v) × (n ≢ 0 → n ≢ 1 → n ≢ 2 → millis_of fd ≡ v)
+    → (n ≡ 0 → millis_of fd ≡ 0) × (n ≡ 1 → millis_of fd ≡ 100 * v) × (n ≡ 2 → millis_of fd ≡ 10 * v)
+        × (n ≢ 0 → n ≢ 1 → n ≢ 2 → millis_of fd ≡ v)
 unfolding millis_of
 millis_of_front [] n v long value = (λ h. refl, λ h. absurd (omega arith), λ h. absurd (omega arith), λ h k l. absurd (h long))
 millis_of_front (a ∷ []) n v long value = (λ h. absurd (omega arith), λ h. omega arith, λ h. absurd (omega arith), λ h k l. absurd (k long))
-millis_of_front (a ∷ b ∷ []) n v long value = (λ h. absurd (omega arith), λ h. absurd (omega arith), λ h. omega arith, λ h k l. absurd (l long))
-millis_of_front (a ∷ b ∷ c ∷ fd) n v long value = (λ h. absurd (omega arith), λ h. absurd (omega arith), λ h. absurd (omega arith), λ h k l. sym value)
+millis_of_front (a ∷ b ∷ []) n v long value = (λ h. absurd (omega arith), λ h. absurd (omega arith), λ h. omega arith, λ h k l. absurd
+    (l long))
+millis_of_front (a ∷ b ∷ c ∷ fd) n v long value = (λ h. absurd (omega arith), λ h. absurd (omega arith), λ h. absurd (omega arith),
+    λ h k l. sym value)
 
 pub millis_passed : (run : Run) (old new : Place) → IsShort 3 run old new
     → let n = run.end - run.start in let m = millis_of (front_digits (ahead old)) in
     (n ≡ 0 → m ≡ 0) × (n ≡ 1 → m ≡ 100 * run.value) × (n ≡ 2 → m ≡ 10 * run.value) × (n ≢ 0 → n ≢ 1 → n ≢ 2 → m ≡ run.value)
-millis_passed run old new s = millis_of_front (front_digits (ahead old)) (run.end - run.start) run.value (sym (short_length 3 run old new s)) (short_value 3 run old new s (omega arith))
+millis_passed run old new s = millis_of_front (front_digits (ahead old)) (run.end - run.start) run.value
+    (sym (short_length 3 run old new s)) (short_value 3 run old new s (omega arith))
 
 -- ---- counts
 
@@ -136,10 +151,12 @@ pub other_byte : (b unit : ℕ) → Some b ≢ Some unit → (b == unit) ≡ fal
 other_byte b unit h = other_if b unit (b == unit) refl h
 
 -- the number of the digits of a run that a scan passed
-pub behind_number : (run : Run) (place : Place) (o : Option ℕ) → IsBehind run place → number_in (digits_of place.text run) ≡ o → number_in (front_digits (from_run place.text run)) ≡ o
+pub behind_number : (run : Run) (place : Place) (o : Option ℕ) → IsBehind run place → number_in (digits_of place.text run) ≡ o
+    → number_in (front_digits (from_run place.text run)) ≡ o
 behind_number run place o b h = ap number_in (sym b.digits) ∙ h
 
-pub count_taken : (unit : ℕ) (run : Run) (old mid : Place) (n : ℕ) → IsBehind run old → number_in (digits_of old.text run) ≡ Some n → Passes (unit ∷ []) old mid
+pub count_taken : (unit : ℕ) (run : Run) (old mid : Place) (n : ℕ) → IsBehind run old → number_in (digits_of old.text run) ≡ Some n
+    → Passes (unit ∷ []) old mid
     → read_perhaps unit (from_run old.text run) ≡ (n, ahead mid)
 unfolding read_perhaps read_count
 count_taken unit run old mid n b h p =
@@ -147,12 +164,14 @@ count_taken unit run old mid n b h p =
     let rest : after_digits bytes ≡ unit ∷ ahead mid = sym b.rest ∙ p.split in
     rw (peek_number bytes n (behind_number run old (Some n) b h), rest, eq-eqb unit unit refl) refl
 
-other_letter : (unit n : ℕ) (bytes rest : List ℕ) → peek bytes ≡ with_letter n rest → front_byte rest ≢ Some unit → read_perhaps unit bytes ≡ (0, bytes)
+other_letter : (unit n : ℕ) (bytes rest : List ℕ) → peek bytes ≡ with_letter n rest → front_byte rest ≢ Some unit
+    → read_perhaps unit bytes ≡ (0, bytes)
 unfolding read_perhaps read_count
 other_letter unit n bytes [] h other = rw h refl
 other_letter unit n bytes (b ∷ bs) h other = rw (h, other_byte b unit other) refl
 
-pub count_other : (unit : ℕ) (run : Run) (old : Place) (n : ℕ) → IsBehind run old → number_in (digits_of old.text run) ≡ Some n → front_byte (ahead old) ≢ Some unit
+pub count_other : (unit : ℕ) (run : Run) (old : Place) (n : ℕ) → IsBehind run old → number_in (digits_of old.text run) ≡ Some n
+    → front_byte (ahead old) ≢ Some unit
     → read_perhaps unit (from_run old.text run) ≡ (0, from_run old.text run)
 count_other unit run old n b h other =
     let bytes : List ℕ = from_run old.text run in
@@ -196,19 +215,22 @@ stuck_later : (hi : ℕ) (bytes : List ℕ) → IsStuck hi bytes → read_later 
 unfolding read_later
 stuck_later hi bytes s = rw s.1 refl
 
-pub signed_stuck : (negative : Bool) (bytes behind mid : List ℕ) (h : ℕ) → Some (h, mid) ≡ read_field 2 0 24 behind → IsStuck 59 mid → (read_signed negative bytes behind).1 ≢ []
+pub signed_stuck : (negative : Bool) (bytes behind mid : List ℕ) (h : ℕ) → Some (h, mid) ≡ read_field 2 0 24 behind → IsStuck 59 mid
+    → (read_signed negative bytes behind).1 ≢ []
 unfolding read_signed
 signed_stuck negative bytes behind mid h found s none =
     let hours : read_field 2 0 24 behind ≡ Some (h, mid) = sym found in
     let left : (read_signed negative bytes behind).1 ≡ mid = rw (hours, stuck_later 59 mid s) refl in
     some_left mid s.0 (sym left ∙ none)
 
-pub time_stuck : (bytes one two : List ℕ) (h m : ℕ) → Some (h, one) ≡ read_field 2 0 24 bytes → Some (m, two) ≡ read_marked 58 2 0 59 one → IsStuck 60 two → (t : Time) → read_time bytes ≢ Some (t, [])
+pub time_stuck : (bytes one two : List ℕ) (h m : ℕ) → Some (h, one) ≡ read_field 2 0 24 bytes → Some (m, two) ≡ read_marked 58 2 0 59 one
+    → IsStuck 60 two → (t : Time) → read_time bytes ≢ Some (t, [])
 unfolding read_time read_tail
 time_stuck bytes one two h m p q s t whole =
     let hours : read_field 2 0 24 bytes ≡ Some (h, one) = sym p in
     let minutes : read_marked 58 2 0 59 one ≡ Some (m, two) = sym q in
-    let read : read_time bytes ≡ Some (time_of h m (0, (0, (pos 0, pos 0))), two) = rw (hours, minutes, stuck_later 60 two s, stuck_fraction two s.0, stuck_offset two s.0) refl in
+    let read : read_time bytes ≡ Some (time_of h m (0, (0, (pos 0, pos 0))), two) = rw
+        (hours, minutes, stuck_later 60 two s, stuck_fraction two s.0, stuck_offset two s.0) refl in
     some_left two s.0 (some_pair_parts _ _ _ _ (sym read ∙ whole)).1
 
 -- ---- seconds
@@ -232,35 +254,45 @@ no_peek : (bytes : List ℕ) → peek bytes ≡ None → read_seconds bytes ≡ 
 unfolding read_seconds
 no_peek bytes h = rw h refl
 
-pub seconds_none : (run : Run) (place : Place) → IsBehind run place → number_in (digits_of place.text run) ≡ None → read_seconds (from_run place.text run) ≡ ((0, 0), from_run place.text run)
+pub seconds_none : (run : Run) (place : Place) → IsBehind run place → number_in (digits_of place.text run) ≡ None
+    → read_seconds (from_run place.text run) ≡ ((0, 0), from_run place.text run)
 seconds_none run place b h = no_peek (from_run place.text run) (peek_none (from_run place.text run) (behind_number run place None b h))
 
 -- a number that was passed, and what follows it
-pub peek_behind : (run : Run) (place : Place) (n : ℕ) → IsBehind run place → number_in (digits_of place.text run) ≡ Some n → peek (from_run place.text run) ≡ with_letter n (ahead place)
-peek_behind run place n b h = peek_number (from_run place.text run) n (behind_number run place (Some n) b h) ∙ ap (with_letter n) (sym b.rest)
+pub peek_behind : (run : Run) (place : Place) (n : ℕ) → IsBehind run place → number_in (digits_of place.text run) ≡ Some n
+    → peek (from_run place.text run) ≡ with_letter n (ahead place)
+peek_behind run place n b h = peek_number (from_run place.text run) n (behind_number run place (Some n) b h)
+    ∙ ap (with_letter n) (sym b.rest)
 
-pub seconds_whole : (run : Run) (place new : Place) (n : ℕ) → IsBehind run place → number_in (digits_of place.text run) ≡ Some n → Passes (83 ∷ []) place new
+pub seconds_whole : (run : Run) (place new : Place) (n : ℕ) → IsBehind run place → number_in (digits_of place.text run) ≡ Some n
+    → Passes (83 ∷ []) place new
     → read_seconds (from_run place.text run) ≡ ((n, 0), ahead new)
 unfolding read_seconds
 seconds_whole run place new n b h p = rw (peek_behind run place n b h, p.split) refl
 
-other_seconds : (bytes rest : List ℕ) (n : ℕ) → peek bytes ≡ with_letter n rest → front_byte rest ≢ Some 83 → BeginsNoPoint rest → read_seconds bytes ≡ ((0, 0), bytes)
+other_seconds : (bytes rest : List ℕ) (n : ℕ) → peek bytes ≡ with_letter n rest → front_byte rest ≢ Some 83 → BeginsNoPoint rest
+    → read_seconds bytes ≡ ((0, 0), bytes)
 unfolding read_seconds
 other_seconds bytes [] n h other point = rw h refl
 other_seconds bytes (b ∷ bs) n h other point =
-    rw (h, other_byte b 83 other, other_byte b 46 (λ e. point.0 (let same : b ≡ 46 = cc in same)), other_byte b 44 (λ e. point.1 (let same : b ≡ 44 = cc in same))) refl
+    rw (h, other_byte b 83 other, other_byte b 46 (λ e. point.0 (let same : b ≡ 46 = cc in same)),
+        other_byte b 44 (λ e. point.1 (let same : b ≡ 44 = cc in same))) refl
 
-pub seconds_other : (run : Run) (place : Place) (n : ℕ) → IsBehind run place → number_in (digits_of place.text run) ≡ Some n → front_byte (ahead place) ≢ Some 83 → BeginsNoPoint (ahead place)
+pub seconds_other : (run : Run) (place : Place) (n : ℕ) → IsBehind run place → number_in (digits_of place.text run) ≡ Some n
+    → front_byte (ahead place) ≢ Some 83 → BeginsNoPoint (ahead place)
     → read_seconds (from_run place.text run) ≡ ((0, 0), from_run place.text run)
-seconds_other run place n b h other point = other_seconds (from_run place.text run) (ahead place) n (peek_behind run place n b h) other point
+seconds_other run place n b h other point = other_seconds (from_run place.text run) (ahead place) n
+    (peek_behind run place n b h) other point
 
-pointed_seconds : (bytes front rest : List ℕ) (n ms : ℕ) → peek bytes ≡ with_letter n front → IsPointed front ms rest → read_seconds bytes ≡ closed_by bytes (n, ms) (read_mark 83 rest)
+pointed_seconds : (bytes front rest : List ℕ) (n ms : ℕ) → peek bytes ≡ with_letter n front → IsPointed front ms rest
+    → read_seconds bytes ≡ closed_by bytes (n, ms) (read_mark 83 rest)
 unfolding read_seconds
 pointed_seconds bytes [] rest n ms h p = absurd p
 pointed_seconds bytes (b ∷ bs) rest n ms h (inl point, millis, left) = rw (h, point, millis, left) refl
 pointed_seconds bytes (b ∷ bs) rest n ms h (inr comma, millis, left) = rw (h, comma, millis, left) refl
 
-pub seconds_closed : (run : Run) (place mid new : Place) (n ms : ℕ) → IsBehind run place → number_in (digits_of place.text run) ≡ Some n → IsPointed (ahead place) ms (ahead mid) → Passes (83 ∷ []) mid new
+pub seconds_closed : (run : Run) (place mid new : Place) (n ms : ℕ) → IsBehind run place → number_in (digits_of place.text run) ≡ Some n
+    → IsPointed (ahead place) ms (ahead mid) → Passes (83 ∷ []) mid new
     → read_seconds (from_run place.text run) ≡ ((n, ms), ahead new)
 seconds_closed run place mid new n ms b h point p =
     pointed_seconds (from_run place.text run) (ahead place) (ahead mid) n ms (peek_behind run place n b h) point ∙ rw p.split refl
@@ -269,10 +301,12 @@ no_mark : (rest : List ℕ) → front_byte rest ≢ Some 83 → read_mark 83 res
 no_mark [] other = refl
 no_mark (b ∷ bs) other = rw (other_byte b 83 other) refl
 
-pub seconds_open : (run : Run) (place mid : Place) (n ms : ℕ) → IsBehind run place → number_in (digits_of place.text run) ≡ Some n → IsPointed (ahead place) ms (ahead mid) → front_byte (ahead mid) ≢ Some 83
+pub seconds_open : (run : Run) (place mid : Place) (n ms : ℕ) → IsBehind run place → number_in (digits_of place.text run) ≡ Some n
+    → IsPointed (ahead place) ms (ahead mid) → front_byte (ahead mid) ≢ Some 83
     → read_seconds (from_run place.text run) ≡ ((0, 0), from_run place.text run)
 seconds_open run place mid n ms b h point other =
-    pointed_seconds (from_run place.text run) (ahead place) (ahead mid) n ms (peek_behind run place n b h) point ∙ rw (no_mark (ahead mid) other) refl
+    pointed_seconds (from_run place.text run) (ahead place) (ahead mid) n ms (peek_behind run place n b h) point
+        ∙ rw (no_mark (ahead mid) other) refl
 
 -- what is read with all of the bytes left leaves something
 pub left_over : (bytes : List ℕ) → bytes ≢ [] → read_seconds bytes ≡ ((0, 0), bytes) → (read_seconds bytes).1 ≢ []

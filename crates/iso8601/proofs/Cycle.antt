@@ -35,8 +35,10 @@ next_cycle y later k h = omega (arith, ints)
 pub week_cycled : (y later : ℤ) (ww d : ℕ) → IsCycled y later → Exists (Week later ww d) ↔ Exists (Week y ww d)
 week_cycled y later ww d c =
     let start : week_one later ≡ week_one y +ℤ (pos 146_097 *ℤ c.0) = ap week_one c.1 ∙ week_one-cycle y c.0 in
-    let next : new_year (later +ℤ pos 1) ≡ new_year (y +ℤ pos 1) +ℤ (pos 146_097 *ℤ c.0) = ap new_year (next_cycle y later c.0 c.1) ∙ new_year-cycle (y +ℤ pos 1) c.0 in
-    (λ e. (e.0, e.1, e.2, e.3, λ last. let before = e.4 last in omega (arith, ints)), λ e. (e.0, e.1, e.2, e.3, λ last. let before = e.4 last in omega (arith, ints)))
+    let next : new_year (later +ℤ pos 1) ≡ new_year (y +ℤ pos 1) +ℤ (pos 146_097 *ℤ c.0) = ap new_year (next_cycle y later c.0 c.1)
+        ∙ new_year-cycle (y +ℤ pos 1) c.0 in
+    (λ e. (e.0, e.1, e.2, e.3, λ last. let before = e.4 last in omega (arith, ints)), λ e.
+        (e.0, e.1, e.2, e.3, λ last. let before = e.4 last in omega (arith, ints)))
 
 -- ---- the years from 2000 to 2399
 
@@ -56,7 +58,8 @@ pub ymd_civil : (y : ℤ) (m d : ℕ) → IsBetween (pos 2000) (pos 2399) y → 
 ymd_civil y m d b e = let days = ymd_bounds y m d e in civil_is _ (in_years y _ (omega (arith, ints), omega (arith, ints)) days.0 days.1)
 
 pub ordinal_civil : (y : ℤ) (ddd : ℕ) → IsBetween (pos 2000) (pos 2399) y → Exists (Ordinal y ddd) → IsCivilDay (day_of (Ordinal y ddd))
-ordinal_civil y ddd b e = let days = ordinal_bounds y ddd e in civil_is _ (in_years y _ (omega (arith, ints), omega (arith, ints)) days.0 days.1)
+ordinal_civil y ddd b e = let days = ordinal_bounds y ddd e in civil_is _
+    (in_years y _ (omega (arith, ints), omega (arith, ints)) days.0 days.1)
 
 pub week_civil : (y : ℤ) (ww d : ℕ) → IsBetween (pos 2000) (pos 2399) y → Exists (Week y ww d) → IsCivilDay (day_of (Week y ww d))
 week_civil y ww d b e =

@@ -1,5 +1,6 @@
 -- The three kinds of days: each is read exactly, and where two stand in front, which is longer.
-use Rattle.std.proofs.Common.{◌≡◌, ℕ, ℤ, ◌+◌, ◌<◌, ◌⊎◌, ◌==◌, Bool, true, false, cond, List, [], ◌∷◌, ◌++◌, length, Option, Some, None, refl, sym, ◌∙◌, ap, append_assoc, length-append, arith, inl, inr}
+use Rattle.std.proofs.Common.{◌≡◌, ℕ, ℤ, ◌+◌, ◌<◌, ◌⊎◌, ◌==◌, Bool, true, false, cond, List, [], ◌∷◌, ◌++◌, length, Option, Some, None}
+use Rattle.std.proofs.Common.{refl, sym, ◌∙◌, ap, append_assoc, length-append, arith, inl, inr}
 use Rattle.std.specs.Char.{is_ascii_digit, digit_value}
 use Rattle.scan_core.specs.Digits.{number_of}
 use Rattle.std.proofs.lemmas.Bool.Decides.{nat_tests}
@@ -10,10 +11,12 @@ use Rattle.iso8601.specs.declared.types.Date.TheVariants.{YMD}
 use Rattle.scan_core.specs.Fields.{IsField}
 use Rattle.iso8601.specs.Dates.{IsMonthDay, IsWeekDay}
 use Rattle.iso8601.specs.inside.GrammarParts.{IsOrdinalDay, IsDayOf}
-use Rattle.iso8601.specs.inside.Reading.{is_field, read_field, read_marked, or_else, read_month_day, read_week_day, read_ordinal_day, read_day}
+use Rattle.iso8601.specs.inside.Reading.{is_field, read_field, read_marked, or_else, read_month_day, read_week_day, read_ordinal_day}
+use Rattle.iso8601.specs.inside.Reading.{read_day}
 use Rattle.iso8601.proofs.Longest.{Sound, Reach, Exact, NoShorter, reach_from_exact, either_sound, either_reach}
 use Rattle.scan_core.specs.Fronts.{NoDigitFirst}
-use Rattle.iso8601.proofs.FieldFacts.{NotFirst, behind, joins, not_digit, marked_cut, marked_exact, marked_sound, field_exact, field_sound, field_first, letter_none, letter_sound}
+use Rattle.iso8601.proofs.FieldFacts.{NotFirst, behind, joins, not_digit, marked_cut, marked_exact, marked_sound, field_exact, field_sound}
+use Rattle.iso8601.proofs.FieldFacts.{field_first, letter_none, letter_sound}
 
 -- ---- by month
 
@@ -32,7 +35,8 @@ month_day_sound year bytes rest date h =
     let day = marked_sound 45 2 1 31 m.1 d.1 d.0 found_day in
     let parts = some_pair_parts _ _ _ _ made in (
       month.0 ++ day.0,
-      record { month_text = month.0; day_text = day.0; month = m.0; day = d.0; months = month.1; days = day.1; joined = refl; value = sym parts.0 },
+      record { month_text = month.0; day_text = day.0; month = m.0; day = d.0; months = month.1; days = day.1; joined = refl;
+          value = sym parts.0 },
       joins bytes month.0 day.0 _ rest month.2 (day.2 ∙ ap (λ (l : List ℕ). day.0 ++ l) parts.1),
     )))
 
@@ -41,7 +45,8 @@ month_day_sound year bytes rest date h =
 pub week_day_exact : (year : ℤ) → Exact (IsWeekDay year) (read_week_day year)
 unfolding read_week_day
 week_day_exact year text rest date w =
-    let split : text ++ rest ≡ 87 ∷ (w.week_text ++ (w.day_text ++ rest)) = ap (λ (l : List ℕ). l ++ rest) w.joined ∙ ap (λ (l : List ℕ). 87 ∷ l) (append_assoc w.week_text w.day_text rest) in
+    let split : text ++ rest ≡ 87 ∷ (w.week_text ++ (w.day_text ++ rest)) = ap (λ (l : List ℕ). l ++ rest) w.joined
+        ∙ ap (λ (l : List ℕ). 87 ∷ l) (append_assoc w.week_text w.day_text rest) in
     let week = field_exact 2 1 53 w.week_text (w.day_text ++ rest) w.week w.weeks in
     let day = marked_exact 45 1 1 7 refl (omega arith) w.day_text rest w.day w.days in
     rw (split, week, day, w.value) refl
@@ -49,13 +54,16 @@ week_day_exact year text rest date w =
 pub week_day_sound : (year : ℤ) → Sound (IsWeekDay year) (read_week_day year)
 unfolding read_week_day
 week_day_sound year bytes rest date h =
-    option_and_then_some _ _ _ h (λ l letter body. option_and_then_some _ _ _ body (λ w found more. option_and_then_some _ _ _ more (λ d found_day made.
+    option_and_then_some _ _ _ h (λ l letter body. option_and_then_some _ _ _ body
+        (λ w found more. option_and_then_some _ _ _ more (λ d found_day made.
     let week = field_sound 2 1 53 l w.1 w.0 found in
     let day = marked_sound 45 1 1 7 w.1 d.1 d.0 found_day in
     let parts = some_pair_parts _ _ _ _ made in (
       87 ∷ (week.0 ++ day.0),
-      record { week_text = week.0; day_text = day.0; week = w.0; day = d.0; weeks = week.1; days = day.1; joined = refl; value = sym parts.0 },
-      letter_sound 87 bytes l letter ∙ ap (λ (x : List ℕ). 87 ∷ x) (joins l week.0 day.0 _ rest week.2 (day.2 ∙ ap (λ (x : List ℕ). day.0 ++ x) parts.1)),
+      record { week_text = week.0; day_text = day.0; week = w.0; day = d.0; weeks = week.1; days = day.1; joined = refl;
+          value = sym parts.0 },
+      letter_sound 87 bytes l letter ∙ ap (λ (x : List ℕ). 87 ∷ x)
+          (joins l week.0 day.0 _ rest week.2 (day.2 ∙ ap (λ (x : List ℕ). day.0 ++ x) parts.1)),
     ))))
 
 -- ---- by number
@@ -82,16 +90,22 @@ month_is_longer : (year : ℤ) (bytes : List ℕ) → NoShorter (read_month_day 
 month_is_longer year bytes x y found_x found_y =
     let m = month_day_sound year bytes x.1 x.0 found_x in
     let o = ordinal_day_sound year bytes y.1 y.0 found_y in
-    omega (arith, front_length bytes m.0 x.1 m.2, front_length bytes o.0 y.1 o.2, front_length m.0 m.1.month_text m.1.day_text m.1.joined, front_length m.1.day_text m.1.days.front m.1.days.digits m.1.days.joined, m.1.months.long, m.1.days.field.long, o.1.1.long)
+    omega (arith, front_length bytes m.0 x.1 m.2, front_length bytes o.0 y.1 o.2, front_length m.0 m.1.month_text m.1.day_text m.1.joined,
+        front_length m.1.day_text m.1.days.front m.1.days.digits m.1.days.joined, m.1.months.long, m.1.days.field.long, o.1.1.long)
 
-pub month_or_ordinal_sound : (year : ℤ) → Sound (λ text date. IsMonthDay year text date ⊎ IsOrdinalDay year text date) (λ bytes. or_else (read_month_day year bytes) (read_ordinal_day year bytes))
-month_or_ordinal_sound year = either_sound (IsMonthDay year) (IsOrdinalDay year) (read_month_day year) (read_ordinal_day year) (month_day_sound year) (ordinal_day_sound year)
+pub month_or_ordinal_sound : (year : ℤ) → Sound (λ text date. IsMonthDay year text date ⊎ IsOrdinalDay year text date)
+    (λ bytes. or_else (read_month_day year bytes) (read_ordinal_day year bytes))
+month_or_ordinal_sound year = either_sound (IsMonthDay year) (IsOrdinalDay year) (read_month_day year) (read_ordinal_day year)
+    (month_day_sound year) (ordinal_day_sound year)
 
 -- those two begin with a digit
-month_first : (byte : ℕ) (year : ℤ) (text rest : List ℕ) (date : Date) → is_ascii_digit byte ≡ false → IsMonthDay year text date → NotFirst byte (text ++ rest)
-month_first byte year text rest date h m = rw (behind text m.month_text m.day_text rest m.joined) (field_first byte 2 1 12 m.month_text _ m.month h (omega arith) m.months)
+month_first : (byte : ℕ) (year : ℤ) (text rest : List ℕ) (date : Date) → is_ascii_digit byte ≡ false → IsMonthDay year text date
+    → NotFirst byte (text ++ rest)
+month_first byte year text rest date h m = rw (behind text m.month_text m.day_text rest m.joined)
+    (field_first byte 2 1 12 m.month_text _ m.month h (omega arith) m.months)
 
-digit_first : (byte : ℕ) (year : ℤ) (text rest : List ℕ) (date : Date) → is_ascii_digit byte ≡ false → IsMonthDay year text date ⊎ IsOrdinalDay year text date → NotFirst byte (text ++ rest)
+digit_first : (byte : ℕ) (year : ℤ) (text rest : List ℕ) (date : Date) → is_ascii_digit byte ≡ false → IsMonthDay year text date
+    ⊎ IsOrdinalDay year text date → NotFirst byte (text ++ rest)
 digit_first byte year text rest date h (inl m) = month_first byte year text rest date h m
 digit_first byte year text rest date h (inr o) = field_first byte 3 1 366 text rest o.0 h (omega arith) o.1
 
@@ -102,7 +116,8 @@ week_first year text rest date w = (_, ap (λ (l : List ℕ). l ++ rest) w.joine
 not_both : (byte : ℕ) (bytes tail : List ℕ) → bytes ≡ byte ∷ tail → NotFirst byte bytes → ⊥
 not_both byte bytes tail h n = let other : (byte == byte) ≡ false = rw h at n in grind (arith, nat_tests)
 
-week_alone : (year : ℤ) (bytes : List ℕ) → NoShorter (read_week_day year bytes) (or_else (read_month_day year bytes) (read_ordinal_day year bytes))
+week_alone : (year : ℤ) (bytes : List ℕ) → NoShorter (read_week_day year bytes)
+    (or_else (read_month_day year bytes) (read_ordinal_day year bytes))
 week_alone year bytes x y found_x found_y =
     let w = week_day_sound year bytes x.1 x.0 found_x in
     let d = month_or_ordinal_sound year bytes y.1 y.0 found_y in
@@ -128,8 +143,11 @@ day_sound year bytes rest date h =
 pub day_reach : (year : ℤ) → Reach (IsDayOf year) (read_day year)
 unfolding read_day
 day_reach year text rest date d =
-    let later = either_reach (IsMonthDay year) (IsOrdinalDay year) (read_month_day year) (read_ordinal_day year) (reach_from_exact _ (read_month_day year) (month_day_exact year)) (reach_from_exact _ (read_ordinal_day year) (ordinal_day_exact year)) (month_is_longer year) in
-    either_reach (IsWeekDay year) _ (read_week_day year) _ (reach_from_exact _ (read_week_day year) (week_day_exact year)) later (week_alone year) text rest date (turned d)
+    let later = either_reach (IsMonthDay year) (IsOrdinalDay year) (read_month_day year) (read_ordinal_day year)
+        (reach_from_exact _ (read_month_day year) (month_day_exact year))
+        (reach_from_exact _ (read_ordinal_day year) (ordinal_day_exact year)) (month_is_longer year) in
+    either_reach (IsWeekDay year) _ (read_week_day year) _ (reach_from_exact _ (read_week_day year) (week_day_exact year)) later
+        (week_alone year) text rest date (turned d)
 
 -- no day begins with a hyphen
 day_first : (year : ℤ) (text rest : List ℕ) (date : Date) → IsDay year text date → NotFirst 45 (text ++ rest)
@@ -157,23 +175,30 @@ abbrev day_behind : ℤ → Option (ℕ × List ℕ) → Option (Date × List �
 day_behind year month = option_and_then (λ m. option_and_then (λ d. Some (YMD year m.0 d.0, d.1)) (read_marked 45 2 1 31 m.1)) month
 
 -- a month and one further digit are no day
-month_if : (year : ℤ) (t : Bool) (n : ℕ) (rest : List ℕ) → read_marked 45 2 1 31 rest ≡ None → day_behind year (cond t (Some (n, rest)) None) ≡ None
+month_if : (year : ℤ) (t : Bool) (n : ℕ) (rest : List ℕ) → read_marked 45 2 1 31 rest ≡ None
+    → day_behind year (cond t (Some (n, rest)) None) ≡ None
 month_if year true n rest none = rw none refl
 month_if year false n rest none = refl
 
-third_digit : (year : ℤ) (a b c : ℕ) (rest : List ℕ) → digit_value c < 10 → NoDigitFirst rest → read_month_day year (a ∷ b ∷ c ∷ rest) ≡ None
+third_digit : (year : ℤ) (a b c : ℕ) (rest : List ℕ) → digit_value c < 10 → NoDigitFirst rest
+    → read_month_day year (a ∷ b ∷ c ∷ rest) ≡ None
 unfolding read_month_day read_field
-third_digit year a b c rest d n = month_if year (is_field 2 1 12 (a ∷ b ∷ [])) (number_of (a ∷ b ∷ [])) (c ∷ rest) (marked_cut 45 1 31 c rest (not_digit 45 c refl d) n)
+third_digit year a b c rest d n = month_if year (is_field 2 1 12 (a ∷ b ∷ [])) (number_of (a ∷ b ∷ [])) (c ∷ rest)
+    (marked_cut 45 1 31 c rest (not_digit 45 c refl d) n)
 
-month_none : (year : ℤ) (text rest : List ℕ) (day : ℕ) → IsField 3 1 366 text day → NoDigitFirst rest → read_month_day year (text ++ rest) ≡ None
+month_none : (year : ℤ) (text rest : List ℕ) (day : ℕ) → IsField 3 1 366 text day → NoDigitFirst rest
+    → read_month_day year (text ++ rest) ≡ None
 month_none year text rest day f n =
     let t = three_bytes text f.long in
     let digits = rw t.3 at f.digits in
     rw t.3 (third_digit year t.0 t.1 t.2 rest digits.1.1.0 n)
 
-pub day_exact : (year : ℤ) (text rest : List ℕ) (date : Date) → IsDayOf year text date → NoDigitFirst rest → read_day year (text ++ rest) ≡ Some (date, rest)
+pub day_exact : (year : ℤ) (text rest : List ℕ) (date : Date) → IsDayOf year text date → NoDigitFirst rest
+    → read_day year (text ++ rest) ≡ Some (date, rest)
 unfolding read_day
-day_exact year text rest date (inl m) n = rw (week_none year (text ++ rest) (month_first 87 year text rest date refl m), month_day_exact year text rest date m) refl
+day_exact year text rest date (inl m) n = rw (week_none year (text ++ rest) (month_first 87 year text rest date refl m),
+    month_day_exact year text rest date m) refl
 day_exact year text rest date (inr (inl w)) n = rw (week_day_exact year text rest date w) refl
 day_exact year text rest date (inr (inr o)) n =
-    rw (week_none year (text ++ rest) (digit_first 87 year text rest date refl (inr o)), month_none year text rest o.0 o.1 n, ordinal_day_exact year text rest date o) refl
+    rw (week_none year (text ++ rest) (digit_first 87 year text rest date refl (inr o)), month_none year text rest o.0 o.1 n,
+        ordinal_day_exact year text rest date o) refl

@@ -1,5 +1,6 @@
 -- Durations are read: what is read is a duration, and no longer front is one.
-use Rattle.std.proofs.Common.{◌≡◌, ◌≢◌, ℕ, ◌<◌, ◌≤◌, ◌^◌, ◌⊎◌, ◌==◌, nat_lt, true, false, List, [], ◌∷◌, ◌++◌, length, Option, Some, None, refl, sym, ◌∙◌, ap, subst, append_assoc, length-append, arith, inl, inr, codes}
+use Rattle.std.proofs.Common.{◌≡◌, ◌≢◌, ℕ, ◌<◌, ◌≤◌, ◌^◌, ◌⊎◌, ◌==◌, nat_lt, true, false, List, [], ◌∷◌, ◌++◌, length, Option, Some, None}
+use Rattle.std.proofs.Common.{refl, sym, ◌∙◌, ap, subst, append_assoc, length-append, arith, inl, inr, codes}
 use Rattle.std.proofs.lemmas.Bool.{eqb-true, ltb-true, lt-ltb}
 use Rattle.std.proofs.Math.Nat.{pow-le-pow_right}
 use Rattle.std.proofs.lemmas.Bool.Decides.{nat_tests}
@@ -13,12 +14,15 @@ use Rattle.iso8601.specs.Durations.{IsNumberOf32Bits, IsCounted, IsDated, IsDura
 use Rattle.iso8601.specs.inside.GrammarParts.{IsPerhapsClock, IsWeeks, IsBody}
 use Rattle.iso8601.specs.inside.Reading.{or_else}
 use Rattle.iso8601.specs.inside.TimeReading.{read_both, read_time}
-use Rattle.iso8601.specs.inside.DurationReading.{Peeked, peek, read_count, read_perhaps, read_clock, read_counts, duration_of, read_counted, read_weeks, read_dated, dated_of, read_body, read_duration}
-use Rattle.iso8601.proofs.FieldFacts.{NotFirst, behind, joins, letter_sound, digits_first, field_exact, field_sound, marked_exact, marked_sound}
+use Rattle.iso8601.specs.inside.DurationReading.{Peeked, peek, read_count, read_perhaps, read_clock, read_counts, duration_of, read_counted}
+use Rattle.iso8601.specs.inside.DurationReading.{read_weeks, read_dated, dated_of, read_body, read_duration}
+use Rattle.iso8601.proofs.FieldFacts.{NotFirst, behind, joins, letter_sound, digits_first, field_exact, field_sound, marked_exact}
+use Rattle.iso8601.proofs.FieldFacts.{marked_sound}
 use Rattle.iso8601.proofs.TimeReading.{time_sound, time_reach, time_exact}
 use Rattle.iso8601.proofs.Longest.{Sound, Reach, Exact, NoShorter, either_sound, either_reach, reach_from_exact, with_value, reaches_with}
 use Rattle.iso8601.proofs.Optional.{Optional, IsBoth, both_optional, both_marks}
-use Rattle.iso8601.proofs.CountFacts.{IsPerhapsCount, NoCount, count_optional, count_marks, count_exact, count_sound, clock_optional, clock_marks, nothing_left, seen, peek_exact, peek_sound, other_unit}
+use Rattle.iso8601.proofs.CountFacts.{IsPerhapsCount, NoCount, count_optional, count_marks, count_exact, count_sound, clock_optional}
+use Rattle.iso8601.proofs.CountFacts.{clock_marks, nothing_left, seen, peek_exact, peek_sound, other_unit}
 
 abbrev Clock : Type 0
 Clock = ℕ × (ℕ × (ℕ × ℕ))
@@ -40,12 +44,16 @@ IsCounts = IsBoth (IsPerhapsCount (codes "Y")) IsLater
 counts_optional : Optional IsCounts read_counts (λ rest. rest ≡ [])
 unfolding read_counts
 counts_optional =
-    let late = both_optional (IsPerhapsCount (codes "D")) IsPerhapsClock (read_perhaps 68) read_clock (NoCount 68) (λ rest. rest ≡ []) (count_optional 68 refl) clock_optional (clock_marks 68) (nothing_left 68) in
+    let late = both_optional (IsPerhapsCount (codes "D")) IsPerhapsClock (read_perhaps 68) read_clock (NoCount 68) (λ rest. rest ≡ [])
+        (count_optional 68 refl) clock_optional (clock_marks 68) (nothing_left 68) in
     let late_marks = both_marks (IsPerhapsCount (codes "D")) IsPerhapsClock (NoCount 77) (count_marks 68 77 refl refl) (clock_marks 77) in
-    let later = both_optional (IsPerhapsCount (codes "M")) IsLate (read_perhaps 77) (read_both (read_perhaps 68) read_clock) (NoCount 77) (λ rest. rest ≡ []) (count_optional 77 refl) late late_marks (nothing_left 77) in
+    let later = both_optional (IsPerhapsCount (codes "M")) IsLate (read_perhaps 77) (read_both (read_perhaps 68) read_clock) (NoCount 77)
+        (λ rest. rest ≡ []) (count_optional 77 refl) late late_marks (nothing_left 77) in
     let early_marks = both_marks (IsPerhapsCount (codes "D")) IsPerhapsClock (NoCount 89) (count_marks 68 89 refl refl) (clock_marks 89) in
     let later_marks = both_marks (IsPerhapsCount (codes "M")) IsLate (NoCount 89) (count_marks 77 89 refl refl) early_marks in
-    both_optional (IsPerhapsCount (codes "Y")) IsLater (read_perhaps 89) (read_both (read_perhaps 77) (read_both (read_perhaps 68) read_clock)) (NoCount 89) (λ rest. rest ≡ []) (count_optional 89 refl) later later_marks (nothing_left 89)
+    both_optional (IsPerhapsCount (codes "Y")) IsLater (read_perhaps 89)
+        (read_both (read_perhaps 77) (read_both (read_perhaps 68) read_clock)) (NoCount 89) (λ rest. rest ≡ [])
+        (count_optional 89 refl) later later_marks (nothing_left 89)
 
 abbrev values_of : (text : List ℕ) (d : Duration) → IsCounted text d → Counts
 values_of text d c = (c.year, (c.month, (c.day, c.clock)))
@@ -82,7 +90,8 @@ counted_from text v some c =
       days = c.is_second.is_second.is_first;
       clocks = c.is_second.is_second.is_second;
       some = some;
-      joined = c.joined ∙ ap (λ (l : List ℕ). c.first ++ l) (c.is_second.joined ∙ ap (λ (l : List ℕ). c.is_second.first ++ l) c.is_second.is_second.joined);
+      joined = c.joined ∙ ap (λ (l : List ℕ). c.first ++ l) (c.is_second.joined
+          ∙ ap (λ (l : List ℕ). c.is_second.first ++ l) c.is_second.is_second.joined);
       value = refl;
     }
 
@@ -91,7 +100,8 @@ not_less a = grind (arith, nat_tests)
 
 -- bytes of which less is left were not all left
 some_text : (bytes text rest : List ℕ) → bytes ≡ text ++ rest → length rest < length bytes → text ≢ []
-some_text bytes text rest split less none = let l : length bytes ≡ length rest = ap length (split ∙ ap (λ (l : List ℕ). l ++ rest) none) in absurd (omega arith)
+some_text bytes text rest split less none = let l : length bytes ≡ length rest = ap length (split ∙ ap (λ (l : List ℕ). l ++ rest) none) in
+    absurd (omega arith)
 
 longer : (text rest : List ℕ) → text ≢ [] → length rest < length (text ++ rest)
 longer [] rest some = absurd (some refl)
@@ -105,13 +115,15 @@ counted_sound bytes rest d h =
     let c = counts_optional.sound bytes in
     let less = ltb-true _ _ found.0 in
     let P : Duration → Type 0 = λ v. IsCounted c.0 v in
-    (c.0, subst P parts.0 (counted_from c.0 (read_counts bytes).0 (some_text bytes c.0 (read_counts bytes).1 c.2 less) c.1), c.2 ∙ ap (λ (l : List ℕ). c.0 ++ l) parts.1)
+    (c.0, subst P parts.0 (counted_from c.0 (read_counts bytes).0 (some_text bytes c.0 (read_counts bytes).1 c.2 less) c.1), c.2
+        ∙ ap (λ (l : List ℕ). c.0 ++ l) parts.1)
 
 counted_reach : Reach IsCounted read_counted
 unfolding read_counted
 counted_reach text rest d c =
     let far = counts_optional.reach text rest (values_of text d c) (counts_of text d c) in
-    let test : nat_lt (length (read_counts (text ++ rest)).1) (length (text ++ rest)) ≡ true = lt-ltb _ _ (let l = longer text rest c.some in omega arith) in
+    let test : nat_lt (length (read_counts (text ++ rest)).1) (length (text ++ rest))
+        ≡ true = lt-ltb _ _ (let l = longer text rest c.some in omega arith) in
     rw test far
 
 counted_whole : (text : List ℕ) (d : Duration) → IsCounted text d → read_counted (text ++ []) ≡ Some (d, [])
@@ -161,7 +173,8 @@ some_or_none : {A : Type 0} (o : Option A) → (o ≡ None) ⊎ ((x : A) × (o �
 some_or_none None = inl refl
 some_or_none (Some x) = inr (x, refl)
 
-no_counts : (p : Peeked) (bytes : List ℕ) → peek bytes ≡ Some p → IsNoUnit p.letter → read_counts bytes ≡ ((0, (0, (0, (0, (0, (0, 0)))))), bytes)
+no_counts : (p : Peeked) (bytes : List ℕ) → peek bytes ≡ Some p → IsNoUnit p.letter
+    → read_counts bytes ≡ ((0, (0, (0, (0, (0, (0, 0)))))), bytes)
 unfolding read_counts
 no_counts p bytes h other =
     let y = perhaps_none 89 bytes (other_unit 89 bytes p h other.0) in
@@ -173,9 +186,11 @@ not_counted : (p : Peeked) (bytes : List ℕ) → peek bytes ≡ Some p → IsNo
 unfolding read_counted
 not_counted p bytes h other = rw (no_counts p bytes h other, not_less (length bytes)) refl
 
-count_peek : (unit : ℕ) (bytes : List ℕ) (w : ℕ × List ℕ) → read_count unit bytes ≡ Some w → (p : Peeked) × (peek bytes ≡ Some p) × (p.letter ≡ unit)
+count_peek : (unit : ℕ) (bytes : List ℕ) (w : ℕ × List ℕ) → read_count unit bytes ≡ Some w → (p : Peeked) × (peek bytes ≡ Some p)
+    × (p.letter ≡ unit)
 unfolding read_count
-count_peek unit bytes w h = option_and_then_some _ _ _ h (λ p found body. (p, found, eqb-true p.letter unit (cond_some (p.letter == unit) _ _ body).0))
+count_peek unit bytes w h = option_and_then_some _ _ _ h (λ p found body.
+    (p, found, eqb-true p.letter unit (cond_some (p.letter == unit) _ _ body).0))
 
 weeks_peek : (bytes : List ℕ) (x : Duration × List ℕ) → read_weeks bytes ≡ Some x → (p : Peeked) × (peek bytes ≡ Some p) × (p.letter ≡ 87)
 unfolding read_weeks
@@ -190,10 +205,12 @@ no_weeks p bytes h other = rw (other_unit 87 bytes p h other) refl
 split_four : (a b c d rest : List ℕ) → (a ++ (b ++ (c ++ (84 ∷ d)))) ++ rest ≡ a ++ (b ++ (c ++ (84 ∷ (d ++ rest))))
 split_four a b c d rest = simp append_assoc refl
 
-dated_split : (text rest : List ℕ) (d : Duration) (is : IsDated text d) → text ++ rest ≡ is.year_text ++ (is.month_text ++ (is.day_text ++ (84 ∷ (is.time_text ++ rest))))
+dated_split : (text rest : List ℕ) (d : Duration) (is : IsDated text d)
+    → text ++ rest ≡ is.year_text ++ (is.month_text ++ (is.day_text ++ (84 ∷ (is.time_text ++ rest))))
 dated_split text rest d is = ap (λ (l : List ℕ). l ++ rest) is.joined ∙ split_four is.year_text is.month_text is.day_text is.time_text rest
 
-dated_at : (text rest : List ℕ) (d : Duration) (is : IsDated text d) → read_dated (text ++ rest) ≡ with_value (dated_of is.year is.month is.day) (read_time (is.time_text ++ rest))
+dated_at : (text rest : List ℕ) (d : Duration) (is : IsDated text d)
+    → read_dated (text ++ rest) ≡ with_value (dated_of is.year is.month is.day) (read_time (is.time_text ++ rest))
 unfolding read_dated
 dated_at text rest d is =
     let behind : List ℕ = 84 ∷ (is.time_text ++ rest) in
@@ -203,22 +220,27 @@ dated_at text rest d is =
     rw (dated_split text rest d is, year, month, day) refl
 
 dated_reach : Reach IsDated read_dated
-dated_reach text rest d is = rw (dated_at text rest d is) (reaches_with (dated_of is.year is.month is.day) (read_time (is.time_text ++ rest)) rest (time_reach is.time_text rest is.time is.times))
+dated_reach text rest d is = rw (dated_at text rest d is) (reaches_with (dated_of is.year is.month is.day)
+    (read_time (is.time_text ++ rest)) rest (time_reach is.time_text rest is.time is.times))
 
 dated_whole : (text : List ℕ) (d : Duration) → IsDated text d → read_dated (text ++ []) ≡ Some (d, [])
 dated_whole text d is =
-    dated_at text [] d is ∙ ap (with_value (dated_of is.year is.month is.day)) (time_exact is.time_text is.time is.times) ∙ ap (λ (v : Duration). Some (v, [])) (sym is.value)
+    dated_at text [] d is ∙ ap (with_value (dated_of is.year is.month is.day)) (time_exact is.time_text is.time is.times)
+        ∙ ap (λ (v : Duration). Some (v, [])) (sym is.value)
 
 dated_sound : Sound IsDated read_dated
 unfolding read_dated
 dated_sound bytes rest d h =
-    option_and_then_some _ _ _ h (λ y found_y more_y. option_and_then_some _ _ _ more_y (λ m found_m more_m. option_and_then_some _ _ _ more_m (λ k found_k more_k. option_and_then_some _ _ _ more_k (λ behind marked more. option_and_then_some _ _ _ more (λ t found_t made.
+    option_and_then_some _ _ _ h (λ y found_y more_y. option_and_then_some _ _ _ more_y
+        (λ m found_m more_m. option_and_then_some _ _ _ more_m (λ k found_k more_k. option_and_then_some _ _ _ more_k
+        (λ behind marked more. option_and_then_some _ _ _ more (λ t found_t made.
     let year = field_sound 4 0 9999 bytes y.1 y.0 found_y in
     let month = marked_sound 45 2 1 12 y.1 m.1 m.0 found_m in
     let day = marked_sound 45 2 1 31 m.1 k.1 k.0 found_k in
     let time = time_sound behind t.1 t.0 found_t in
     let parts = some_pair_parts _ _ _ _ made in
-    let last : k.1 ≡ (84 ∷ time.0) ++ rest = letter_sound 84 k.1 behind marked ∙ ap (λ (l : List ℕ). 84 ∷ l) (time.2 ∙ ap (λ (l : List ℕ). time.0 ++ l) parts.1) in (
+    let last : k.1 ≡ (84 ∷ time.0) ++ rest = letter_sound 84 k.1 behind marked
+        ∙ ap (λ (l : List ℕ). 84 ∷ l) (time.2 ∙ ap (λ (l : List ℕ). time.0 ++ l) parts.1) in (
       year.0 ++ (month.0 ++ (day.0 ++ (84 ∷ time.0))),
       record {
         year_text = year.0;
@@ -236,7 +258,8 @@ dated_sound bytes rest d h =
         joined = refl;
         value = sym parts.0;
       },
-      joins bytes year.0 (month.0 ++ (day.0 ++ (84 ∷ time.0))) y.1 rest year.2 (joins y.1 month.0 (day.0 ++ (84 ∷ time.0)) m.1 rest month.2 (joins m.1 day.0 (84 ∷ time.0) k.1 rest day.2 last)),
+      joins bytes year.0 (month.0 ++ (day.0 ++ (84 ∷ time.0))) y.1 rest year.2
+          (joins y.1 month.0 (day.0 ++ (84 ∷ time.0)) m.1 rest month.2 (joins m.1 day.0 (84 ∷ time.0) k.1 rest day.2 last)),
     ))))))
 
 -- behind its first digits stands no letter of a unit
@@ -255,20 +278,24 @@ peeks_hyphen digits more n = (seen (number_of digits) 45 more, peek_exact digits
 peeks_t : (digits more : List ℕ) → IsNumberOf32Bits digits (number_of digits) → PeeksDate (digits ++ 84 ∷ more)
 peeks_t digits more n = (seen (number_of digits) 84 more, peek_exact digits more 84 _ n refl, (refl, refl, refl), refl)
 
-dated_peek_at : (year first month second day more : List ℕ) (y m d : ℕ) → IsField 4 0 9999 year y → IsPerhaps (45 ∷ []) first → IsField 2 1 12 month m → IsPerhaps (45 ∷ []) second → IsField 2 1 31 day d
+dated_peek_at : (year first month second day more : List ℕ) (y m d : ℕ) → IsField 4 0 9999 year y → IsPerhaps (45 ∷ []) first
+    → IsField 2 1 12 month m → IsPerhaps (45 ∷ []) second → IsField 2 1 31 day d
     → PeeksDate (year ++ (first ++ (month ++ (second ++ (day ++ 84 ∷ more)))))
 dated_peek_at year first month second day more y m d fy (inr one) fm s fd =
     rw one (peeks_hyphen year _ (run_is_number year (omega (arith, fy.long)) (omega (arith, fy.long)) fy.digits))
 dated_peek_at year first month second day more y m d fy (inl none) fm (inr one) fd =
     let l = length-append year month in
-    let n = run_is_number (year ++ month) (omega (arith, fy.long)) (omega (arith, fy.long, fm.long)) (digits-append year month fy.digits fm.digits) in
+    let n = run_is_number (year ++ month) (omega (arith, fy.long)) (omega (arith, fy.long, fm.long))
+        (digits-append year month fy.digits fm.digits) in
     rw (none, one, ← append_assoc year month (45 ∷ (day ++ 84 ∷ more))) (peeks_hyphen (year ++ month) (day ++ 84 ∷ more) n)
 dated_peek_at year first month second day more y m d fy (inl none) fm (inl nil) fd =
     let k = length-append year (month ++ day) in
     let l = length-append month day in
-    let n = run_is_number (year ++ (month ++ day)) (omega (arith, fy.long)) (omega (arith, fy.long, fm.long, fd.long)) (digits-append year (month ++ day) fy.digits (digits-append month day fm.digits fd.digits)) in
+    let n = run_is_number (year ++ (month ++ day)) (omega (arith, fy.long)) (omega (arith, fy.long, fm.long, fd.long))
+        (digits-append year (month ++ day) fy.digits (digits-append month day fm.digits fd.digits)) in
     let P : List ℕ → Type 0 = λ l. PeeksDate l in
-    let same : (year ++ (month ++ day)) ++ 84 ∷ more ≡ year ++ (month ++ (day ++ 84 ∷ more)) = append_assoc year (month ++ day) (84 ∷ more) ∙ ap (λ (x : List ℕ). year ++ x) (append_assoc month day (84 ∷ more)) in
+    let same : (year ++ (month ++ day)) ++ 84 ∷ more ≡ year ++ (month ++ (day ++ 84 ∷ more)) = append_assoc year (month ++ day) (84 ∷ more)
+        ∙ ap (λ (x : List ℕ). year ++ x) (append_assoc month day (84 ∷ more)) in
     rw (none, nil) (subst P same (peeks_t (year ++ (month ++ day)) more n))
 
 dated_peek : (text rest : List ℕ) (d : Duration) → IsDated text d → PeeksDate (text ++ rest)
@@ -279,7 +306,8 @@ dated_peek text rest d is =
     dated_split text rest d is
     ∙ ap (λ (l : List ℕ). is.year_text ++ l) (behind is.month_text m.front m.digits (is.day_text ++ (84 ∷ (is.time_text ++ rest))) m.joined
     ∙ ap (λ (l : List ℕ). m.front ++ (m.digits ++ l)) (behind is.day_text k.front k.digits (84 ∷ (is.time_text ++ rest)) k.joined)) in
-    rw split (dated_peek_at is.year_text m.front m.digits k.front k.digits (is.time_text ++ rest) is.year is.month is.day is.years m.perhaps m.field k.perhaps k.field)
+    rw split (dated_peek_at is.year_text m.front m.digits k.front k.digits
+        (is.time_text ++ rest) is.year is.month is.day is.years m.perhaps m.field k.perhaps k.field)
 
 -- ---- the three kinds exclude each other
 
@@ -290,7 +318,8 @@ never_both : {A : Type 0} (o : Option A) (x : A) → o ≡ Some x → o ≡ None
 never_both o x some none = some_none x (sym some ∙ none)
 
 counted_alone : (bytes : List ℕ) → NoShorter (read_counted bytes) (read_dated bytes)
-counted_alone bytes x y found_x found_y = let p = not_dated bytes y found_y in absurd (never_both (read_counted bytes) x found_x (not_counted p.0 bytes p.1 p.2))
+counted_alone bytes x y found_x found_y = let p = not_dated bytes y found_y in
+    absurd (never_both (read_counted bytes) x found_x (not_counted p.0 bytes p.1 p.2))
 
 is_no_unit : (letter : ℕ) → letter ≡ 87 → IsNoUnit letter
 is_no_unit letter h = rw h (refl, refl, refl)
@@ -311,7 +340,8 @@ weeks_alone bytes x y found_x found_y =
 
 pub body_sound : Sound IsBody read_body
 unfolding read_body
-body_sound bytes rest d h = either_sound IsWeeks _ read_weeks _ weeks_sound (either_sound IsCounted IsDated read_counted read_dated counted_sound dated_sound) bytes rest d h
+body_sound bytes rest d h = either_sound IsWeeks _ read_weeks _ weeks_sound
+    (either_sound IsCounted IsDated read_counted read_dated counted_sound dated_sound) bytes rest d h
 
 body_reach : Reach IsBody read_body
 unfolding read_body
@@ -327,7 +357,8 @@ body_whole body d (inr (inl c)) =
       | inl none ↦ rw (none, counted_whole body d c) refl
       | inr some ↦
           let w = weeks_peek (body ++ []) some.0 some.1 in
-          absurd (never_both (read_counted (body ++ [])) (d, []) (counted_whole body d c) (not_counted w.0 (body ++ []) w.1 (is_no_unit w.0.letter w.2)))
+          absurd (never_both (read_counted (body ++ [])) (d, []) (counted_whole body d c)
+              (not_counted w.0 (body ++ []) w.1 (is_no_unit w.0.letter w.2)))
     ]
 body_whole body d (inr (inr t)) =
     let p = dated_peek body [] d t in

@@ -1,5 +1,6 @@
 -- Fields, marks and years in front are read, and what is read is one.
-use Rattle.std.proofs.Common.{◌≡◌, ℕ, ◌<◌, ◌≤◌, ◌&&◌, ◌==◌, nat_le, Bool, true, false, cond, List, [], ◌∷◌, ◌++◌, length, take, drop, Some, None, refl, sym, ◌∙◌, ap, subst, append_assoc, take-append-drop, length-take, arith, inl, inr}
+use Rattle.std.proofs.Common.{◌≡◌, ℕ, ◌<◌, ◌≤◌, ◌&&◌, ◌==◌, nat_le, Bool, true, false, cond, List, [], ◌∷◌, ◌++◌, length, take, drop, Some}
+use Rattle.std.proofs.Common.{None, refl, sym, ◌∙◌, ap, subst, append_assoc, take-append-drop, length-take, arith, inl, inr}
 use Rattle.std.proofs.lemmas.Bool.{eqb-true, eq-eqb}
 use Rattle.std.specs.Char.{is_ascii_digit, digit_value}
 use Rattle.std.proofs.lemmas.Bool.Decides.{nat_tests}
@@ -18,10 +19,12 @@ use Rattle.iso8601.proofs.Longest.{Sound, Exact}
 
 -- ---- fields
 
-pub test_parts : (n count lo hi v : ℕ) (all : Bool) → ((n == count) && (all && (nat_le lo v && nat_le v hi))) ≡ true → (n ≡ count) × (all ≡ true) × (lo ≤ v) × (v ≤ hi)
+pub test_parts : (n count lo hi v : ℕ) (all : Bool) → ((n == count) && (all && (nat_le lo v && nat_le v hi))) ≡ true → (n ≡ count)
+    × (all ≡ true) × (lo ≤ v) × (v ≤ hi)
 test_parts n count lo hi v all h = grind (arith, nat_tests)
 
-pub test_whole : (n count lo hi v : ℕ) (all : Bool) → n ≡ count → all ≡ true → lo ≤ v → v ≤ hi → ((n == count) && (all && (nat_le lo v && nat_le v hi))) ≡ true
+pub test_whole : (n count lo hi v : ℕ) (all : Bool) → n ≡ count → all ≡ true → lo ≤ v → v ≤ hi
+    → ((n == count) && (all && (nat_le lo v && nat_le v hi))) ≡ true
 test_whole n count lo hi v all p q r s = grind (arith, nat_tests)
 
 pub field_exact : (count lo hi : ℕ) → Exact (IsField count lo hi) (read_field count lo hi)
@@ -39,15 +42,18 @@ field_sound count lo hi bytes rest value h =
     let parts = some_pair_parts _ _ _ _ (ap Some found.1) in
     let test = test_parts _ count lo hi _ _ found.0 in
     let P : ℕ → Type 0 = λ v. IsField count lo hi (take count bytes) v in
-    let field : P (number_of (take count bytes)) = record { long = test.0; digits = digits_from_all _ test.1; number = refl; least = test.2; most = test.3 } in
+    let field : P (number_of (take count bytes)) = record { long = test.0; digits = digits_from_all _ test.1; number = refl; least = test.2;
+        most = test.3 } in
     (take count bytes, subst P parts.0 field, sym (take-append-drop count bytes) ∙ ap (λ (l : List ℕ). take count bytes ++ l) parts.1)
 
 -- what `n_digits_in` finds is what the reader finds
-pub field_some : (count lo hi : ℕ) (bytes : List ℕ) → count ≤ length bytes → AreDigits (take count bytes) → lo ≤ number_of (take count bytes) → number_of (take count bytes) ≤ hi
+pub field_some : (count lo hi : ℕ) (bytes : List ℕ) → count ≤ length bytes → AreDigits (take count bytes)
+    → lo ≤ number_of (take count bytes) → number_of (take count bytes) ≤ hi
     → read_field count lo hi bytes ≡ Some (number_of (take count bytes), drop count bytes)
 unfolding read_field
 field_some count lo hi bytes long digits least most =
-    let test : is_field count lo hi (take count bytes) ≡ true = test_whole _ _ lo hi _ _ (length-take-le count bytes long) (all_from_digits (take count bytes) digits) least most in
+    let test : is_field count lo hi (take count bytes) ≡ true = test_whole _ _ lo hi _ _ (length-take-le count bytes long)
+        (all_from_digits (take count bytes) digits) least most in
     rw test refl
 
 none_if : {A : Type 0} (t : Bool) (x : A) → (t ≡ true → ⊥) → cond t (Some x) None ≡ None
@@ -58,7 +64,8 @@ full : (count : ℕ) (bytes : List ℕ) → length (take count bytes) ≡ count 
 full count bytes h = omega (arith, length-take count bytes)
 
 pub field_none : (count lo hi : ℕ) (bytes : List ℕ)
-    → ((count ≤ length bytes) × AreDigits (take count bytes) × (lo ≤ number_of (take count bytes)) × (number_of (take count bytes) ≤ hi) → ⊥)
+    → ((count ≤ length bytes) × AreDigits (take count bytes) × (lo ≤ number_of (take count bytes)) × (number_of (take count bytes) ≤ hi)
+        → ⊥)
     → read_field count lo hi bytes ≡ None
 unfolding read_field
 field_none count lo hi bytes never =
@@ -100,11 +107,13 @@ pub not_digit : (byte b : ℕ) → is_ascii_digit byte ≡ false → digit_value
 not_digit byte b h d = let r = digit_from_value b d in grind (arith, nat_tests)
 
 -- digits don't begin with a byte that is none
-pub digits_first : (byte : ℕ) (text rest : List ℕ) → is_ascii_digit byte ≡ false → 0 < length text → AreDigits text → NotFirst byte (text ++ rest)
+pub digits_first : (byte : ℕ) (text rest : List ℕ) → is_ascii_digit byte ≡ false → 0 < length text → AreDigits text
+    → NotFirst byte (text ++ rest)
 digits_first byte [] rest h some d = absurd (omega arith)
 digits_first byte (b ∷ bs) rest h some d = not_digit byte b h d.0
 
-pub field_first : (byte count lo hi : ℕ) (text rest : List ℕ) (value : ℕ) → is_ascii_digit byte ≡ false → 0 < count → IsField count lo hi text value → NotFirst byte (text ++ rest)
+pub field_first : (byte count lo hi : ℕ) (text rest : List ℕ) (value : ℕ) → is_ascii_digit byte ≡ false → 0 < count
+    → IsField count lo hi text value → NotFirst byte (text ++ rest)
 field_first byte count lo hi text rest value h some f = digits_first byte text rest h (omega (arith, f.long)) f.digits
 
 pub no_mark : (mark : ℕ) (rest : List ℕ) → NotFirst mark rest → after_mark mark rest ≡ rest
@@ -115,7 +124,8 @@ pub mark_exact : (mark : ℕ) (text rest : List ℕ) → IsPerhaps (mark ∷ [])
 mark_exact mark text rest (inl none) n = rw none (no_mark mark rest n)
 mark_exact mark text rest (inr one) n = rw (one, eq-eqb mark mark refl) refl
 
-mark_if : (t : Bool) (mark b : ℕ) (bs : List ℕ) → (t ≡ true → b ≡ mark) → (text : List ℕ) × IsPerhaps (mark ∷ []) text × (b ∷ bs ≡ text ++ cond t bs (b ∷ bs))
+mark_if : (t : Bool) (mark b : ℕ) (bs : List ℕ) → (t ≡ true → b ≡ mark) → (text : List ℕ) × IsPerhaps (mark ∷ []) text
+    × (b ∷ bs ≡ text ++ cond t bs (b ∷ bs))
 mark_if true mark b bs is = (mark ∷ [], inr refl, ap (λ (c : ℕ). c ∷ bs) (is refl))
 mark_if false mark b bs is = ([], inl refl, refl)
 
@@ -147,7 +157,8 @@ joins_three a b c rest = simp append_assoc refl
 pub joins : (bytes a b x rest : List ℕ) → bytes ≡ a ++ x → x ≡ b ++ rest → bytes ≡ (a ++ b) ++ rest
 joins bytes a b x rest p q = p ∙ ap (λ (l : List ℕ). a ++ l) q ∙ sym (append_assoc a b rest)
 
-pub marked_exact : (mark count lo hi : ℕ) → is_ascii_digit mark ≡ false → 0 < count → Exact (IsMarked (mark ∷ []) count lo hi) (read_marked mark count lo hi)
+pub marked_exact : (mark count lo hi : ℕ) → is_ascii_digit mark ≡ false → 0 < count
+    → Exact (IsMarked (mark ∷ []) count lo hi) (read_marked mark count lo hi)
 unfolding read_marked
 marked_exact mark count lo hi h some text rest value m =
     let after = mark_exact mark m.front (m.digits ++ rest) m.perhaps (field_first mark count lo hi m.digits rest value h some m.field) in
@@ -158,7 +169,8 @@ unfolding read_marked
 marked_sound mark count lo hi bytes rest value h =
     let front = mark_sound mark bytes in
     let field = field_sound count lo hi (after_mark mark bytes) rest value h in
-    (front.0 ++ field.0, record { front = front.0; digits = field.0; perhaps = front.1; field = field.1; joined = refl }, joins bytes front.0 field.0 _ rest front.2 field.2)
+    (front.0 ++ field.0, record { front = front.0; digits = field.0; perhaps = front.1; field = field.1; joined = refl },
+        joins bytes front.0 field.0 _ rest front.2 field.2)
 
 -- a mark or a digit comes first
 pub marked_none : (mark lo hi : ℕ) (bytes : List ℕ) → NotFirst mark bytes → NoDigitFirst bytes → read_marked mark 2 lo hi bytes ≡ None
@@ -175,13 +187,15 @@ no_sign : (rest : List ℕ) → NotFirst 45 rest → NotFirst 43 rest → read_s
 no_sign [] m p = refl
 no_sign (b ∷ bs) m p = rw (m, p) refl
 
-sign_exact : (negative : Bool) (sign rest : List ℕ) → IsSign true negative sign → NotFirst 45 rest → NotFirst 43 rest → read_sign (sign ++ rest) ≡ (negative, rest)
+sign_exact : (negative : Bool) (sign rest : List ℕ) → IsSign true negative sign → NotFirst 45 rest → NotFirst 43 rest
+    → read_sign (sign ++ rest) ≡ (negative, rest)
 sign_exact true sign rest h m p = rw h refl
 sign_exact false sign rest (inl none) m p = rw none (no_sign rest m p)
 sign_exact false sign rest (inr plus) m p = rw plus.1 refl
 
 sign_if : (minus plus : Bool) (b : ℕ) (bs : List ℕ) → (minus ≡ true → b ≡ 45) → (plus ≡ true → b ≡ 43)
-    → let r : Bool × List ℕ = cond {A = Bool × List ℕ} minus (true, bs) (cond {A = Bool × List ℕ} plus (false, bs) (false, b ∷ bs)) in (sign : List ℕ) × IsSign true r.0 sign × (b ∷ bs ≡ sign ++ r.1)
+    → let r : Bool × List ℕ = cond {A = Bool × List ℕ} minus (true, bs) (cond {A = Bool × List ℕ} plus (false, bs) (false, b ∷ bs)) in
+        (sign : List ℕ) × IsSign true r.0 sign × (b ∷ bs ≡ sign ++ r.1)
 sign_if true plus b bs is_minus is_plus = (45 ∷ [], refl, ap (λ (c : ℕ). c ∷ bs) (is_minus refl))
 sign_if false true b bs is_minus is_plus = (43 ∷ [], inr (refl, refl), ap (λ (c : ℕ). c ∷ bs) (is_plus refl))
 sign_if false false b bs is_minus is_plus = ([], inl refl, refl)
@@ -194,7 +208,9 @@ pub year_exact : Exact IsYear read_year
 unfolding read_year
 year_exact text rest year y =
     let split : text ++ rest ≡ y.sign ++ (y.digits ++ rest) = ap (λ (l : List ℕ). l ++ rest) y.joined ∙ append_assoc y.sign y.digits rest in
-    let sign = sign_exact y.negative y.sign (y.digits ++ rest) y.signs (field_first 45 4 0 9999 y.digits rest y.magnitude refl (omega arith) y.four) (field_first 43 4 0 9999 y.digits rest y.magnitude refl (omega arith) y.four) in
+    let sign = sign_exact y.negative y.sign (y.digits ++ rest) y.signs
+        (field_first 45 4 0 9999 y.digits rest y.magnitude refl (omega arith) y.four)
+        (field_first 43 4 0 9999 y.digits rest y.magnitude refl (omega arith) y.four) in
     let field = field_exact 4 0 9999 y.digits rest y.magnitude y.four in
     rw (split, sign, field, y.value) refl
 
@@ -205,5 +221,7 @@ year_sound bytes rest year h =
     let field = field_sound 4 0 9999 (read_sign bytes).1 r.1 r.0 found in
     let sign = sign_sound bytes in
     let parts = some_pair_parts _ _ _ _ body in
-    let split : bytes ≡ (sign.0 ++ field.0) ++ rest = sign.2 ∙ ap (λ (l : List ℕ). sign.0 ++ l) (field.2 ∙ ap (λ (l : List ℕ). field.0 ++ l) parts.1) ∙ sym (append_assoc sign.0 field.0 rest) in
-    (sign.0 ++ field.0, record { sign = sign.0; digits = field.0; negative = (read_sign bytes).0; magnitude = r.0; signs = sign.1; four = field.1; joined = refl; value = sym parts.0 }, split))
+    let split : bytes ≡ (sign.0 ++ field.0) ++ rest = sign.2 ∙ ap (λ (l : List ℕ). sign.0 ++ l)
+        (field.2 ∙ ap (λ (l : List ℕ). field.0 ++ l) parts.1) ∙ sym (append_assoc sign.0 field.0 rest) in
+    (sign.0 ++ field.0, record { sign = sign.0; digits = field.0; negative = (read_sign bytes).0; magnitude = r.0; signs = sign.1;
+        four = field.1; joined = refl; value = sym parts.0 }, split))

@@ -1,5 +1,6 @@
 -- Readers on lists against grammars: what a reader finds is there, and nothing longer is.
-use Rattle.std.proofs.Common.{◌≡◌, ℕ, ◌≤◌, ◌⊎◌, List, [], ◌∷◌, ◌++◌, length, Option, Some, None, refl, sym, ◌∙◌, ap, subst, append-nil, arith, inl, inr}
+use Rattle.std.proofs.Common.{◌≡◌, ℕ, ◌≤◌, ◌⊎◌, List, [], ◌∷◌, ◌++◌, length, Option, Some, None, refl, sym, ◌∙◌, ap, subst, append-nil}
+use Rattle.std.proofs.Common.{arith, inl, inr}
 use Rattle.std.specs.Prelude.{option_and_then}
 use Rattle.iso8601.specs.Prefixes.{Begins, NoneLonger, NoneBegins, BeginsLongest}
 use Rattle.iso8601.specs.inside.Reading.{or_else}
@@ -53,7 +54,8 @@ either_sound A B ra rb sa sb bytes rest value h =
 abbrev pub NoShorter : {V : Type 0} → Option (V × List ℕ) → Option (V × List ℕ) → Type 0
 NoShorter {V} a b = (x y : V × List ℕ) → a ≡ Some x → b ≡ Some y → length x.1 ≤ length y.1
 
-both_reach : {V : Type 0} (a b : Option (V × List ℕ)) (rest : List ℕ) → NoShorter a b → Reaches a rest ⊎ Reaches b rest → Reaches (or_else a b) rest
+both_reach : {V : Type 0} (a b : Option (V × List ℕ)) (rest : List ℕ) → NoShorter a b → Reaches a rest ⊎ Reaches b rest
+    → Reaches (or_else a b) rest
 both_reach (Some x) b rest le (inl r) = r
 both_reach (Some x) (Some y) rest le (inr r) = let k = le x y refl refl in omega arith
 both_reach (Some x) None rest le (inr r) = absurd r
@@ -61,9 +63,12 @@ both_reach None b rest le (inl r) = absurd r
 both_reach None b rest le (inr r) = r
 
 pub either_reach : {V : Type 0} (A B : List ℕ → V → Type 0) (ra rb : List ℕ → Option (V × List ℕ)) → Reach A ra → Reach B rb
-    → ((bytes : List ℕ) → NoShorter (ra bytes) (rb bytes)) → Reach (λ text value. A text value ⊎ B text value) (λ bytes. or_else (ra bytes) (rb bytes))
-either_reach A B ra rb pa pb le text rest value (inl a) = both_reach (ra (text ++ rest)) (rb (text ++ rest)) rest (le (text ++ rest)) (inl (pa text rest value a))
-either_reach A B ra rb pa pb le text rest value (inr b) = both_reach (ra (text ++ rest)) (rb (text ++ rest)) rest (le (text ++ rest)) (inr (pb text rest value b))
+    → ((bytes : List ℕ) → NoShorter (ra bytes) (rb bytes)) → Reach (λ text value. A text value ⊎ B text value)
+        (λ bytes. or_else (ra bytes) (rb bytes))
+either_reach A B ra rb pa pb le text rest value (inl a) = both_reach (ra (text ++ rest)) (rb (text ++ rest)) rest (le (text ++ rest))
+    (inl (pa text rest value a))
+either_reach A B ra rb pa pb le text rest value (inr b) = both_reach (ra (text ++ rest)) (rb (text ++ rest)) rest (le (text ++ rest))
+    (inr (pb text rest value b))
 
 -- ---- the three clauses of a parser
 
@@ -81,7 +86,8 @@ none_begins Is read reach bytes none other left b = rw none at (reach_at Is read
 
 -- ---- the same bytes under another name
 
-pub longest_of : {V : Type 0} (Is : List ℕ → V → Type 0) {bytes text rest : List ℕ} {value : V} → bytes ≡ text → Begins Is bytes value rest → NoneLonger Is bytes rest → BeginsLongest Is text value
+pub longest_of : {V : Type 0} (Is : List ℕ → V → Type 0) {bytes text rest : List ℕ} {value : V} → bytes ≡ text → Begins Is bytes value rest
+    → NoneLonger Is bytes rest → BeginsLongest Is text value
 longest_of {V} Is {bytes} {text} {rest} {value} same found longest =
     let P : List ℕ → Type 0 = λ b. BeginsLongest Is b value in subst P same (rest, found, longest)
 
@@ -96,7 +102,8 @@ nothing (b ∷ bs) h = absurd (omega arith)
 
 -- what is read in front of a text of the grammar is the text and its one value
 pub whole_text : {V : Type 0} (Is : List ℕ → V → Type 0) → ((text : List ℕ) (a b : V) → Is text a → Is text b → a ≡ b)
-    → (text : List ℕ) (v : V) → Is text v → (value : V) (rest : List ℕ) → Begins Is text value rest → NoneLonger Is text rest → (value ≡ v) × (rest ≡ [])
+    → (text : List ℕ) (v : V) → Is text v → (value : V) (rest : List ℕ) → Begins Is text value rest → NoneLonger Is text rest → (value ≡ v)
+        × (rest ≡ [])
 whole_text {V} Is one text v is value rest found longest =
     let all : rest ≡ [] = nothing rest (longest v [] (text, is, sym (append-nil text))) in
     let same : found.0 ≡ text = sym (found.2 ∙ ap (λ (r : List ℕ). found.0 ++ r) all ∙ append-nil found.0) in

@@ -1,5 +1,6 @@
 -- Parts that may be left out, one behind another. Their readers always answer: a value, and what follows the part.
-use Rattle.std.proofs.Common.{◌≡◌, ℕ, Option, Some, None, ◌+◌, ◌≤◌, ◌⊎◌, List, [], ◌++◌, length, refl, sym, ◌∙◌, ap, append_assoc, length-append, arith, inl, inr}
+use Rattle.std.proofs.Common.{◌≡◌, ℕ, Option, Some, None, ◌+◌, ◌≤◌, ◌⊎◌, List, [], ◌++◌, length, refl, sym, ◌∙◌, ap, append_assoc}
+use Rattle.std.proofs.Common.{length-append, arith, inl, inr}
 use Rattle.iso8601.specs.Prefixes.{Begins}
 use Rattle.iso8601.specs.inside.TimeReading.{read_both, or_zero}
 use Rattle.iso8601.specs.Fields.{IsOrZero}
@@ -12,8 +13,10 @@ pub record Optional {V : Type 0} (Is : List ℕ → V → Type 0) (read : List �
   pub exact : (text rest : List ℕ) (value : V) → Is text value → Stops rest → read (text ++ rest) ≡ (value, rest)
 
 -- the same under a stronger mark of the end
-pub optional_when : {V : Type 0} (Is : List ℕ → V → Type 0) (read : List ℕ → V × List ℕ) (Stops Sooner : List ℕ → Type 0) → ((rest : List ℕ) → Sooner rest → Stops rest) → Optional Is read Stops → Optional Is read Sooner
-optional_when Is read Stops Sooner sooner o = record { sound = o.sound; reach = o.reach; exact = λ text rest value is stops. o.exact text rest value is (sooner rest stops) }
+pub optional_when : {V : Type 0} (Is : List ℕ → V → Type 0) (read : List ℕ → V × List ℕ) (Stops Sooner : List ℕ → Type 0)
+    → ((rest : List ℕ) → Sooner rest → Stops rest) → Optional Is read Stops → Optional Is read Sooner
+optional_when Is read Stops Sooner sooner o = record { sound = o.sound; reach = o.reach;
+    exact = λ text rest value is stops. o.exact text rest value is (sooner rest stops) }
 
 -- a part that is no longer than the bytes
 pub shrinks : (bytes text rest : List ℕ) → bytes ≡ text ++ rest → length rest ≤ length bytes
@@ -34,13 +37,15 @@ zero_reach Is read sound exact text rest value (inl none) =
 zero_reach Is read sound exact text rest value (inr is) = rw (exact text rest value is) (omega arith)
 
 zero_exact : (Is : List ℕ → ℕ → Type 0) (read : List ℕ → Option (ℕ × List ℕ)) → Exact Is read
-    → (text rest : List ℕ) (value : ℕ) → IsOrZero Is text value → read rest ≡ None → or_zero (text ++ rest) (read (text ++ rest)) ≡ (value, rest)
+    → (text rest : List ℕ) (value : ℕ) → IsOrZero Is text value → read rest ≡ None
+        → or_zero (text ++ rest) (read (text ++ rest)) ≡ (value, rest)
 zero_exact Is read exact text rest value (inl none) stops = rw (none.0, none.1, stops) refl
 zero_exact Is read exact text rest value (inr is) stops = rw (exact text rest value is) refl
 
 pub zero_optional : (Is : List ℕ → ℕ → Type 0) (read : List ℕ → Option (ℕ × List ℕ)) → Sound Is read → Exact Is read
     → Optional (IsOrZero Is) (λ bytes. or_zero bytes (read bytes)) (λ rest. read rest ≡ None)
-zero_optional Is read sound exact = record { sound = λ bytes. zero_sound Is read sound bytes (read bytes) refl; reach = zero_reach Is read sound exact; exact = zero_exact Is read exact }
+zero_optional Is read sound exact = record { sound = λ bytes. zero_sound Is read sound bytes (read bytes) refl;
+    reach = zero_reach Is read sound exact; exact = zero_exact Is read exact }
 
 -- ---- two parts in a row
 
@@ -56,17 +61,20 @@ pub record IsBoth {A B : Type 0} (IsA : List ℕ → A → Type 0) (IsB : List �
 abbrev pub Marks : {B : Type 0} → (List ℕ → B → Type 0) → (List ℕ → Type 0) → Type 0
 Marks {B} IsB Stops = (text : List ℕ) (value : B) → IsB text value → (text ≡ []) ⊎ ((rest : List ℕ) → Stops (text ++ rest))
 
-pub both_optional : {A B : Type 0} (IsA : List ℕ → A → Type 0) (IsB : List ℕ → B → Type 0) (ra : List ℕ → A × List ℕ) (rb : List ℕ → B × List ℕ) (StopsA StopsB : List ℕ → Type 0)
+pub both_optional : {A B : Type 0} (IsA : List ℕ → A → Type 0) (IsB : List ℕ → B → Type 0) (ra : List ℕ → A × List ℕ)
+    (rb : List ℕ → B × List ℕ) (StopsA StopsB : List ℕ → Type 0)
     → Optional IsA ra StopsA → Optional IsB rb StopsB → Marks IsB StopsA → ((rest : List ℕ) → StopsB rest → StopsA rest)
     → Optional (IsBoth IsA IsB) (read_both ra rb) StopsB
 both_optional IsA IsB ra rb StopsA StopsB oa ob marks ends = record {
   sound = λ bytes.
       let a = oa.sound bytes in
       let b = ob.sound (ra bytes).1 in
-      let split : bytes ≡ (a.0 ++ b.0) ++ (rb (ra bytes).1).1 = a.2 ∙ ap (λ (l : List ℕ). a.0 ++ l) b.2 ∙ sym (append_assoc a.0 b.0 (rb (ra bytes).1).1) in
+      let split : bytes ≡ (a.0 ++ b.0) ++ (rb (ra bytes).1).1 = a.2 ∙ ap (λ (l : List ℕ). a.0 ++ l) b.2
+          ∙ sym (append_assoc a.0 b.0 (rb (ra bytes).1).1) in
       (a.0 ++ b.0, record { first = a.0; second = b.0; is_first = a.1; is_second = b.1; joined = refl }, split);
   reach = λ text rest value is.
-      let split : text ++ rest ≡ is.first ++ (is.second ++ rest) = ap (λ (l : List ℕ). l ++ rest) is.joined ∙ append_assoc is.first is.second rest in
+      let split : text ++ rest ≡ is.first ++ (is.second ++ rest) = ap (λ (l : List ℕ). l ++ rest) is.joined
+          ∙ append_assoc is.first is.second rest in
       rw split (elim (marks is.second value.1 is.is_second) [
         | inl none ↦
             let all : is.second ++ rest ≡ rest = ap (λ (l : List ℕ). l ++ rest) none in
@@ -77,7 +85,8 @@ both_optional IsA IsB ra rb StopsA StopsB oa ob marks ends = record {
             rw (oa.exact is.first (is.second ++ rest) value.0 is.is_first (marked rest)) (ob.reach is.second rest value.1 is.is_second)
       ]);
   exact = λ text rest value is stops.
-      let split : text ++ rest ≡ is.first ++ (is.second ++ rest) = ap (λ (l : List ℕ). l ++ rest) is.joined ∙ append_assoc is.first is.second rest in
+      let split : text ++ rest ≡ is.first ++ (is.second ++ rest) = ap (λ (l : List ℕ). l ++ rest) is.joined
+          ∙ append_assoc is.first is.second rest in
       let second = ob.exact is.second rest value.1 is.is_second stops in
       let marked : StopsA (is.second ++ rest) = elim (marks is.second value.1 is.is_second) [
         | inl none ↦ rw none (ends rest stops)
@@ -87,11 +96,13 @@ both_optional IsA IsB ra rb StopsA StopsB oa ob marks ends = record {
 }
 
 -- two parts mark an end where each of them does
-pub both_marks : {A B : Type 0} (IsA : List ℕ → A → Type 0) (IsB : List ℕ → B → Type 0) (Stops : List ℕ → Type 0) → Marks IsA Stops → Marks IsB Stops → Marks (IsBoth IsA IsB) Stops
+pub both_marks : {A B : Type 0} (IsA : List ℕ → A → Type 0) (IsB : List ℕ → B → Type 0) (Stops : List ℕ → Type 0) → Marks IsA Stops
+    → Marks IsB Stops → Marks (IsBoth IsA IsB) Stops
 both_marks IsA IsB Stops ma mb text value b =
     elim (ma b.first value.0 b.is_first) [
       | inr marks ↦ inr (λ rest.
-          let split : text ++ rest ≡ b.first ++ (b.second ++ rest) = ap (λ (x : List ℕ). x ++ rest) b.joined ∙ append_assoc b.first b.second rest in
+          let split : text ++ rest ≡ b.first ++ (b.second ++ rest) = ap (λ (x : List ℕ). x ++ rest) b.joined
+              ∙ append_assoc b.first b.second rest in
           rw split (marks (b.second ++ rest)))
       | inl none ↦
           let only : text ≡ b.second = b.joined ∙ ap (λ (x : List ℕ). x ++ b.second) none in

@@ -1,5 +1,6 @@
 -- The written text of a duration in range is in the grammar, with this value.
-use Rattle.std.proofs.Common.{◌≡◌, ◌≢◌, ℕ, ◌<◌, ◌≤◌, ◌^◌, ◌==◌, ◌&&◌, Bool, true, false, cond, List, [], ◌∷◌, ◌++◌, length, codes, decimal, refl, sym, ◌∙◌, ap, subst, length-append, arith, inl, inr}
+use Rattle.std.proofs.Common.{◌≡◌, ◌≢◌, ℕ, ◌<◌, ◌≤◌, ◌^◌, ◌==◌, ◌&&◌, Bool, true, false, cond, List, [], ◌∷◌, ◌++◌, length, codes, decimal}
+use Rattle.std.proofs.Common.{refl, sym, ◌∙◌, ap, subst, length-append, arith, inl, inr}
 use Rattle.std.proofs.lemmas.Bool.{eqb-true, and_parts}
 use Rattle.std.proofs.lemmas.Bool.Decides.{nat_tests}
 use Rattle.std.proofs.lemmas.Fmt.{decimal_nonempty}
@@ -38,7 +39,8 @@ seconds_if : (s ms : ℕ) (t : Bool) → (ms == 0) ≡ t → s < 2 ^ 32 → ms �
     → IsSeconds (cond t (count_text s (codes "S")) (decimal s ++ (codes "." ++ (padded_digits 3 ms ++ codes "S")))) (s, ms)
 seconds_if s ms true h small most = inl (count_spelled (codes "S") s small, eqb-true ms 0 h)
 seconds_if s ms false h small most =
-    inr (record { digits = decimal s; fraction = codes "." ++ padded_digits 3 ms; number = number_spelled s small; millis = fraction_spelled ms most; joined = refl })
+    inr (record { digits = decimal s; fraction = codes "." ++ padded_digits 3 ms; number = number_spelled s small;
+        millis = fraction_spelled ms most; joined = refl })
 
 seconds_spelled : (s ms : ℕ) → s < 2 ^ 32 → ms ≤ 999 → IsSeconds (second_text s ms) (s, ms)
 unfolding second_text
@@ -49,11 +51,13 @@ seconds_spelled s ms small most = seconds_if s ms (ms == 0) refl small most
 all_zero : (h m s ms : ℕ) → are_zero h m s ms ≡ true → (h ≡ 0) × (m ≡ 0) × (s ≡ 0) × (ms ≡ 0)
 all_zero h m s ms z = grind (arith, nat_tests)
 
-zeros : (h m s ms : ℕ) → (h ≡ 0) × (m ≡ 0) × (s ≡ 0) × (ms ≡ 0) → let clock : ℕ × (ℕ × (ℕ × ℕ)) = (h, (m, (s, ms))) in clock ≡ (0, (0, (0, 0)))
+zeros : (h m s ms : ℕ) → (h ≡ 0) × (m ≡ 0) × (s ≡ 0) × (ms ≡ 0) → let clock : ℕ × (ℕ × (ℕ × ℕ)) = (h, (m, (s, ms))) in
+    clock ≡ (0, (0, (0, 0)))
 zeros h m s ms z = rw (z.0, z.1, z.2, z.3) refl
 
 clock_if : (h m s ms : ℕ) (t : Bool) → are_zero h m s ms ≡ t → h < 2 ^ 32 → m < 2 ^ 32 → s < 2 ^ 32 → ms ≤ 999
-    → IsPerhapsClock (cond t [] (codes "T" ++ (count_text h (codes "H") ++ (count_text m (codes "M") ++ second_text s ms)))) (h, (m, (s, ms)))
+    → IsPerhapsClock (cond t [] (codes "T" ++ (count_text h (codes "H") ++ (count_text m (codes "M") ++ second_text s ms))))
+        (h, (m, (s, ms)))
 clock_if h m s ms true z p q r o = inl (refl, zeros h m s ms (all_zero h m s ms z))
 clock_if h m s ms false z p q r o =
     inr (record {
@@ -66,7 +70,8 @@ clock_if h m s ms false z p q r o =
       joined = refl;
     })
 
-clock_spelled : (h m s ms : ℕ) → h < 2 ^ 32 → m < 2 ^ 32 → s < 2 ^ 32 → ms ≤ 999 → IsPerhapsClock (clock_counts_text h m s ms) (h, (m, (s, ms)))
+clock_spelled : (h m s ms : ℕ) → h < 2 ^ 32 → m < 2 ^ 32 → s < 2 ^ 32 → ms ≤ 999
+    → IsPerhapsClock (clock_counts_text h m s ms) (h, (m, (s, ms)))
 unfolding clock_counts_text
 clock_spelled h m s ms p q r o = clock_if h m s ms (are_zero h m s ms) refl p q r o
 
@@ -106,12 +111,14 @@ body_some y mo d h m s ms some none =
     let b = length-append yt (mt ++ dt) in
     let c = length-append mt dt in
     let zero : are_all_zero y mo d h m s ms ≡ true =
-    four_true (y == 0) (mo == 0) (d == 0) (are_zero h m s ms) (no_count y (codes "Y") refl (omega arith)) (no_count mo (codes "M") refl (omega arith)) (no_count d (codes "D") refl (omega arith)) (no_clock h m s ms (omega arith)) in
+    four_true (y == 0) (mo == 0) (d == 0) (are_zero h m s ms) (no_count y (codes "Y") refl (omega arith))
+        (no_count mo (codes "M") refl (omega arith)) (no_count d (codes "D") refl (omega arith)) (no_clock h m s ms (omega arith)) in
     let never : true ≡ false = sym zero ∙ some in cc
 
 -- ---- durations
 
-counted_spelled : (y mo d h m s ms : ℕ) → IsDurationInRange (YMDHMS y mo d h m s ms) → are_all_zero y mo d h m s ms ≡ false → IsCounted (date_counts_text y mo d ++ clock_counts_text h m s ms) (YMDHMS y mo d h m s ms)
+counted_spelled : (y mo d h m s ms : ℕ) → IsDurationInRange (YMDHMS y mo d h m s ms) → are_all_zero y mo d h m s ms ≡ false
+    → IsCounted (date_counts_text y mo d ++ clock_counts_text h m s ms) (YMDHMS y mo d h m s ms)
 unfolding date_counts_text
 counted_spelled y mo d h m s ms r some =
     record {
@@ -149,7 +156,8 @@ zero_spelled =
       clock = (0, (0, (0, 0)));
       years = inl (refl, refl);
       months = inl (refl, refl);
-      days = inr (record { digits = codes "0"; number = record { some = omega arith; all_digits = (omega arith, tt); number = refl; fits = omega arith }; joined = refl });
+      days = inr (record { digits = codes "0"; number = record { some = omega arith; all_digits = (omega arith, tt); number = refl;
+          fits = omega arith }; joined = refl });
       clocks = inl (refl, refl);
       some = some_bytes 48 (codes "D");
       joined = refl;
@@ -169,7 +177,8 @@ spelled_if : (y mo d h m s ms : ℕ) (t : Bool) → are_all_zero y mo d h m s ms
 spelled_if y mo d h m s ms true z r =
     let P : Duration → Type 0 = λ v. IsDuration (codes "P0D") v in
     subst P (all_counts_zero y mo d h m s ms z) (codes "0D", inr (inl zero_spelled), refl)
-spelled_if y mo d h m s ms false z r = (date_counts_text y mo d ++ clock_counts_text h m s ms, inr (inl (counted_spelled y mo d h m s ms r z)), refl)
+spelled_if y mo d h m s ms false z r = (date_counts_text y mo d ++ clock_counts_text h m s ms,
+    inr (inl (counted_spelled y mo d h m s ms r z)), refl)
 
 pub duration_spelled : (d : Duration) → IsDurationInRange d → IsDuration (duration_text d) d
 unfolding duration_text date_counts_text clock_counts_text

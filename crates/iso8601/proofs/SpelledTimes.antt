@@ -1,5 +1,6 @@
 -- The written text of a date or a time in range is in its grammar, with this value.
-use Rattle.std.proofs.Common.{◌≡◌, ℕ, zero, suc, ◌≤◌, ◌||◌, ℤ, pos, negsuc, Bool, true, false, List, ◌++◌, codes, refl, subst, append_assoc, arith, inl, inr}
+use Rattle.std.proofs.Common.{◌≡◌, ℕ, zero, suc, ◌≤◌, ◌||◌, ℤ, pos, negsuc, Bool, true, false, List, ◌++◌, codes, refl, subst, append_assoc}
+use Rattle.std.proofs.Common.{arith, inl, inr}
 use Rattle.std.specs.Prelude.{unsigned_abs, neg_ℤ}
 use Rattle.std.specs.Int.{is_negative}
 use Rattle.std.proofs.lemmas.Int.{ints}
@@ -33,7 +34,8 @@ date_spelled (YMD year month day) r =
       year = year;
       years = year_spelled year r.0;
       mark = inr refl;
-      days = inl (record { month_text = padded_digits 2 month; day_text = codes "-" ++ padded_digits 2 day; month = month; day = day; months = months; days = days; joined = refl; value = refl });
+      days = inl (record { month_text = padded_digits 2 month; day_text = codes "-" ++ padded_digits 2 day; month = month; day = day;
+          months = months; days = days; joined = refl; value = refl });
       joined = refl;
     }
 date_spelled (Week year ww d) r =
@@ -46,7 +48,8 @@ date_spelled (Week year ww d) r =
       year = year;
       years = year_spelled year r.0;
       mark = inr refl;
-      days = inr (inl (record { week_text = padded_digits 2 ww; day_text = codes "-" ++ padded_digits 1 d; week = ww; day = d; weeks = weeks; days = days; joined = refl; value = refl }));
+      days = inr (inl (record { week_text = padded_digits 2 ww; day_text = codes "-" ++ padded_digits 1 d; week = ww; day = d;
+          weeks = weeks; days = days; joined = refl; value = refl }));
       joined = refl;
     }
 date_spelled (Ordinal year ddd) r =
@@ -64,7 +67,8 @@ date_spelled (Ordinal year ddd) r =
 -- ---- offsets
 
 -- a text of a sign and two magnitudes
-parts_spelled : (negative : Bool) (h m : ℕ) → h ≤ 24 → m ≤ 59 → IsOffset (sign_text negative ++ (padded_digits 2 h ++ (codes ":" ++ padded_digits 2 m))) (signed negative h, signed negative m)
+parts_spelled : (negative : Bool) (h m : ℕ) → h ≤ 24 → m ≤ 59 → IsOffset
+    (sign_text negative ++ (padded_digits 2 h ++ (codes ":" ++ padded_digits 2 m))) (signed negative h, signed negative m)
 parts_spelled negative h m p q =
     inr (inr (record {
       negative = negative;
@@ -82,7 +86,8 @@ ahead_spelled : (h m : ℕ) → h ≤ 24 → m ≤ 59 → IsOffset (offset_text 
 ahead_spelled h m p q = rw (ahead_text h m, wide_positive h, wide_positive m) (parts_spelled false h m p q)
 
 -- where one part is negative, each is the negated magnitude
-behind_spelled : (a b : ℤ) (h m : ℕ) → (is_negative a || is_negative b) ≡ true → neg_ℤ a ≡ pos h → neg_ℤ b ≡ pos m → a ≡ neg_ℤ (pos h) → b ≡ neg_ℤ (pos m) → h ≤ 24 → m ≤ 59 → IsOffset (offset_text a b) (a, b)
+behind_spelled : (a b : ℤ) (h m : ℕ) → (is_negative a || is_negative b) ≡ true → neg_ℤ a ≡ pos h → neg_ℤ b ≡ pos m → a ≡ neg_ℤ (pos h)
+    → b ≡ neg_ℤ (pos m) → h ≤ 24 → m ≤ 59 → IsOffset (offset_text a b) (a, b)
 behind_spelled a b h m t x y u v p q =
     let both : (neg_ℤ (pos h), neg_ℤ (pos m)) ≡ (a, b) = rw (u, v) refl in
     let P : ℤ × ℤ → Type 0 = λ o. IsOffset (offset_text a b) o in
@@ -100,7 +105,8 @@ offset_spelled (negsuc h) (negsuc m) p q s = behind_spelled (negsuc h) (negsuc m
 
 -- ---- times
 
-joins : (h m s f o : List ℕ) → (h ++ (codes ":" ++ (m ++ (codes ":" ++ (s ++ (codes "." ++ f)))))) ++ o ≡ h ++ ((codes ":" ++ m) ++ ((codes ":" ++ s) ++ ((codes "." ++ f) ++ o)))
+joins : (h m s f o : List ℕ) → (h ++ (codes ":" ++ (m ++ (codes ":" ++ (s ++ (codes "." ++ f)))))) ++ o ≡ h
+    ++ ((codes ":" ++ m) ++ ((codes ":" ++ s) ++ ((codes "." ++ f) ++ o)))
 joins h m s f o = simp append_assoc refl
 
 pub time_spelled : (t : Time) → IsTimeInRange t → IsTime (time_text t) t
@@ -117,10 +123,12 @@ time_spelled t r =
       seconds = inr (marked_spelled (codes ":") 2 0 60 t.second (omega arith) (omega (arith, r.2)) (omega (arith, r.2)) (omega arith) r.2);
       fractions = inr (fraction_spelled t.millisecond r.3);
       offsets = offset_spelled t.tz_offset_hours t.tz_offset_minutes r.4 r.5 r.6;
-      joined = joins (padded_digits 2 t.hour) (padded_digits 2 t.minute) (padded_digits 2 t.second) (padded_digits 3 t.millisecond) (offset_text t.tz_offset_hours t.tz_offset_minutes);
+      joined = joins (padded_digits 2 t.hour) (padded_digits 2 t.minute) (padded_digits 2 t.second) (padded_digits 3 t.millisecond)
+          (offset_text t.tz_offset_hours t.tz_offset_minutes);
     }
 
 pub date_time_spelled : (t : DateTime) → IsDateTimeInRange t → IsDateTime (date_time_text t) t
 unfolding date_time_text
 date_time_spelled t r =
-    record { date_text = date_text t.date; time_text = time_text t.time; dates = date_spelled t.date r.0; times = time_spelled t.time r.1; joined = refl }
+    record { date_text = date_text t.date; time_text = time_text t.time; dates = date_spelled t.date r.0; times = time_spelled t.time r.1;
+        joined = refl }

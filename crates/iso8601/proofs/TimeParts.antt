@@ -1,5 +1,6 @@
 -- The parts of a time that may be left out: seconds, the fraction, the offset.
-use Rattle.std.proofs.Common.{◌≡◌, ℕ, ℤ, ◌≤◌, ◌⊎◌, ◌==◌, Bool, true, false, cond, List, [], ◌∷◌, ◌++◌, length, Option, Some, None, refl, sym, ◌∙◌, ap, append_assoc, append-nil, arith, inl, inr}
+use Rattle.std.proofs.Common.{◌≡◌, ℕ, ℤ, ◌≤◌, ◌⊎◌, ◌==◌, Bool, true, false, cond, List, [], ◌∷◌, ◌++◌, length, Option, Some, None, refl}
+use Rattle.std.proofs.Common.{sym, ◌∙◌, ap, append_assoc, append-nil, arith, inl, inr}
 use Rattle.std.proofs.lemmas.Bool.{eqb-true}
 use Rattle.std.specs.Char.{is_ascii_digit}
 use Rattle.scan_core.specs.Digits.{AreDigits}
@@ -31,7 +32,8 @@ stops_later hi (b ∷ bs) s = marked_none 58 0 hi (b ∷ bs) s.1 s.0
 pub later_optional : (hi : ℕ) → Optional (IsOrZero (IsLater hi)) (read_later hi) StopsField
 unfolding read_later
 later_optional hi =
-    optional_when (IsOrZero (IsLater hi)) (read_later hi) (λ rest. read_marked 58 2 0 hi rest ≡ None) StopsField (stops_later hi) (zero_optional (IsLater hi) (read_marked 58 2 0 hi) (marked_sound 58 2 0 hi) (marked_exact 58 2 0 hi refl (omega arith)))
+    optional_when (IsOrZero (IsLater hi)) (read_later hi) (λ rest. read_marked 58 2 0 hi rest ≡ None) StopsField (stops_later hi)
+        (zero_optional (IsLater hi) (read_marked 58 2 0 hi) (marked_sound 58 2 0 hi) (marked_exact 58 2 0 hi refl (omega arith)))
 
 -- ---- the fraction
 
@@ -49,7 +51,8 @@ after_joined : (digits rest : List ℕ) → AreDigits digits → after_digits (d
 after_joined [] rest d = refl
 after_joined (c ∷ cs) rest d = let yes = test_from_digit c d.0 in rw yes (after_joined cs rest d.1)
 
-pub made_fraction : (point : ℕ) (bs : List ℕ) → IsPoint (point ∷ []) → Begins (IsOrZero IsMilliseconds) (point ∷ bs) (millis_of (front_digits bs)) (after_digits bs)
+pub made_fraction : (point : ℕ) (bs : List ℕ) → IsPoint (point ∷ [])
+    → Begins (IsOrZero IsMilliseconds) (point ∷ bs) (millis_of (front_digits bs)) (after_digits bs)
 unfolding millis_of
 made_fraction point bs is = (
   point ∷ front_digits bs,
@@ -59,7 +62,8 @@ made_fraction point bs is = (
 
 fraction_if : (point comma : Bool) (b : ℕ) (bs : List ℕ) → (point ≡ true → b ≡ 46) → (comma ≡ true → b ≡ 44)
     → let some : ℕ × List ℕ = (millis_of (front_digits bs), after_digits bs) in
-    let r : ℕ × List ℕ = cond {A = ℕ × List ℕ} point some (cond {A = ℕ × List ℕ} comma some (0, b ∷ bs)) in Begins (IsOrZero IsMilliseconds) (b ∷ bs) r.0 r.1
+    let r : ℕ × List ℕ = cond {A = ℕ × List ℕ} point some (cond {A = ℕ × List ℕ} comma some (0, b ∷ bs)) in
+        Begins (IsOrZero IsMilliseconds) (b ∷ bs) r.0 r.1
 fraction_if true comma b bs is_point is_comma = made_fraction b bs (inl (ap (λ (c : ℕ). c ∷ []) (is_point refl)))
 fraction_if false true b bs is_point is_comma = made_fraction b bs (inr (ap (λ (c : ℕ). c ∷ []) (is_comma refl)))
 fraction_if false false b bs is_point is_comma = ([], inl (refl, refl), refl)
@@ -72,14 +76,19 @@ behind_point : (point bs : List ℕ) → IsPoint point → read_fraction (point 
 behind_point point bs (inl h) = rw h refl
 behind_point point bs (inr h) = rw h refl
 
-pub fraction_at : (text rest : List ℕ) (value : ℕ) (f : IsMilliseconds text value) → read_fraction (text ++ rest) ≡ (millis_of (f.digits ++ front_digits rest), after_digits rest)
+pub fraction_at : (text rest : List ℕ) (value : ℕ) (f : IsMilliseconds text value)
+    → read_fraction (text ++ rest) ≡ (millis_of (f.digits ++ front_digits rest), after_digits rest)
 fraction_at text rest value f =
-    let split : text ++ rest ≡ f.point ++ (f.digits ++ rest) = ap (λ (x : List ℕ). x ++ rest) f.joined ∙ append_assoc f.point f.digits rest in
-    rw (split, behind_point f.point (f.digits ++ rest) f.mark, front_joined f.digits rest f.all_digits, after_joined f.digits rest f.all_digits) refl
+    let split : text ++ rest ≡ f.point ++ (f.digits ++ rest) = ap (λ (x : List ℕ). x ++ rest) f.joined
+        ∙ append_assoc f.point f.digits rest in
+    rw (split, behind_point f.point (f.digits ++ rest) f.mark, front_joined f.digits rest f.all_digits,
+        after_joined f.digits rest f.all_digits) refl
 
-fraction_reach : (text rest : List ℕ) (value : ℕ) → (IsOrZero IsMilliseconds) text value → length (read_fraction (text ++ rest)).1 ≤ length rest
+fraction_reach : (text rest : List ℕ) (value : ℕ) → (IsOrZero IsMilliseconds) text value
+    → length (read_fraction (text ++ rest)).1 ≤ length rest
 fraction_reach text rest value (inl none) = let s = fraction_sound rest in rw none.0 (shrinks rest s.0 (read_fraction rest).1 s.2)
-fraction_reach text rest value (inr f) = rw (fraction_at text rest value f) (shrinks rest (front_digits rest) (after_digits rest) (sym (front_and_after rest)))
+fraction_reach text rest value (inr f) = rw (fraction_at text rest value f)
+    (shrinks rest (front_digits rest) (after_digits rest) (sym (front_and_after rest)))
 
 no_point : (rest : List ℕ) → StopsFraction rest → read_fraction rest ≡ (0, rest)
 no_point [] s = refl
@@ -89,35 +98,42 @@ no_digits : (rest : List ℕ) → StopsFraction rest → NoDigitFirst rest
 no_digits [] s = tt
 no_digits (b ∷ bs) s = s.0
 
-fraction_exact : (text rest : List ℕ) (value : ℕ) → (IsOrZero IsMilliseconds) text value → StopsFraction rest → read_fraction (text ++ rest) ≡ (value, rest)
+fraction_exact : (text rest : List ℕ) (value : ℕ) → (IsOrZero IsMilliseconds) text value → StopsFraction rest
+    → read_fraction (text ++ rest) ≡ (value, rest)
 unfolding millis_of
 fraction_exact text rest value (inl none) s = rw (none.0, none.1) (no_point rest s)
 fraction_exact text rest value (inr f) s =
-    rw (fraction_at text rest value f, front_of [] rest tt (no_digits rest s), after_of [] rest tt (no_digits rest s), append-nil f.digits, f.value) refl
+    rw (fraction_at text rest value f, front_of [] rest tt (no_digits rest s), after_of [] rest tt (no_digits rest s), append-nil f.digits,
+        f.value) refl
 
 pub fraction_optional : Optional (IsOrZero IsMilliseconds) read_fraction StopsFraction
 fraction_optional = record { sound = fraction_sound; reach = fraction_reach; exact = fraction_exact }
 
 -- ---- the offset
 
-with_minutes_made : (negative : Bool) (b : ℕ) (bs : List ℕ) (o : Option (ℕ × List ℕ)) → sign_text negative ≡ b ∷ [] → read_field 2 0 24 bs ≡ o
+with_minutes_made : (negative : Bool) (b : ℕ) (bs : List ℕ) (o : Option (ℕ × List ℕ)) → sign_text negative ≡ b ∷ []
+    → read_field 2 0 24 bs ≡ o
     → Begins IsOffset (b ∷ bs) (with_minutes negative (b ∷ bs) o).0 (with_minutes negative (b ∷ bs) o).1
 with_minutes_made negative b bs None sign h = ([], inl (refl, refl), refl)
 with_minutes_made negative b bs (Some r) sign h =
     let hours = field_sound 2 0 24 bs r.1 r.0 h in
     let minutes = (later_optional 59).sound r.1 in (
       sign_text negative ++ (hours.0 ++ minutes.0),
-      inr (inr (record { negative = negative; hour_text = hours.0; minute_text = minutes.0; hour = r.0; minute = (read_later 59 r.1).0; hours = hours.1; minutes = minutes.1; joined = refl; value = refl })),
-      rw sign (ap (λ (l : List ℕ). b ∷ l) (hours.2 ∙ ap (λ (l : List ℕ). hours.0 ++ l) minutes.2 ∙ sym (append_assoc hours.0 minutes.0 (read_later 59 r.1).1))),
+      inr (inr (record { negative = negative; hour_text = hours.0; minute_text = minutes.0; hour = r.0; minute = (read_later 59 r.1).0;
+          hours = hours.1; minutes = minutes.1; joined = refl; value = refl })),
+      rw sign (ap (λ (l : List ℕ). b ∷ l) (hours.2 ∙ ap (λ (l : List ℕ). hours.0 ++ l) minutes.2
+          ∙ sym (append_assoc hours.0 minutes.0 (read_later 59 r.1).1))),
     )
 
-signed_made : (negative : Bool) (b : ℕ) (bs : List ℕ) → sign_text negative ≡ b ∷ [] → Begins IsOffset (b ∷ bs) (read_signed negative (b ∷ bs) bs).0 (read_signed negative (b ∷ bs) bs).1
+signed_made : (negative : Bool) (b : ℕ) (bs : List ℕ) → sign_text negative ≡ b ∷ []
+    → Begins IsOffset (b ∷ bs) (read_signed negative (b ∷ bs) bs).0 (read_signed negative (b ∷ bs) bs).1
 unfolding read_signed
 signed_made negative b bs sign = with_minutes_made negative b bs (read_field 2 0 24 bs) sign refl
 
 offset_if : (utc minus plus : Bool) (b : ℕ) (bs : List ℕ) → (utc ≡ true → b ≡ 90) → (minus ≡ true → b ≡ 45) → (plus ≡ true → b ≡ 43)
     → let r : (ℤ × ℤ) × List ℕ =
-    cond {A = (ℤ × ℤ) × List ℕ} utc (no_offset bs) (cond {A = (ℤ × ℤ) × List ℕ} minus (read_signed true (b ∷ bs) bs) (cond {A = (ℤ × ℤ) × List ℕ} plus (read_signed false (b ∷ bs) bs) (no_offset (b ∷ bs)))) in
+    cond {A = (ℤ × ℤ) × List ℕ} utc (no_offset bs) (cond {A = (ℤ × ℤ) × List ℕ} minus (read_signed true (b ∷ bs) bs)
+        (cond {A = (ℤ × ℤ) × List ℕ} plus (read_signed false (b ∷ bs) bs) (no_offset (b ∷ bs)))) in
     Begins IsOffset (b ∷ bs) r.0 r.1
 offset_if true minus plus b bs is_utc is_minus is_plus = (90 ∷ [], inr (inl (refl, refl)), ap (λ (c : ℕ). c ∷ bs) (is_utc refl))
 offset_if false true plus b bs is_utc is_minus is_plus = signed_made true b bs (ap (λ (c : ℕ). c ∷ []) (sym (is_minus refl)))
@@ -133,17 +149,21 @@ behind_sign true bs = refl
 behind_sign false bs = refl
 
 offset_at : (text rest : List ℕ) (value : ℤ × ℤ) (o : IsSignedOffset text value)
-    → read_offset (text ++ rest) ≡ ((signed o.negative o.hour, signed o.negative (read_later 59 (o.minute_text ++ rest)).0), (read_later 59 (o.minute_text ++ rest)).1)
+    → read_offset (text ++ rest) ≡ ((signed o.negative o.hour, signed o.negative (read_later 59 (o.minute_text ++ rest)).0),
+        (read_later 59 (o.minute_text ++ rest)).1)
 unfolding read_signed
 offset_at text rest value o =
     let split : text ++ rest ≡ sign_text o.negative ++ (o.hour_text ++ (o.minute_text ++ rest)) =
-    ap (λ (x : List ℕ). x ++ rest) o.joined ∙ append_assoc (sign_text o.negative) (o.hour_text ++ o.minute_text) rest ∙ ap (λ (x : List ℕ). sign_text o.negative ++ x) (append_assoc o.hour_text o.minute_text rest) in
-    rw (split, behind_sign o.negative (o.hour_text ++ (o.minute_text ++ rest)), field_exact 2 0 24 o.hour_text (o.minute_text ++ rest) o.hour o.hours) refl
+    ap (λ (x : List ℕ). x ++ rest) o.joined ∙ append_assoc (sign_text o.negative) (o.hour_text ++ o.minute_text) rest
+        ∙ ap (λ (x : List ℕ). sign_text o.negative ++ x) (append_assoc o.hour_text o.minute_text rest) in
+    rw (split, behind_sign o.negative (o.hour_text ++ (o.minute_text ++ rest)),
+        field_exact 2 0 24 o.hour_text (o.minute_text ++ rest) o.hour o.hours) refl
 
 offset_reach : (text rest : List ℕ) (value : ℤ × ℤ) → IsOffset text value → length (read_offset (text ++ rest)).1 ≤ length rest
 offset_reach text rest value (inl none) = let s = offset_sound rest in rw none.0 (shrinks rest s.0 (read_offset rest).1 s.2)
 offset_reach text rest value (inr (inl utc)) = rw utc.0 (omega arith)
-offset_reach text rest value (inr (inr o)) = rw (offset_at text rest value o) ((later_optional 59).reach o.minute_text rest o.minute o.minutes)
+offset_reach text rest value (inr (inr o)) = rw (offset_at text rest value o)
+    ((later_optional 59).reach o.minute_text rest o.minute o.minutes)
 
 offset_exact : (text rest : List ℕ) (value : ℤ × ℤ) → IsOffset text value → rest ≡ [] → read_offset (text ++ rest) ≡ (value, rest)
 offset_exact text rest value (inl none) end = rw (none.0, none.1, end) refl
@@ -161,12 +181,14 @@ signed_marks : (negative : Bool) (bs : List ℕ) → StopsFraction (sign_text ne
 signed_marks true bs = ((refl, refl, refl), (refl, refl))
 signed_marks false bs = ((refl, refl, refl), (refl, refl))
 
-offset_marks : (text : List ℕ) (value : ℤ × ℤ) → IsOffset text value → (text ≡ []) ⊎ ((rest : List ℕ) → StopsFraction (text ++ rest) × StopsField (text ++ rest))
+offset_marks : (text : List ℕ) (value : ℤ × ℤ) → IsOffset text value → (text ≡ [])
+    ⊎ ((rest : List ℕ) → StopsFraction (text ++ rest) × StopsField (text ++ rest))
 offset_marks text value (inl none) = inl none.0
 offset_marks text value (inr (inl utc)) = inr (λ rest. rw utc.0 ((refl, refl, refl), (refl, refl)))
 offset_marks text value (inr (inr o)) =
     inr (λ rest.
-    let split : text ++ rest ≡ sign_text o.negative ++ ((o.hour_text ++ o.minute_text) ++ rest) = ap (λ (x : List ℕ). x ++ rest) o.joined ∙ append_assoc (sign_text o.negative) (o.hour_text ++ o.minute_text) rest in
+    let split : text ++ rest ≡ sign_text o.negative ++ ((o.hour_text ++ o.minute_text) ++ rest) = ap (λ (x : List ℕ). x ++ rest) o.joined
+        ∙ append_assoc (sign_text o.negative) (o.hour_text ++ o.minute_text) rest in
     rw split (signed_marks o.negative ((o.hour_text ++ o.minute_text) ++ rest)))
 
 pub fraction_end : Marks IsOffset StopsFraction
@@ -184,7 +206,8 @@ fraction_marks : Marks (IsOrZero IsMilliseconds) StopsField
 fraction_marks text value (inl none) = inl none.0
 fraction_marks text value (inr f) =
     inr (λ rest.
-    let split : text ++ rest ≡ f.point ++ (f.digits ++ rest) = ap (λ (x : List ℕ). x ++ rest) f.joined ∙ append_assoc f.point f.digits rest in
+    let split : text ++ rest ≡ f.point ++ (f.digits ++ rest) = ap (λ (x : List ℕ). x ++ rest) f.joined
+        ∙ append_assoc f.point f.digits rest in
     rw split (point_marks f.point (f.digits ++ rest) f.mark))
 
 offset_stops : Marks IsOffset StopsField

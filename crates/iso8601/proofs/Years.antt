@@ -1,5 +1,6 @@
 -- Years in a row: each begins behind the days of the one before, and 400 years later the calendar and its weeks repeat.
-use Rattle.std.proofs.Common.{◌≡◌, ℕ, zero, suc, ◌+◌, ◌%◌, ◌/◌, ◌<◌, ◌≤◌, ◌==◌, ◌&&◌, ◌||◌, not, Bool, true, false, cond, ℤ, pos, negsuc, refl, ◌∙◌, ap, add-zero, arith}
+use Rattle.std.proofs.Common.{◌≡◌, ℕ, zero, suc, ◌+◌, ◌%◌, ◌/◌, ◌<◌, ◌≤◌, ◌==◌, ◌&&◌, ◌||◌, not, Bool, true, false, cond, ℤ, pos, negsuc}
+use Rattle.std.proofs.Common.{refl, ◌∙◌, ap, add-zero, arith}
 use Rattle.std.proofs.lemmas.Bool.{eqb-true}
 use Rattle.std.specs.Prelude.{unsigned_abs, ◌+ℤ◌, ◌-ℤ◌, ◌*ℤ◌, ◌<ℤ◌, ◌≤ℤ◌}
 use Rattle.std.specs.Int.{int_div_euclid, int_rem_euclid}
@@ -96,8 +97,10 @@ year_if : (t : Bool) → pos (cond t 366 365) ≡ pos 365 +ℤ one_if t
 year_if true = refl
 year_if false = refl
 
-sum_of : (y q4 q100 q400 p4 p100 p400 s4 s100 s400 leap last : ℤ) → q4 ≡ p4 +ℤ s4 → q100 ≡ p100 +ℤ s100 → q400 ≡ p400 +ℤ s400 → (s4 -ℤ s100) +ℤ s400 ≡ leap
-    → (pos 365 *ℤ ((y +ℤ pos 1) -ℤ pos 1970)) +ℤ (((q4 -ℤ q100) +ℤ q400) -ℤ last) ≡ ((pos 365 *ℤ (y -ℤ pos 1970)) +ℤ (((p4 -ℤ p100) +ℤ p400) -ℤ last)) +ℤ (pos 365 +ℤ leap)
+sum_of : (y q4 q100 q400 p4 p100 p400 s4 s100 s400 leap last : ℤ) → q4 ≡ p4 +ℤ s4 → q100 ≡ p100 +ℤ s100 → q400 ≡ p400 +ℤ s400
+    → (s4 -ℤ s100) +ℤ s400 ≡ leap
+    → (pos 365 *ℤ ((y +ℤ pos 1) -ℤ pos 1970)) +ℤ (((q4 -ℤ q100) +ℤ q400) -ℤ last)
+        ≡ ((pos 365 *ℤ (y -ℤ pos 1970)) +ℤ (((p4 -ℤ p100) +ℤ p400) -ℤ last)) +ℤ (pos 365 +ℤ leap)
 sum_of y q4 q100 q400 p4 p100 p400 s4 s100 s400 leap last a b c d = omega (arith, ints)
 
 same_year : (y : ℤ) → (y +ℤ pos 1) -ℤ pos 1 ≡ y
@@ -106,7 +109,10 @@ same_year y = omega (arith, ints)
 pub new_year-next : (y : ℤ) → new_year (y +ℤ pos 1) ≡ new_year y +ℤ pos (days_in_year y)
 unfolding new_year
 new_year-next y =
-    rw (same_year y, year_if (is_leap_year y)) (sum_of y _ _ _ (int_div_euclid (y -ℤ pos 1) (pos 4)) (int_div_euclid (y -ℤ pos 1) (pos 100)) (int_div_euclid (y -ℤ pos 1) (pos 400)) (one_if (is_multiple 4 y)) (one_if (is_multiple 100 y)) (one_if (is_multiple 400 y)) _ (leap_years (pos 1969)) (step_four y) (step_hundred y) (step_four_hundred y) (leap_if (is_multiple 4 y) (is_multiple 100 y) (is_multiple 400 y) (all_hundred y) (all_four y)))
+    rw (same_year y, year_if (is_leap_year y)) (sum_of y _ _ _ (int_div_euclid (y -ℤ pos 1) (pos 4)) (int_div_euclid (y -ℤ pos 1) (pos 100))
+        (int_div_euclid (y -ℤ pos 1) (pos 400)) (one_if (is_multiple 4 y)) (one_if (is_multiple 100 y)) (one_if (is_multiple 400 y)) _
+        (leap_years (pos 1969)) (step_four y) (step_hundred y) (step_four_hundred y)
+        (leap_if (is_multiple 4 y) (is_multiple 100 y) (is_multiple 400 y) (all_hundred y) (all_four y)))
 
 days_if : (t : Bool) → (365 ≤ cond t 366 365) × (cond t 366 365 ≤ 366)
 days_if true = (omega arith, omega arith)
@@ -119,7 +125,8 @@ days_in_year_bounds y = days_if (is_leap_year y)
 further : (y : ℤ) (k : ℕ) → y +ℤ pos (suc k) ≡ (y +ℤ pos k) +ℤ pos 1
 further y k = omega (arith, ints)
 
-pub new_year-later : (y : ℤ) (k : ℕ) → ((new_year y +ℤ (pos 365 *ℤ pos k)) ≤ℤ new_year (y +ℤ pos k)) × (new_year (y +ℤ pos k) ≤ℤ (new_year y +ℤ (pos 366 *ℤ pos k)))
+pub new_year-later : (y : ℤ) (k : ℕ) → ((new_year y +ℤ (pos 365 *ℤ pos k)) ≤ℤ new_year (y +ℤ pos k))
+    × (new_year (y +ℤ pos k) ≤ℤ (new_year y +ℤ (pos 366 *ℤ pos k)))
 new_year-later y zero = let same : y +ℤ pos 0 ≡ y = omega (arith, ints) in rw same (omega (arith, ints), omega (arith, ints))
 new_year-later y (suc k) =
     let before = new_year-later y k in
@@ -142,14 +149,16 @@ one_before : (y k : ℤ) → (y +ℤ (pos 400 *ℤ k)) -ℤ pos 1 ≡ (y -ℤ po
 one_before y k = omega (arith, ints)
 
 cycle_sum : (y k q4 q100 q400 p4 p100 p400 last : ℤ) → q4 ≡ p4 +ℤ (pos 100 *ℤ k) → q100 ≡ p100 +ℤ (pos 4 *ℤ k) → q400 ≡ p400 +ℤ k
-    → (pos 365 *ℤ ((y +ℤ (pos 400 *ℤ k)) -ℤ pos 1970)) +ℤ (((q4 -ℤ q100) +ℤ q400) -ℤ last) ≡ ((pos 365 *ℤ (y -ℤ pos 1970)) +ℤ (((p4 -ℤ p100) +ℤ p400) -ℤ last)) +ℤ (pos 146_097 *ℤ k)
+    → (pos 365 *ℤ ((y +ℤ (pos 400 *ℤ k)) -ℤ pos 1970)) +ℤ (((q4 -ℤ q100) +ℤ q400) -ℤ last)
+        ≡ ((pos 365 *ℤ (y -ℤ pos 1970)) +ℤ (((p4 -ℤ p100) +ℤ p400) -ℤ last)) +ℤ (pos 146_097 *ℤ k)
 cycle_sum y k q4 q100 q400 p4 p100 p400 last a b c = omega (arith, ints)
 
 pub new_year-cycle : (y k : ℤ) → new_year (y +ℤ (pos 400 *ℤ k)) ≡ new_year y +ℤ (pos 146_097 *ℤ k)
 unfolding new_year
 new_year-cycle y k =
     let z : ℤ = y -ℤ pos 1 in
-    rw (one_before y k) (cycle_sum y k _ _ _ (int_div_euclid z (pos 4)) (int_div_euclid z (pos 100)) (int_div_euclid z (pos 400)) (leap_years (pos 1969)) (cycle_four z k) (cycle_hundred z k) (cycle_four_hundred z k))
+    rw (one_before y k) (cycle_sum y k _ _ _ (int_div_euclid z (pos 4)) (int_div_euclid z (pos 100)) (int_div_euclid z (pos 400))
+        (leap_years (pos 1969)) (cycle_four z k) (cycle_hundred z k) (cycle_four_hundred z k))
 
 next_cycle : (y k : ℤ) → (y +ℤ (pos 400 *ℤ k)) +ℤ pos 1 ≡ (y +ℤ pos 1) +ℤ (pos 400 *ℤ k)
 next_cycle y k = omega (arith, ints)
@@ -159,7 +168,8 @@ days_in_year-cycle y k =
     let a = new_year-next (y +ℤ (pos 400 *ℤ k)) in
     let b = new_year-next y in
     let c = new_year-cycle y k in
-    let d : new_year ((y +ℤ (pos 400 *ℤ k)) +ℤ pos 1) ≡ new_year (y +ℤ pos 1) +ℤ (pos 146_097 *ℤ k) = ap new_year (next_cycle y k) ∙ new_year-cycle (y +ℤ pos 1) k in
+    let d : new_year ((y +ℤ (pos 400 *ℤ k)) +ℤ pos 1) ≡ new_year (y +ℤ pos 1) +ℤ (pos 146_097 *ℤ k) = ap new_year (next_cycle y k)
+        ∙ new_year-cycle (y +ℤ pos 1) k in
     omega (arith, ints)
 
 same_if : (s t : Bool) → cond {A = ℕ} s 366 365 ≡ cond {A = ℕ} t 366 365 → s ≡ t
@@ -174,7 +184,8 @@ leap_year-cycle y k = same_if (is_leap_year (y +ℤ (pos 400 *ℤ k))) (is_leap_
 -- ---- weeks
 
 -- a day is some weeks and a number of days below 7 after a Monday
-weeks_of : (z : ℤ) → (q : ℤ) × (z ≡ (pos 7 *ℤ q) +ℤ int_rem_euclid z (pos 7)) × (pos 0 ≤ℤ int_rem_euclid z (pos 7)) × (int_rem_euclid z (pos 7) <ℤ pos 7)
+weeks_of : (z : ℤ) → (q : ℤ) × (z ≡ (pos 7 *ℤ q) +ℤ int_rem_euclid z (pos 7)) × (pos 0 ≤ℤ int_rem_euclid z (pos 7))
+    × (int_rem_euclid z (pos 7) <ℤ pos 7)
 weeks_of (pos a) = (pos (a / 7), omega (arith, ints), omega (arith, ints), omega (arith, ints))
 weeks_of (negsuc a) = (negsuc (a / 7), omega (arith, ints), omega (arith, ints), omega (arith, ints))
 
@@ -196,7 +207,9 @@ later_weeks n k = omega (arith, ints)
 pub week_one-cycle : (y k : ℤ) → week_one (y +ℤ (pos 400 *ℤ k)) ≡ week_one y +ℤ (pos 146_097 *ℤ k)
 unfolding week_one
 week_one-cycle y k =
-    let same : after_monday ((new_year y +ℤ (pos 146_097 *ℤ k)) +ℤ pos 3) ≡ after_monday (new_year y +ℤ pos 3) = ap after_monday (later_weeks (new_year y) k) ∙ after_monday-weeks (new_year y +ℤ pos 3) (pos 20_871 *ℤ k) in
+    let same : after_monday ((new_year y +ℤ (pos 146_097 *ℤ k)) +ℤ pos 3)
+        ≡ after_monday (new_year y +ℤ pos 3) = ap after_monday (later_weeks (new_year y) k)
+        ∙ after_monday-weeks (new_year y +ℤ pos 3) (pos 20_871 *ℤ k) in
     rw (new_year-cycle y k, same) (omega (arith, ints))
 
 monday_of : (day : ℤ) → after_monday (day -ℤ after_monday day) ≡ pos 0

@@ -1,5 +1,6 @@
 -- Where the civil years begin, and where the DOS years begin and end.
-use Rattle.std.proofs.Common.{◌≡◌, ℕ, ◌<◌, ◌≤◌, pos, neg_ℤ, ◌*ℤ◌, ◌<ℤ◌, ◌≤ℤ◌, ◌↔◌, refl, inl, inr, ⊎_elim, Result, Ok, Err, IsOk, IsErrOf, arith}
+use Rattle.std.proofs.Common.{◌≡◌, ℕ, ◌<◌, ◌≤◌, pos, neg_ℤ, ◌*ℤ◌, ◌<ℤ◌, ◌≤ℤ◌, ◌↔◌, refl, inl, inr, ⊎_elim, Result, Ok, Err, IsOk, IsErrOf}
+use Rattle.std.proofs.Common.{arith}
 use Rattle.std.proofs.lemmas.Bool.{cases_lt}
 use Rattle.std.proofs.lemmas.Int.{ints, by_lt_z}
 use Rattle.jiff.proofs.Family.{days_from_civil-min, epoch_day-lt, epoch_day_same, civil_nanos-parts, time_nanos_bound}
@@ -68,7 +69,8 @@ before_year : (first : Date) (civil : DateTime) → first.month ≡ 1 → first.
     → (civil.date.year <ℤ first.year) ↔ (civil_nanos civil <ℤ (epoch_day first *ℤ pos 86_400_000_000_000))
 before_year first civil month day = (
   λ lt. omega (arith, ints, civil_nanos-parts civil, time_nanos_bound civil.time, epoch_day-lt civil.date first (inl lt)),
-  λ lt. by_lt_z civil.date.year first.year (λ h. h) (λ ge. absurd (omega (arith, ints, civil_nanos-parts civil, first_is_first first civil.date month day ge))),
+  λ lt. by_lt_z civil.date.year first.year (λ h. h) (λ ge. absurd
+      (omega (arith, ints, civil_nanos-parts civil, first_is_first first civil.date month day ge))),
 )
 
 before_1980 : (civil : DateTime)
@@ -96,8 +98,10 @@ dos_from ticks civil result utc below from = record {
     λ lt. from.negative.1 ((before_1980 civil).1 (omega (arith, ints))),
   );
   overflow = (
-    λ e. cases_le 159_992_928_000_000_000 ticks (λ lt. let soon = (before_2108 civil).1 (omega (arith, ints)) in absurd (omega (arith, ints, soon, from.overflow.0 e))),
-    λ le. from.overflow.1 (by_lt_z civil.date.year (pos 2108) (λ lt. absurd (let soon = (before_2108 civil).0 lt in omega (arith, ints, soon))) (λ ge. omega (arith, ints))),
+    λ e. cases_le 159_992_928_000_000_000 ticks (λ lt. let soon = (before_2108 civil).1 (omega (arith, ints)) in absurd
+        (omega (arith, ints, soon, from.overflow.0 e))),
+    λ le. from.overflow.1 (by_lt_z civil.date.year (pos 2108) (λ lt. absurd
+        (let soon = (before_2108 civil).0 lt in omega (arith, ints, soon))) (λ ge. omega (arith, ints))),
   );
 }
   where
@@ -107,7 +111,8 @@ dos_from ticks civil result utc below from = record {
 -- no moment from 1980 on is before 1970
 pub since_1980 : (civil : DateTime) → pos 1980 ≤ℤ civil.date.year → pos 0 ≤ℤ civil_nanos civil
 since_1980 civil year =
-    by_lt_z (civil_nanos civil) (pos 0) (λ lt. absurd (let early = (before_1980 civil).1 (omega (arith, ints)) in omega (arith, ints, early))) (λ h. h)
+    by_lt_z (civil_nanos civil) (pos 0) (λ lt. absurd (let early = (before_1980 civil).1 (omega (arith, ints)) in omega
+        (arith, ints, early))) (λ h. h)
 
 -- a call that meets neither bound succeeds
 pub succeeds : (result : Result ℕ FileTimeRangeErrorKind) → ¬ IsErrOf result Negative

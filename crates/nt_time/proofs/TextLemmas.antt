@@ -1,8 +1,10 @@
 -- Numbers in decimal digits, and what a text that may begin with a plus reads as.
-use Rattle.std.proofs.Common.{◌≡◌, ℕ, ◌^◌, ◌<◌, ◌≤◌, List, [], ◌∷◌, ◌++◌, length, Ok, Err, ◌⊎◌, ⊎_elim, inl, inr, append-nil, refl, sym, ap, subst, ◌∙◌, ◌↔◌, arith}
+use Rattle.std.proofs.Common.{◌≡◌, ℕ, ◌^◌, ◌<◌, ◌≤◌, List, [], ◌∷◌, ◌++◌, length, Ok, Err, ◌⊎◌, ⊎_elim, inl, inr, append-nil, refl, sym, ap}
+use Rattle.std.proofs.Common.{subst, ◌∙◌, ◌↔◌, arith}
 use Rattle.std.proofs.lemmas.Bool.{cases_eq}
 use Rattle.std.proofs.lemmas.List.{nil_from_length}
-use Rattle.std.proofs.lemmas.Str.Parse.{IsNumeralModel, numerals_by_value, tells_digits, without_leading_plus_none, without_leading_plus_plus, not_in_digits}
+use Rattle.std.proofs.lemmas.Str.Parse.{IsNumeralModel, numerals_by_value, tells_digits, without_leading_plus_none}
+use Rattle.std.proofs.lemmas.Str.Parse.{without_leading_plus_plus, not_in_digits}
 use Rattle.std.specs.Str.Parse.{AllDigits, IsNumeral, digits_value, without_leading_plus}
 use Rattle.nt_time.specs.declared.error.ParseFileTimeCause.TheVariants.{Overflow}
 use Rattle.scan_core.specs.Fronts.{front_digits, after_digits}
@@ -13,7 +15,8 @@ use Rattle.nt_time.specs.Text.{IsTextOf, IsReadFrom}
 
 numeral_of_front : (text : List ℕ) → 0 < length (front_digits text) → after_digits text ≡ [] → IsNumeral 10 text
 numeral_of_front text some none =
-    let whole : front_digits text ≡ text = sym (append-nil (front_digits text)) ∙ ap (λ (l : List ℕ). front_digits text ++ l) (sym none) ∙ front_and_after text in
+    let whole : front_digits text ≡ text = sym (append-nil (front_digits text)) ∙ ap (λ (l : List ℕ). front_digits text ++ l) (sym none)
+        ∙ front_and_after text in
     subst (IsNumeral 10) whole (some, front_are_digits text)
 
 -- where digits stand in front, the text is a numeral exactly where nothing follows them
@@ -25,7 +28,8 @@ some_digits text some = (
 
 pub no_digits : (text : List ℕ) → length (front_digits text) ≡ 0 → ¬ IsNumeral 10 text
 no_digits text none has =
-    let whole : length (front_digits text) ≡ length text = ap length (ap front_digits (sym (append-nil text)) ∙ front_of text [] has.1 tt) in
+    let whole : length (front_digits text) ≡ length text = ap length
+        (ap front_digits (sym (append-nil text)) ∙ front_of text [] has.1 tt) in
     omega (arith, none, whole, has.0)
 
 -- ---- the text of a number is a numeral behind its plus

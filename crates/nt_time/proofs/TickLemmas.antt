@@ -1,12 +1,14 @@
 -- Moves forward and back, by the sign of the length.
-use Rattle.std.proofs.Common.{◌≡◌, ℕ, zero, suc, ℤ, pos, negsuc, neg_ℤ, unsigned_abs, ◌<ℤ◌, ◌≤ℤ◌, Option, None, Some, IfSome, Bool, false, true, IsTrue, ◌↔◌, sym, ◌∙◌, arith}
+use Rattle.std.proofs.Common.{◌≡◌, ℕ, zero, suc, ℤ, pos, negsuc, neg_ℤ, unsigned_abs, ◌<ℤ◌, ◌≤ℤ◌, Option, None, Some, IfSome, Bool, false}
+use Rattle.std.proofs.Common.{true, IsTrue, ◌↔◌, sym, ◌∙◌, arith}
 use Rattle.std.proofs.lemmas.Bool.{false≢true}
 use Rattle.std.proofs.lemmas.Int.{ints, by_lt_z}
 use Rattle.nt_time.specs.Ticks.{IsAfterBy, IsMovedBy}
 
 -- a test for negative lengths that is false
 pub not_negative : (test : Bool) (z : ℤ) → (IsTrue test ↔ (z <ℤ pos 0)) → test ≡ false → pos 0 ≤ℤ z
-not_negative test z tells isnt = by_lt_z z (pos 0) (λ negative. let is : test ≡ true = tells.1 negative in absurd (false≢true (sym isnt ∙ is))) (λ h. h)
+not_negative test z tells isnt = by_lt_z z (pos 0) (λ negative. let is : test
+    ≡ true = tells.1 negative in absurd (false≢true (sym isnt ∙ is))) (λ h. h)
 
 -- no time later is no time earlier
 same_moment : (from to : ℕ) → IsAfterBy 0 to from → IsAfterBy 0 from to

@@ -1,5 +1,6 @@
 -- No item ends in the letter `o`, so an `ago` at the end of a text is no part of its body.
-use Rattle.std.proofs.Common.{◌≡◌, ℕ, ◌<◌, ◌==◌, ◌&&◌, Bool, true, false, not, cond, Contains, IsTrue, List, [], ◌∷◌, ◌++◌, length, codes, refl, sym, ◌∙◌, ap, arith, inl, inr}
+use Rattle.std.proofs.Common.{◌≡◌, ℕ, ◌<◌, ◌==◌, ◌&&◌, Bool, true, false, not, cond, Contains, IsTrue, List, [], ◌∷◌, ◌++◌, length, codes}
+use Rattle.std.proofs.Common.{refl, sym, ◌∙◌, ap, arith, inl, inr}
 use Rattle.std.proofs.lemmas.Bool.Decides.{nat_tests}
 use Rattle.std.proofs.lemmas.Str.Parse.{digit_from_value}
 use Rattle.std.specs.Char.{digit_value}
@@ -101,7 +102,8 @@ behind front bytes h t = ends-append t front bytes ∙ h (ends_in_o t front)
 clock_end : (word : List ℕ) (counts : List Count) → IsClock word counts → Ends word
 clock_end word counts h t =
     let seconds : Ends (h.seconds ++ h.tail) = λ u. ends-append u h.seconds h.tail
-    ∙ ap (λ (v : Bool). ends_in_o v h.tail) (field_end u h.seconds h.second_field.0 h.second_field.1) ∙ tail_end h.fraction h.tail h.point in
+    ∙ ap (λ (v : Bool). ends_in_o v h.tail) (field_end u h.seconds h.second_field.0 h.second_field.1)
+        ∙ tail_end h.fraction h.tail h.point in
     let after_minutes = codes ":" ++ (h.seconds ++ h.tail) in
     let minutes : Ends (h.minutes ++ after_minutes) = behind h.minutes after_minutes (behind (codes ":") (h.seconds ++ h.tail) seconds) in
     let after_hours = codes ":" ++ (h.minutes ++ after_minutes) in
@@ -122,8 +124,10 @@ all_clear Minute = refl
 all_clear Second = refl
 
 name_end : (name : List ℕ) (unit : TimeUnit) → Contains (verbose_names unit) name → Ends name
-name_end name unit h true = not-true _ (and_parts (not (ends_in_o true name)) (not (ends_in_o false name)) (contains_passes is_clear (verbose_names unit) name (all_clear unit) h)).0
-name_end name unit h false = not-true _ (and_parts (not (ends_in_o true name)) (not (ends_in_o false name)) (contains_passes is_clear (verbose_names unit) name (all_clear unit) h)).1
+name_end name unit h true = not-true _ (and_parts (not (ends_in_o true name)) (not (ends_in_o false name))
+    (contains_passes is_clear (verbose_names unit) name (all_clear unit) h)).0
+name_end name unit h false = not-true _ (and_parts (not (ends_in_o true name)) (not (ends_in_o false name))
+    (contains_passes is_clear (verbose_names unit) name (all_clear unit) h)).1
 
 item_end : (item : List (List ℕ)) (counts : List Count) → IsItem verbose_names item counts → (t : Bool) → words_end t item ≡ false
 item_end item counts (inl (c, named, one)) t =
@@ -136,7 +140,8 @@ item_end item counts (inr (word, clock, one)) t = ap (words_end t) one ∙ clock
 items_end : (items : List (List Count)) (all : List (List ℕ)) → IsJoin (IsItem verbose_names) all items → words_end false all ≡ false
 items_end [] all h = ap (words_end false) h
 items_end (counts ∷ items) all h =
-    ap (words_end false) h.4 ∙ words_end-append false h.0 h.1 ∙ ap (λ (t : Bool). words_end t h.1) (item_end h.0 counts h.2 false) ∙ items_end items h.1 h.3
+    ap (words_end false) h.4 ∙ words_end-append false h.0 h.1 ∙ ap (λ (t : Bool). words_end t h.1) (item_end h.0 counts h.2 false)
+        ∙ items_end items h.1 h.3
 
 body_end : (body : List ℕ) (counts : List Count) → IsBody body counts → ends_in_o false body ≡ false
 body_end body counts (inl zero) = ends-words false body ∙ ap (words_end false) zero.0
@@ -145,12 +150,15 @@ body_end body counts (inr items) = ends-words false body ∙ items_end items.0 (
 -- ---- the text
 
 ago_end : (text : List ℕ) → EndsInAgo text → ends_in_o false text ≡ true
-ago_end text (front, after, blank, split) = ap (ends_in_o false) split ∙ ends-append false front (codes "ago" ++ after) ∙ ends-blanks true after blank
+ago_end text (front, after, blank, split) = ap (ends_in_o false) split ∙ ends-append false front (codes "ago" ++ after)
+    ∙ ends-blanks true after blank
 
 -- behind a body that is right, without `ago`, no `ago` is at the end
 pub no_ago : (text before body : List ℕ) (counts : List Count) → IsFramed text before body false → IsBody body counts → EndsInAgo text → ⊥
 no_ago text before body counts framed spelled ends =
     let behind_at : ends_in_o false (body ++ framed.after) ≡ false =
-    ends-append false body framed.after ∙ ap (λ (t : Bool). ends_in_o t framed.after) (body_end body counts spelled) ∙ ends-blanks false framed.after framed.blank_after in
-    let none : ends_in_o false text ≡ false = ap (ends_in_o false) framed.joined ∙ ends-append false before (64 ∷ (body ++ framed.after)) ∙ behind_at in
+    ends-append false body framed.after ∙ ap (λ (t : Bool). ends_in_o t framed.after) (body_end body counts spelled)
+        ∙ ends-blanks false framed.after framed.blank_after in
+    let none : ends_in_o false text ≡ false = ap (ends_in_o false) framed.joined ∙ ends-append false before (64 ∷ (body ++ framed.after))
+        ∙ behind_at in
     let clash : true ≡ false = sym (ago_end text ends) ∙ none in cc

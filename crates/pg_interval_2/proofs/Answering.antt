@@ -74,9 +74,12 @@ range_from Shape IsBad message one text (Ok u) ok err part misfits =
     absurd (fits_or_not ok.0 part ok.2 (ap misfit (one text ok.0 misfits.0 ok.1 misfits.1) ∙ misfits.2))
 range_from Shape IsBad message one text (Err (InvalidInterval m)) ok err part misfits = absurd (err.0 misfits.0 misfits.1)
 range_from Shape IsBad message one text (Err (BadUnit start end)) ok err part misfits = absurd (err.0 misfits.0 misfits.1)
-range_from Shape IsBad message one text (Err (InvalidYearMonth m)) ok err part misfits = is_range_of Months part (InvalidYearMonth m) (one_part Shape one text Months part err.0 misfits) err.1
-range_from Shape IsBad message one text (Err (InvalidDay m)) ok err part misfits = is_range_of Days part (InvalidDay m) (one_part Shape one text Days part err.0 misfits) err.1
-range_from Shape IsBad message one text (Err (InvalidTime m)) ok err part misfits = is_range_of Micros part (InvalidTime m) (one_part Shape one text Micros part err.0 misfits) err.1
+range_from Shape IsBad message one text (Err (InvalidYearMonth m)) ok err part misfits =
+    is_range_of Months part (InvalidYearMonth m) (one_part Shape one text Months part err.0 misfits) err.1
+range_from Shape IsBad message one text (Err (InvalidDay m)) ok err part misfits =
+    is_range_of Days part (InvalidDay m) (one_part Shape one text Days part err.0 misfits) err.1
+range_from Shape IsBad message one text (Err (InvalidTime m)) ok err part misfits =
+    is_range_of Micros part (InvalidTime m) (one_part Shape one text Micros part err.0 misfits) err.1
 
 -- without a shape the refusal says so
 pub none_from :
@@ -102,7 +105,10 @@ pub bad_from : (Shape : List ℕ → List Count → Type 0) (IsBad : List ℕ �
     → result ≡ Err (BadUnit start end)
 bad_from Shape IsBad message places text (Ok u) ok err start end bad = absurd (places.none text start end ok.0 bad ok.1)
 bad_from Shape IsBad message places text (Err (InvalidInterval m)) ok err start end bad = absurd (err.1 start end bad)
-bad_from Shape IsBad message places text (Err (BadUnit s e)) ok err start end bad = let same = places.one text s e start end err.1 bad in rw (same.0, same.1) refl
-bad_from Shape IsBad message places text (Err (InvalidYearMonth m)) ok err start end bad = absurd (places.none text start end err.0.0 bad err.0.1)
+bad_from Shape IsBad message places text (Err (BadUnit s e)) ok err start end bad = let same = places.one text s e start end err.1 bad in
+    rw (same.0, same.1) refl
+bad_from Shape IsBad message places text (Err (InvalidYearMonth m)) ok err start end bad =
+    absurd (places.none text start end err.0.0 bad err.0.1)
 bad_from Shape IsBad message places text (Err (InvalidDay m)) ok err start end bad = absurd (places.none text start end err.0.0 bad err.0.1)
-bad_from Shape IsBad message places text (Err (InvalidTime m)) ok err start end bad = absurd (places.none text start end err.0.0 bad err.0.1)
+bad_from Shape IsBad message places text (Err (InvalidTime m)) ok err start end bad =
+    absurd (places.none text start end err.0.0 bad err.0.1)

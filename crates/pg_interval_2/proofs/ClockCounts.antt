@@ -1,5 +1,6 @@
 -- The counts of a written clock, and what they add up to.
-use Rattle.std.proofs.Common.{◌≡◌, ℕ, ◌+◌, ◌*◌, ◌/◌, ◌^◌, ◌<◌, ◌≤◌, Bool, false, ◌==◌, IsTrue, List, [], ◌∷◌, length, take, filter, if◌then◌else◌, ℤ, pos, unsigned_abs, refl, sym, ap, ◌∙◌, arith, eqb-true}
+use Rattle.std.proofs.Common.{◌≡◌, ℕ, ◌+◌, ◌*◌, ◌/◌, ◌^◌, ◌<◌, ◌≤◌, Bool, false, ◌==◌, IsTrue, List, [], ◌∷◌, length, take, filter}
+use Rattle.std.proofs.Common.{if◌then◌else◌, ℤ, pos, unsigned_abs, refl, sym, ap, ◌∙◌, arith, eqb-true}
 use Rattle.std.proofs.lemmas.Bool.{and_from, and_parts, not-false, cond_both}
 use Rattle.std.proofs.Math.Nat.{div-eq_of_lt}
 use Rattle.std.proofs.lemmas.Int.{ints}
@@ -56,7 +57,8 @@ list_all-filter : {X : Type 0} (test keep : X → Bool) (xs : List X) → IsTrue
 list_all-filter test keep [] all = refl
 list_all-filter test keep (x ∷ xs) all =
     let parts = and_parts _ _ all in
-    cond_both (keep x) _ _ (λ kept. IsTrue (list_all test kept)) (λ _. and_from _ _ parts.0 (list_all-filter test keep xs parts.1)) (λ _. list_all-filter test keep xs parts.1)
+    cond_both (keep x) _ _ (λ kept. IsTrue (list_all test kept)) (λ _. and_from _ _ parts.0 (list_all-filter test keep xs parts.1))
+        (λ _. list_all-filter test keep xs parts.1)
 
 AddsUp-filter : (part : Part) (counts : List Count) (z : ℤ) → AddsUp part counts z → AddsUp part (filter is_nonzero counts) z
 AddsUp-filter part counts z sums = record {
@@ -79,7 +81,8 @@ uncut_micros micros below =
 cut_micros : (micros : ℕ) → micros < 1_000_000 → rounded 1_000_000 (take 6 (micros_digits micros)) ≡ micros
 cut_micros micros below =
     ap (rounded 1_000_000) (uncut_micros micros below)
-    ∙ cond_both (micros == 0) _ _ (λ digits. rounded 1_000_000 digits ≡ micros) (λ zero_is. rounded-nil 1_000_000 ∙ sym (eqb-true micros 0 zero_is)) (λ _. rounded-padded micros below)
+    ∙ cond_both (micros == 0) _ _ (λ digits. rounded 1_000_000 digits ≡ micros)
+        (λ zero_is. rounded-nil 1_000_000 ∙ sym (eqb-true micros 0 zero_is)) (λ _. rounded-padded micros below)
 
 abbrev pub hour_count : Bool → ℕ → ℤ → Count
 hour_count negative width micros = count_of negative (padded_digits width (hours_of micros)) [] Hour
@@ -94,7 +97,8 @@ second_count negative micros = count_of negative (padded_digits 2 (seconds_of mi
 pub field_sum : (part : Part) (c : Count) (w r : ℕ) (z : ℤ) → number_of c.whole ≡ w → rounded (scale_of c.unit) c.fraction ≡ r
     → Serves c.negative z → magnitude part c.unit w r ≤ unsigned_abs z → IsTrue (fits_type part z)
     → AddsUp part (c ∷ []) (signed c.negative (magnitude part c.unit w r))
-field_sum part c w r z whole fraction serves below fits = AddsUp-one part c w r whole fraction (fits_type-serves part c.negative z (magnitude part c.unit w r) serves below fits)
+field_sum part c w r z whole fraction serves below fits = AddsUp-one part c w r whole fraction
+    (fits_type-serves part c.negative z (magnitude part c.unit w r) serves below fits)
 
 -- the hours, minutes and seconds, each with this sign
 abbrev pub three_counts : Bool → ℕ → ℤ → List Count
@@ -105,9 +109,14 @@ three_micros : (negative : Bool) (width : ℕ) (micros : ℤ) → Serves negativ
 three_micros negative width micros serves fits =
     let small : unsigned_abs micros ≤ 2 ^ 63 = abs_fits Micros micros fits in
     AddsUp-same Micros _ _ _
-    (AddsUp-append Micros (hour_count negative width micros ∷ []) _ _ _ (field_sum Micros (hour_count negative width micros) (hours_of micros) 0 micros (number_of-padded width _ (omega arith)) (rounded-nil _) serves (omega arith) fits)
-    (AddsUp-append Micros (minute_count negative micros ∷ []) _ _ _ (field_sum Micros (minute_count negative micros) (minutes_of micros) 0 micros (number_of-padded 2 _ (omega arith)) (rounded-nil _) serves (omega arith) fits)
-    (field_sum Micros (second_count negative micros) (seconds_of micros) (subsecond_of micros) micros (number_of-padded 2 _ (omega arith)) (cut_micros _ (omega arith)) serves (omega arith) fits)))
+    (AddsUp-append Micros (hour_count negative width micros ∷ []) _ _ _
+        (field_sum Micros (hour_count negative width micros) (hours_of micros) 0 micros (number_of-padded width _ (omega arith))
+        (rounded-nil _) serves (omega arith) fits)
+    (AddsUp-append Micros (minute_count negative micros ∷ []) _ _ _
+        (field_sum Micros (minute_count negative micros) (minutes_of micros) 0 micros (number_of-padded 2 _ (omega arith))
+        (rounded-nil _) serves (omega arith) fits)
+    (field_sum Micros (second_count negative micros) (seconds_of micros) (subsecond_of micros) micros (number_of-padded 2 _ (omega arith))
+        (cut_micros _ (omega arith)) serves (omega arith) fits)))
     (signed_three negative micros _ _ _ serves (omega (arith, time_parts micros)))
 
 -- a field that has nothing of a part
@@ -115,16 +124,22 @@ pub field_nothing : (part : Part) (c : Count) (w r : ℕ) → number_of c.whole 
     → magnitude part c.unit w r ≡ 0
     → AddsUp part (c ∷ []) (pos 0)
 field_nothing part c w r whole fraction none =
-    AddsUp-same part _ _ _ (AddsUp-one part c w r whole fraction (rw none (fits_type-signed_zero part c.negative))) (rw none (signed-zero c.negative))
+    AddsUp-same part _ _ _ (AddsUp-one part c w r whole fraction (rw none (fits_type-signed_zero part c.negative)))
+        (rw none (signed-zero c.negative))
 
 three_nothing : (part : Part) (negative : Bool) (width : ℕ) (micros : ℤ) → unsigned_abs micros ≤ 2 ^ 63
     → magnitude part Hour (hours_of micros) 0 ≡ 0 → magnitude part Minute (minutes_of micros) 0 ≡ 0
     → magnitude part Second (seconds_of micros) (subsecond_of micros) ≡ 0
     → AddsUp part (three_counts negative width micros) (pos 0)
 three_nothing part negative width micros small no_hours no_minutes no_seconds =
-    AddsUp-append part (hour_count negative width micros ∷ []) _ (pos 0) _ (field_nothing part (hour_count negative width micros) (hours_of micros) 0 (number_of-padded width _ (omega arith)) (rounded-nil _) no_hours)
-    (AddsUp-append part (minute_count negative micros ∷ []) _ (pos 0) _ (field_nothing part (minute_count negative micros) (minutes_of micros) 0 (number_of-padded 2 _ (omega arith)) (rounded-nil _) no_minutes)
-    (field_nothing part (second_count negative micros) (seconds_of micros) (subsecond_of micros) (number_of-padded 2 _ (omega arith)) (cut_micros _ (omega arith)) no_seconds))
+    AddsUp-append part (hour_count negative width micros ∷ []) _ (pos 0) _
+        (field_nothing part (hour_count negative width micros) (hours_of micros) 0 (number_of-padded width _ (omega arith))
+        (rounded-nil _) no_hours)
+    (AddsUp-append part (minute_count negative micros ∷ []) _ (pos 0) _
+        (field_nothing part (minute_count negative micros) (minutes_of micros) 0 (number_of-padded 2 _ (omega arith))
+        (rounded-nil _) no_minutes)
+    (field_nothing part (second_count negative micros) (seconds_of micros) (subsecond_of micros) (number_of-padded 2 _ (omega arith))
+        (cut_micros _ (omega arith)) no_seconds))
 
 pub three_counts-sum : (negative : Bool) (width : ℕ) (t : Interval) → IsInRange t → Serves negative t.microseconds
     → SumsTo (three_counts negative width t.microseconds) (time_of t)
@@ -142,4 +157,5 @@ pub kept_counts-sum : (width : ℕ) (t : Interval) → IsInRange t
     → SumsTo (filter is_nonzero (three_counts (is_negative t.microseconds) width t.microseconds)) (time_of t)
 kept_counts-sum width t range =
     let all = three_counts-sum (is_negative t.microseconds) width t range (signed-abs t.microseconds) in
-    record { months = AddsUp-filter Months _ _ all.months; days = AddsUp-filter Days _ _ all.days; micros = AddsUp-filter Micros _ _ all.micros }
+    record { months = AddsUp-filter Months _ _ all.months; days = AddsUp-filter Days _ _ all.days;
+        micros = AddsUp-filter Micros _ _ all.micros }

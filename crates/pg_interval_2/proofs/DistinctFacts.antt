@@ -1,5 +1,6 @@
 -- Items counted one after the other.
-use Rattle.std.proofs.Common.{◌≡◌, None, ◌≢◌, ℕ, Bool, true, false, cond, List, [], ◌∷◌, ◌++◌, refl, sym, ◌∙◌, ap, subst, append_assoc, append-nil, length-append, arith, inl, inr, ◌+◌, ◌≤◌, length, codes, take, Some}
+use Rattle.std.proofs.Common.{◌≡◌, None, ◌≢◌, ℕ, Bool, true, false, cond, List, [], ◌∷◌, ◌++◌, refl, sym, ◌∙◌, ap, subst, append_assoc}
+use Rattle.std.proofs.Common.{append-nil, length-append, arith, inl, inr, ◌+◌, ◌≤◌, length, codes, take, Some}
 use Rattle.std.specs.Prelude.{filter}
 use Rattle.std.proofs.Math.Bool.{or-false, or-true}
 use Rattle.std.proofs.lemmas.Bool.{false_from_ne_true, eq-eqb}
@@ -42,24 +43,28 @@ units_push counts c old new units same others unit =
     elim (eqb_tells (place_of unit) (place_of c.unit)) [
       | inl equal ↦
           let here = (same_unit unit c.unit equal.1) in
-          rw here (same ∙ sym (counts_unit-append c.unit counts (c ∷ []) ∙ rw (eq-eqb (place_of c.unit) (place_of c.unit) refl) (or-true (counts_unit c.unit counts))))
+          rw here (same ∙ sym (counts_unit-append c.unit counts (c ∷ [])
+              ∙ rw (eq-eqb (place_of c.unit) (place_of c.unit) refl) (or-true (counts_unit c.unit counts))))
       | inr apart ↦
           let other = same_both (place_of unit) (place_of c.unit) apart.0 in
           others unit apart.1 ∙ units unit ∙ sym (counts_unit-append unit counts (c ∷ []) ∙ rw other (or-false (counts_unit unit counts)))
     ]
 
 -- one more count of a unit that was in none
-pub counted_push : (counts : List Count) (c : Count) (old new : DistinctTally) → IsDistinctTally old counts → counts_unit c.unit counts ≡ false
+pub counted_push : (counts : List Count) (c : Count) (old new : DistinctTally) → IsDistinctTally old counts
+    → counts_unit c.unit counts ≡ false
     → Tallies new.tally (counts ++ c ∷ []) → holds_unit new.units c.unit ≡ true
     → ((other : TimeUnit) → place_of other ≢ place_of c.unit → holds_unit new.units other ≡ holds_unit old.units other)
     → IsDistinctTally new (counts ++ c ∷ [])
 counted_push counts c old new h fresh tallied same others =
-    record { tallied = tallied; units = units_push counts c old new h.units same others; distinct = distinct_push counts c h.distinct fresh }
+    record { tallied = tallied; units = units_push counts c old new h.units same others;
+        distinct = distinct_push counts c h.distinct fresh }
 
 -- a unit that is counted again
 pub again : (counts : List Count) (c : Count) (more : List Count) → counts_unit c.unit counts ≡ true
     → has_distinct_units (counts ++ (c ∷ more)) ≡ false
-again counts c more h = false_from_ne_true (has_distinct_units (counts ++ (c ∷ more))) (λ distinct. let clash : true ≡ false = sym h ∙ fresh_behind counts c more distinct in cc)
+again counts c more h = false_from_ne_true (has_distinct_units (counts ++ (c ∷ more)))
+    (λ distinct. let clash : true ≡ false = sym h ∙ fresh_behind counts c more distinct in cc)
 
 -- a count that isn't 0, or none
 abbrev pub nonzero : Count → List Count
@@ -73,7 +78,8 @@ filter_if false x xs = refl
 
 -- a clock's counts are those of its fields
 pub clock_fields : (h m s : Count) → filter is_nonzero (h ∷ m ∷ s ∷ []) ≡ nonzero h ++ (nonzero m ++ nonzero s)
-clock_fields h m s = filter_if (is_nonzero h) h (filter is_nonzero (m ∷ s ∷ [])) ∙ ap (λ (l : List Count). nonzero h ++ l) (filter_if (is_nonzero m) m (nonzero s))
+clock_fields h m s = filter_if (is_nonzero h) h (filter is_nonzero (m ∷ s ∷ []))
+    ∙ ap (λ (l : List Count). nonzero h ++ l) (filter_if (is_nonzero m) m (nonzero s))
 
 -- a field that isn't 0, and whose unit was counted before
 pub again_nonzero : (counts : List Count) (c : Count) (more : List Count) → is_nonzero c ≡ true → counts_unit c.unit counts ≡ true
@@ -106,10 +112,13 @@ pub clock_last : (counts : List Count) (h m s : Count) (new : DistinctTally) (re
     → CountsPerhaps ((counts ++ nonzero h) ++ nonzero m) s new result
     → CountsAll counts (filter is_nonzero (h ∷ m ∷ s ∷ [])) new result
 clock_last counts h m s new true counted =
-    subst (IsDistinctTally new) (append_assoc (counts ++ nonzero h) (nonzero m) (nonzero s) ∙ append_assoc counts (nonzero h) (nonzero m ++ nonzero s) ∙ ap (λ (l : List Count). counts ++ l) (sym (clock_fields h m s))) counted
+    subst (IsDistinctTally new) (append_assoc (counts ++ nonzero h) (nonzero m) (nonzero s)
+        ∙ append_assoc counts (nonzero h) (nonzero m ++ nonzero s) ∙ ap (λ (l : List Count). counts ++ l) (sym (clock_fields h m s)))
+        counted
 clock_last counts h m s new false again' =
     ap (λ (l : List Count). has_distinct_units (counts ++ l)) (clock_fields h m s)
-    ∙ ap has_distinct_units (sym (append_assoc counts (nonzero h) (nonzero m ++ nonzero s)) ∙ sym (append_assoc (counts ++ nonzero h) (nonzero m) (nonzero s))
+    ∙ ap has_distinct_units (sym (append_assoc counts (nonzero h) (nonzero m ++ nonzero s))
+        ∙ sym (append_assoc (counts ++ nonzero h) (nonzero m) (nonzero s))
     ∙ ap (λ (l : List Count). ((counts ++ nonzero h) ++ nonzero m) ++ l) (sym (append-nil (nonzero s))))
     ∙ again_nonzero ((counts ++ nonzero h) ++ nonzero m) s [] again'.0 again'.1
 
@@ -118,12 +127,14 @@ pub clock_second : (counts : List Count) (h m s : Count) → is_nonzero m ≡ tr
     → has_distinct_units (counts ++ filter is_nonzero (h ∷ m ∷ s ∷ [])) ≡ false
 clock_second counts h m s some before =
     ap (λ (l : List Count). has_distinct_units (counts ++ l)) (clock_fields h m s)
-    ∙ ap has_distinct_units (sym (append_assoc counts (nonzero h) (nonzero m ++ nonzero s))) ∙ again_nonzero (counts ++ nonzero h) m (nonzero s) some before
+    ∙ ap has_distinct_units (sym (append_assoc counts (nonzero h) (nonzero m ++ nonzero s)))
+        ∙ again_nonzero (counts ++ nonzero h) m (nonzero s) some before
 
 pub clock_first : (counts : List Count) (h m s : Count) → is_nonzero h ≡ true → counts_unit h.unit counts ≡ true
     → has_distinct_units (counts ++ filter is_nonzero (h ∷ m ∷ s ∷ [])) ≡ false
 clock_first counts h m s some before =
-    ap (λ (l : List Count). has_distinct_units (counts ++ l)) (clock_fields h m s) ∙ again_nonzero counts h (nonzero m ++ nonzero s) some before
+    ap (λ (l : List Count). has_distinct_units (counts ++ l)) (clock_fields h m s)
+        ∙ again_nonzero counts h (nonzero m ++ nonzero s) some before
 
 -- ---- turned before they are counted
 
@@ -134,7 +145,8 @@ pub turned_has : (turned : Bool) (text same : List ℕ) (clock : Clock) (fields 
     (record { negative = negative; hours = clock.hours; minutes = clock.minutes; seconds = clock.seconds; fraction = clock.fraction })
     (turned_fields turned fields)
 turned_has turned text same clock fields negative e n has =
-    rw e (record { negative = n ∙ ap (turned_sign turned) has.negative; hours = has.hours; minutes = has.minutes; seconds = has.seconds; fraction = has.fraction })
+    rw e (record { negative = n ∙ ap (turned_sign turned) has.negative; hours = has.hours; minutes = has.minutes; seconds = has.seconds;
+        fraction = has.fraction })
 
 -- a number with its sign turned
 pub turned_number : (turned : Bool) (text same : List ℕ) (number : Decimal) (negative : Bool) (unit : TimeUnit) → same ≡ text

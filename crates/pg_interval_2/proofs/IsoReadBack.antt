@@ -21,7 +21,8 @@ use Rattle.pg_interval_2.proofs.SumsTo.{SumsTo, SumsTo-date_time, Denotes-SumsTo
 
 -- the count of zero, for a number that is 0
 zero_sum : (part : Part) (z : ℤ) → int_eq z (pos 0) ≡ true → AddsUp part (zero_count ∷ []) z
-zero_sum part z zero_is = AddsUp-same part _ _ _ (AddsUp-one part zero_count 0 0 refl (rounded-nil 1_000_000) (rw magnitude-zero (fits_type-zero part))) (rw magnitude-zero (sym (int_eq-zero z zero_is)))
+zero_sum part z zero_is = AddsUp-same part _ _ _ (AddsUp-one part zero_count 0 0 refl (rounded-nil 1_000_000)
+    (rw magnitude-zero (fits_type-zero part))) (rw magnitude-zero (sym (int_eq-zero z zero_is)))
 
 zero_sums : (t : Interval) → int_eq t.months (pos 0) && (int_eq t.days (pos 0) && int_eq t.microseconds (pos 0)) ≡ true
     → SumsTo (zero_count ∷ []) t
@@ -31,16 +32,20 @@ zero_sums t zero_is =
     record { months = zero_sum Months _ outer.0; days = zero_sum Days _ inner.0; micros = zero_sum Micros _ inner.1 }
 
 iso_counts_sums : (t : Interval) → IsInRange t → SumsTo (iso_counts t.months t.days t.microseconds) t
-iso_counts_sums t range = cond_both _ _ _ (λ counts. SumsTo counts t) (zero_sums t) (λ _. SumsTo-date_time _ _ t (date_counts-sum t range) (time_counts-sum t range))
+iso_counts_sums t range = cond_both _ _ _ (λ counts. SumsTo counts t) (zero_sums t)
+    (λ _. SumsTo-date_time _ _ t (date_counts-sum t range) (time_counts-sum t range))
 
-spelled : (t : Interval) → IsInRange t → IsStrictEither (iso_steps t.months t.days t.microseconds) (iso_counts t.months t.days t.microseconds)
-spelled t range = iso_spelled t.months t.days t.microseconds (abs_fits Months t.months (fits_32 t.months range.months)) (abs_fits Days t.days (fits_32 t.days range.days)) (abs_fits Micros t.microseconds (fits_64 t.microseconds range.microseconds))
+spelled : (t : Interval) → IsInRange t → IsStrictEither (iso_steps t.months t.days t.microseconds)
+    (iso_counts t.months t.days t.microseconds)
+spelled t range = iso_spelled t.months t.days t.microseconds (abs_fits Months t.months (fits_32 t.months range.months))
+    (abs_fits Days t.days (fits_32 t.days range.days)) (abs_fits Micros t.microseconds (fits_64 t.microseconds range.microseconds))
 
 pub iso_denotes : (t : Interval) → IsInRange t → Denotes IsIsoEither (iso_steps t.months t.days t.microseconds) t
 iso_denotes t range = Denotes-SumsTo IsIsoEither _ _ t range (is_iso _ _ (spelled t range)) (iso_counts_sums t range)
 
 pub iso_alone : (t u : Interval) → IsInRange t → Denotes IsIsoEither (iso_steps t.months t.days t.microseconds) u → u ≡ t
-iso_alone t u range = alone-SumsTo IsIsoEither _ _ t u (λ others is. one_list _ others _ is (is_iso _ _ (spelled t range))) (iso_counts_sums t range)
+iso_alone t u range = alone-SumsTo IsIsoEither _ _ t u (λ others is. one_list _ others _ is (is_iso _ _ (spelled t range)))
+    (iso_counts_sums t range)
 
 -- ---- in the strict style
 

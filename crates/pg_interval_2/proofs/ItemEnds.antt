@@ -1,5 +1,6 @@
 -- How reading the items of a text ends: at its end, at a bad name, or at what is no item.
-use Rattle.std.proofs.Common.{◌≡◌, ◌≢◌, ℕ, ◌+◌, ◌-◌, ◌<◌, ◌≤◌, Bool, false, List, [], ◌∷◌, ◌++◌, length, refl, sym, ◌∙◌, ap, subst, length-append, arith, inl, inr}
+use Rattle.std.proofs.Common.{◌≡◌, ◌≢◌, ℕ, ◌+◌, ◌-◌, ◌<◌, ◌≤◌, Bool, false, List, [], ◌∷◌, ◌++◌, length, refl, sym, ◌∙◌, ap, subst}
+use Rattle.std.proofs.Common.{length-append, arith, inl, inr}
 use Rattle.scan_core.specs.Blanks.{is_blank, words}
 use Rattle.scan_core.specs.Count.{Count}
 use Rattle.scan_core.specs.declared.share.Unit.TheVariants.{Year}
@@ -31,7 +32,8 @@ pub text_unspelled : (names : Names) → AreNames names
     → IsNoItem (read_item rest) taken.counts
     → verdict names [] 0 (words text) ≡ Unspelled
 text_unspelled names letters_names turned text rest state taken some none =
-    ap (λ (l : List ℕ). verdict names [] 0 (words l)) taken.split ∙ behind_items names letters_names taken.consumed rest taken.counts taken.items (closed_now names turned text rest state taken some)
+    ap (λ (l : List ℕ). verdict names [] 0 (words l)) taken.split
+        ∙ behind_items names letters_names taken.consumed rest taken.counts taken.items (closed_now names turned text rest state taken some)
     ∙ rest_unspelled names taken.counts (total_length (words taken.consumed)) rest taken.solid some none
 
 -- a text whose words spell nothing is no items, and has no bad name

@@ -1,5 +1,6 @@
 -- The words that an item is.
-use Rattle.std.proofs.Common.{◌≡◌, ℕ, ◌<◌, ◌≤◌, Bool, true, false, List, [], ◌∷◌, ◌++◌, length, refl, sym, ◌∙◌, ap, length-append, arith, inl, inr, codes}
+use Rattle.std.proofs.Common.{◌≡◌, ℕ, ◌<◌, ◌≤◌, Bool, true, false, List, [], ◌∷◌, ◌++◌, length, refl, sym, ◌∙◌, ap, length-append, arith}
+use Rattle.std.proofs.Common.{inl, inr, codes}
 use Rattle.std.specs.Char.{is_ascii_alphabetic, digit_value}
 use Rattle.std.specs.List.{list_all}
 use Rattle.std.proofs.lemmas.Bool.Decides.{nat_tests}
@@ -29,7 +30,8 @@ digits_no_blanks (c ∷ cs) h = (digit_no_blank c h.0, digits_no_blanks cs h.1)
 
 pub letters_no_blanks : (letters : List ℕ) → AreLetters letters → NoBlanks letters
 letters_no_blanks [] h = tt
-letters_no_blanks (c ∷ cs) h = let split = and_parts (is_ascii_alphabetic c) (list_all is_ascii_alphabetic cs) h in (letter_no_blank c split.0, letters_no_blanks cs split.1)
+letters_no_blanks (c ∷ cs) h = let split = and_parts (is_ascii_alphabetic c) (list_all is_ascii_alphabetic cs) h in
+    (letter_no_blank c split.0, letters_no_blanks cs split.1)
 
 sign_no_blanks : (negative : Bool) (sign : List ℕ) → IsSign true negative sign → NoBlanks sign
 sign_no_blanks true sign h = rw h (refl, tt)
@@ -43,7 +45,8 @@ point_no_blanks fraction tail (inr some) = let point = some.1 in rw point (refl,
 pub number_no_blanks : (negative : Bool) (whole fraction word : List ℕ) → IsNumber true negative whole fraction word → NoBlanks word
 number_no_blanks negative whole fraction word h =
     let joined = h.joined in
-    rw joined (no_blanks-append h.sign (whole ++ h.tail) (sign_no_blanks negative h.sign h.signed) (no_blanks-append whole h.tail (digits_no_blanks whole h.digits) (point_no_blanks fraction h.tail h.point)))
+    rw joined (no_blanks-append h.sign (whole ++ h.tail) (sign_no_blanks negative h.sign h.signed)
+        (no_blanks-append whole h.tail (digits_no_blanks whole h.digits) (point_no_blanks fraction h.tail h.point)))
 
 pub clock_no_blanks : (word : List ℕ) (counts : List Count) → IsClock word counts → NoBlanks word
 clock_no_blanks word counts h =
@@ -83,7 +86,8 @@ words_in_front (b ∷ word) rest some h e = words-first b word rest h e
 
 pub words-blanks : (blanks rest : List ℕ) → AreBlanks blanks → words (blanks ++ rest) ≡ words rest
 words-blanks [] rest h = refl
-words-blanks (b ∷ bs) rest h = let split = and_parts (is_blank b) (list_all is_blank bs) h in words-blank b (bs ++ rest) split.0 ∙ words-blanks bs rest split.1
+words-blanks (b ∷ bs) rest h = let split = and_parts (is_blank b) (list_all is_blank bs) h in
+    words-blank b (bs ++ rest) split.0 ∙ words-blanks bs rest split.1
 
 pub words-after_blanks : (rest : List ℕ) → words (after_blanks rest) ≡ words rest
 words-after_blanks rest = let skip = are_skipped rest in sym (ap words skip.2 ∙ words-blanks skip.0 (after_blanks rest) skip.1)
@@ -99,10 +103,12 @@ pub record FirstWord (bytes : List ℕ) : Type 0 where
 
 word_if : (t : Bool) (b c : ℕ) (bs : List ℕ) → is_blank b ≡ false → is_blank c ≡ t → (is_blank c ≡ false → FirstWord (c ∷ bs))
     → FirstWord (b ∷ c ∷ bs)
-word_if true b c bs first blank more = record { word = b ∷ []; rest = c ∷ bs; some = omega arith; solid = (first, tt); ends = blank; split = refl }
+word_if true b c bs first blank more = record { word = b ∷ []; rest = c ∷ bs; some = omega arith; solid = (first, tt); ends = blank;
+    split = refl }
 word_if false b c bs first blank more =
     let next = more blank in
-    record { word = b ∷ next.word; rest = next.rest; some = omega arith; solid = (first, next.solid); ends = next.ends; split = ap (λ (l : List ℕ). b ∷ l) next.split }
+    record { word = b ∷ next.word; rest = next.rest; some = omega arith; solid = (first, next.solid); ends = next.ends;
+        split = ap (λ (l : List ℕ). b ∷ l) next.split }
 
 pub first_word : (b : ℕ) (bs : List ℕ) → is_blank b ≡ false → FirstWord (b ∷ bs)
 first_word b [] h = record { word = b ∷ []; rest = []; some = omega arith; solid = (h, tt); ends = tt; split = refl }

@@ -1,5 +1,6 @@
 -- An item that stands in front is read.
-use Rattle.std.proofs.Common.{◌≡◌, ℕ, ◌+◌, ◌<◌, Bool, true, List, [], ◌∷◌, ◌++◌, length, Some, None, refl, sym, ◌∙◌, ap, append_assoc, append-nil, arith, inl, inr, codes, lt-ltb}
+use Rattle.std.proofs.Common.{◌≡◌, ℕ, ◌+◌, ◌<◌, Bool, true, List, [], ◌∷◌, ◌++◌, length, Some, None, refl, sym, ◌∙◌, ap, append_assoc}
+use Rattle.std.proofs.Common.{append-nil, arith, inl, inr, codes, lt-ltb}
 use Rattle.scan_core.specs.Blanks.{is_blank, EndsWord}
 use Rattle.scan_core.specs.Count.{Count}
 use Rattle.scan_core.specs.Number.{IsFraction, IsNumber}
@@ -8,9 +9,11 @@ use Rattle.scan_core.specs.Digits.{AreSomeDigits}
 use Rattle.pg_interval_2.specs.inside.Reading.{read_sign}
 use Rattle.scan_core.specs.Fronts.{NoDigitFirst}
 use Rattle.scan_core.proofs.FrontFacts.{behind_skips, front_of, after_of}
-use Rattle.pg_interval_2.specs.inside.ItemReading.{after_blanks, ClockItem, NamedItem, NoItem, read_byte, read_seconds, read_clock, named_item, read_named, read_item}
+use Rattle.pg_interval_2.specs.inside.ItemReading.{after_blanks, ClockItem, NamedItem, NoItem, read_byte, read_seconds, read_clock}
+use Rattle.pg_interval_2.specs.inside.ItemReading.{named_item, read_named, read_item}
 use Rattle.pg_interval_2.proofs.Numbers.{NoPointFirst, NoSignFirst, fraction_of, sign_of, digits_no_sign, tail_no_digit}
-use Rattle.pg_interval_2.proofs.ItemFacts.{AreLetters, AreBlanks, first_letter, first_blank, blank_is_no, letter_is_no, front_letters_of, after_letters_of, no_skip, ends_test}
+use Rattle.pg_interval_2.proofs.ItemFacts.{AreLetters, AreBlanks, first_letter, first_blank, blank_is_no, letter_is_no, front_letters_of}
+use Rattle.pg_interval_2.proofs.ItemFacts.{after_letters_of, no_skip, ends_test}
 
 -- ---- what may follow a number or a clock
 
@@ -22,11 +25,13 @@ pub record ClosesNumber (rest : List ℕ) : Type 0 where
 
 pub end_closes : (rest : List ℕ) → EndsWord rest → ClosesNumber rest
 end_closes [] e = record { digit = tt; point = tt; colon = refl }
-end_closes (b ∷ bs) e = let other = blank_is_no b e in record { digit = other.0; point = other.1; colon = (let colon = other.2 in rw colon refl) }
+end_closes (b ∷ bs) e = let other = blank_is_no b e in record { digit = other.0; point = other.1;
+    colon = (let colon = other.2 in rw colon refl) }
 
 letters_close : (letters rest : List ℕ) → 0 < length letters → AreLetters letters → ClosesNumber (letters ++ rest)
 letters_close [] rest some l = absurd (omega arith)
-letters_close (c ∷ cs) rest some l = let other = letter_is_no c (first_letter c cs l) in record { digit = other.0; point = other.1; colon = (let colon = other.2 in rw colon refl) }
+letters_close (c ∷ cs) rest some l = let other = letter_is_no c (first_letter c cs l) in
+    record { digit = other.0; point = other.1; colon = (let colon = other.2 in rw colon refl) }
 
 blanks_close : (blanks letters rest : List ℕ) → AreBlanks blanks → 0 < length letters → AreLetters letters
     → ClosesNumber (blanks ++ (letters ++ rest))
@@ -45,7 +50,8 @@ pub number_read : (negative : Bool) (whole fraction number rest : List ℕ) → 
 unfolding read_item read_named
 number_read negative whole fraction number rest h closes =
     let body = whole ++ (h.tail ++ rest) in
-    let split : number ++ rest ≡ h.sign ++ body = ap (λ (l : List ℕ). l ++ rest) h.joined ∙ append_assoc h.sign (whole ++ h.tail) rest ∙ ap (λ (l : List ℕ). h.sign ++ l) (append_assoc whole h.tail rest) in
+    let split : number ++ rest ≡ h.sign ++ body = ap (λ (l : List ℕ). l ++ rest) h.joined ∙ append_assoc h.sign (whole ++ h.tail) rest
+        ∙ ap (λ (l : List ℕ). h.sign ++ l) (append_assoc whole h.tail rest) in
     let signed = sign_of true negative h.sign body h.signed (digits_no_sign whole fraction h.tail rest h.digits h.point h.some) in
     let sign : read_sign true (number ++ rest) ≡ (negative, body) = ap (read_sign true) split ∙ signed in
     let no_digit = tail_no_digit fraction h.tail rest h.point closes.digit in
@@ -59,7 +65,8 @@ number_read negative whole fraction number rest h closes =
 -- a number alone is no item
 pub number_alone : (negative : Bool) (whole fraction number : List ℕ) → IsNumber true negative whole fraction number
     → read_item number ≡ NoItem
-number_alone negative whole fraction number h = ap read_item (sym (append-nil number)) ∙ number_read negative whole fraction number [] h (end_closes [] tt)
+number_alone negative whole fraction number h = ap read_item (sym (append-nil number))
+    ∙ number_read negative whole fraction number [] h (end_closes [] tt)
 
 -- a number with letters, behind blanks or none
 pub named_read : (negative : Bool) (whole fraction number blanks letters rest : List ℕ) → IsNumber true negative whole fraction number
@@ -81,7 +88,8 @@ pub field_no_sign : (field rest : List ℕ) → AreSomeDigits field → NoSignFi
 field_no_sign field rest h = digits_no_sign field [] [] rest h.1 (inl (refl, refl)) (let some = h.0 in omega arith)
 
 -- the seconds behind the second colon
-seconds_read : (negative : Bool) (hours minutes seconds fraction tail rest : List ℕ) → AreSomeDigits hours → AreSomeDigits minutes → AreSomeDigits seconds
+seconds_read : (negative : Bool) (hours minutes seconds fraction tail rest : List ℕ) → AreSomeDigits hours → AreSomeDigits minutes
+    → AreSomeDigits seconds
     → IsFraction fraction tail → EndsWord rest
     → read_seconds negative hours minutes (Some (seconds ++ (tail ++ rest)))
     ≡ ClockItem (record { negative = negative; hours = hours; minutes = minutes; seconds = seconds; fraction = fraction }) rest
@@ -106,7 +114,8 @@ clock_read word rest counts h ends =
     let last = h.seconds ++ (h.tail ++ rest) in
     let middle = codes ":" ++ (h.minutes ++ (codes ":" ++ last)) in
     let split : word ++ rest ≡ h.sign ++ (h.hours ++ middle) =
-    ap (λ (l : List ℕ). l ++ rest) h.joined ∙ append_assoc h.sign (h.hours ++ (codes ":" ++ (h.minutes ++ (codes ":" ++ (h.seconds ++ h.tail))))) rest
+    ap (λ (l : List ℕ). l ++ rest) h.joined ∙ append_assoc h.sign
+        (h.hours ++ (codes ":" ++ (h.minutes ++ (codes ":" ++ (h.seconds ++ h.tail))))) rest
     ∙ ap (λ (l : List ℕ). h.sign ++ l) (append_assoc h.hours (codes ":" ++ (h.minutes ++ (codes ":" ++ (h.seconds ++ h.tail)))) rest
     ∙ ap (λ (l : List ℕ). h.hours ++ (codes ":" ++ l)) (append_assoc h.minutes (codes ":" ++ (h.seconds ++ h.tail)) rest
     ∙ ap (λ (l : List ℕ). h.minutes ++ (codes ":" ++ l)) (append_assoc h.seconds h.tail rest))) in
@@ -116,5 +125,6 @@ clock_read word rest counts h ends =
     let after = after_of h.hours middle h.hour_field.1 refl in
     let front_minutes = front_of h.minutes (codes ":" ++ last) h.minute_field.1 refl in
     let after_minutes = after_of h.minutes (codes ":" ++ last) h.minute_field.1 refl in
-    let behind = seconds_read h.negative h.hours h.minutes h.seconds h.fraction h.tail rest h.hour_field h.minute_field h.second_field h.point ends in
+    let behind = seconds_read h.negative h.hours h.minutes h.seconds h.fraction h.tail rest h.hour_field h.minute_field h.second_field
+        h.point ends in
     rw (sign, front, after, front_minutes, after_minutes) behind

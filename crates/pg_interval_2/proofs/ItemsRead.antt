@@ -1,5 +1,6 @@
 -- What is read as an item stands in front.
-use Rattle.std.proofs.Common.{◌≡◌, ℕ, ◌+◌, ◌<◌, ◌&&◌, ◌==◌, Bool, true, false, cond, nat_lt, List, [], ◌∷◌, ◌++◌, length, Option, Some, None, refl, sym, ◌∙◌, ap, append_assoc, inl, inr, codes, eqb-true}
+use Rattle.std.proofs.Common.{◌≡◌, ℕ, ◌+◌, ◌<◌, ◌&&◌, ◌==◌, Bool, true, false, cond, nat_lt, List, [], ◌∷◌, ◌++◌, length, Option, Some}
+use Rattle.std.proofs.Common.{None, refl, sym, ◌∙◌, ap, append_assoc, inl, inr, codes, eqb-true}
 use Rattle.std.proofs.lemmas.Bool.{and_parts, ltb-true}
 use Rattle.std.specs.Char.{is_ascii_alphabetic}
 use Rattle.scan_core.specs.Blanks.{EndsWord}
@@ -9,7 +10,9 @@ use Rattle.pg_interval_2.specs.Clock.{IsClock, clock_counts}
 use Rattle.scan_core.specs.Fronts.{front_digits, after_digits}
 use Rattle.scan_core.proofs.FrontFacts.{leading_passes, leading_and_behind, front_are_digits, front_and_after}
 use Rattle.pg_interval_2.specs.inside.Reading.{Numeral, read_sign, read_fraction}
-use Rattle.pg_interval_2.specs.inside.ItemReading.{after_blanks, front_letters, after_letters, ends_word, ClockFields, NextItem, ClockItem, NamedItem, NoItem, read_byte, read_seconds, read_clock, named_item, read_named, read_behind_digits, read_item}
+use Rattle.pg_interval_2.specs.inside.ItemReading.{after_blanks, front_letters, after_letters, ends_word, ClockFields, NextItem, ClockItem}
+use Rattle.pg_interval_2.specs.inside.ItemReading.{NamedItem, NoItem, read_byte, read_seconds, read_clock, named_item, read_named}
+use Rattle.pg_interval_2.specs.inside.ItemReading.{read_behind_digits, read_item}
 use Rattle.pg_interval_2.proofs.Numbers.{is_fraction, is_sign}
 use Rattle.pg_interval_2.proofs.ItemFacts.{AreLetters, AreBlanks, are_skipped, ends_from}
 
@@ -52,7 +55,8 @@ letters_stand : (bytes number rest : List ℕ) (n : Numeral) → IsNumber true n
     → Stands bytes (named_item n (after_blanks rest))
 letters_stand bytes number rest n digits split =
     let name = after_blanks rest in
-    chosen (nat_lt 0 (length (front_letters name)) && ends_word (after_letters name)) bytes (NamedItem n (front_letters name) (after_letters name)) (λ test.
+    chosen (nat_lt 0 (length (front_letters name)) && ends_word (after_letters name)) bytes
+        (NamedItem n (front_letters name) (after_letters name)) (λ test.
     let tests = and_parts (nat_lt 0 (length (front_letters name))) (ends_word (after_letters name)) test in
     let skip = are_skipped rest in
     record {
@@ -63,7 +67,8 @@ letters_stand bytes number rest n digits split =
       some = ltb-true 0 _ tests.0;
       ascii = leading_passes is_ascii_alphabetic name;
       ends = ends_from (after_letters name) tests.1;
-      split = split ∙ ap (λ (l : List ℕ). number ++ l) (skip.2 ∙ ap (λ (l : List ℕ). skip.0 ++ l) (sym (leading_and_behind is_ascii_alphabetic name)));
+      split = split ∙ ap (λ (l : List ℕ). number ++ l) (skip.2 ∙ ap (λ (l : List ℕ). skip.0 ++ l)
+          (sym (leading_and_behind is_ascii_alphabetic name)));
     })
 
 named_stands : (negative : Bool) (sign whole rest bytes : List ℕ) → IsSign true negative sign → AreDigits whole
@@ -77,8 +82,10 @@ named_stands negative sign whole rest bytes signed digits split =
     let point = is_fraction rest in
     let number = sign ++ (whole ++ point.0) in
     let joined : bytes ≡ number ++ fraction.1 =
-    split ∙ ap (λ (l : List ℕ). sign ++ l) (ap (λ (l : List ℕ). whole ++ l) point.2 ∙ sym (append_assoc whole point.0 fraction.1)) ∙ sym (append_assoc sign (whole ++ point.0) fraction.1) in
-    letters_stand bytes number fraction.1 n (record { sign = sign; tail = point.0; signed = signed; digits = digits; point = point.1; some = ltb-true 0 _ test; joined = refl }) joined)
+    split ∙ ap (λ (l : List ℕ). sign ++ l) (ap (λ (l : List ℕ). whole ++ l) point.2 ∙ sym (append_assoc whole point.0 fraction.1))
+        ∙ sym (append_assoc sign (whole ++ point.0) fraction.1) in
+    letters_stand bytes number fraction.1 n (record { sign = sign; tail = point.0; signed = signed; digits = digits; point = point.1;
+        some = ltb-true 0 _ test; joined = refl }) joined)
 
 -- ---- a clock
 
@@ -105,14 +112,17 @@ seconds_stand negative sign hours minutes after bytes (Some last) colon signed h
     let behind = after_digits last in
     let fraction = read_fraction behind in
     let fields : ClockFields = record { negative = negative; hours = hours; minutes = minutes; seconds = seconds; fraction = fraction.0 } in
-    chosen (nat_lt 0 (length hours) && (nat_lt 0 (length minutes) && (nat_lt 0 (length seconds) && ends_word fraction.1))) bytes (ClockItem fields fraction.1) (λ test.
-    let first = and_parts (nat_lt 0 (length hours)) (nat_lt 0 (length minutes) && (nat_lt 0 (length seconds) && ends_word fraction.1)) test in
+    chosen (nat_lt 0 (length hours) && (nat_lt 0 (length minutes) && (nat_lt 0 (length seconds) && ends_word fraction.1))) bytes
+        (ClockItem fields fraction.1) (λ test.
+    let first = and_parts (nat_lt 0 (length hours)) (nat_lt 0 (length minutes) && (nat_lt 0 (length seconds) && ends_word fraction.1)) test
+        in
     let second = and_parts (nat_lt 0 (length minutes)) (nat_lt 0 (length seconds) && ends_word fraction.1) first.1 in
     let third = and_parts (nat_lt 0 (length seconds)) (ends_word fraction.1) second.1 in
     let point = is_fraction behind in
     let tail = seconds ++ point.0 in
     let word = sign ++ (hours ++ (codes ":" ++ (minutes ++ (codes ":" ++ tail)))) in
-    let last_split : last ≡ tail ++ fraction.1 = sym (front_and_after last) ∙ ap (λ (l : List ℕ). seconds ++ l) point.2 ∙ sym (append_assoc seconds point.0 fraction.1) in
+    let last_split : last ≡ tail ++ fraction.1 = sym (front_and_after last) ∙ ap (λ (l : List ℕ). seconds ++ l) point.2
+        ∙ sym (append_assoc seconds point.0 fraction.1) in
     let joined : word ++ fraction.1 ≡ sign ++ (hours ++ (codes ":" ++ (minutes ++ (codes ":" ++ (tail ++ fraction.1))))) =
     append_assoc sign (hours ++ (codes ":" ++ (minutes ++ (codes ":" ++ tail)))) fraction.1
     ∙ ap (λ (l : List ℕ). sign ++ l) (append_assoc hours (codes ":" ++ (minutes ++ (codes ":" ++ tail))) fraction.1
@@ -140,7 +150,8 @@ seconds_stand negative sign hours minutes after bytes (Some last) colon signed h
         counted = refl;
       };
       ends = ends_from fraction.1 third.1;
-      split = split ∙ ap (λ (l : List ℕ). sign ++ (hours ++ (codes ":" ++ (minutes ++ l)))) (colon last refl ∙ ap (λ (l : List ℕ). codes ":" ++ l) last_split) ∙ sym joined;
+      split = split ∙ ap (λ (l : List ℕ). sign ++ (hours ++ (codes ":" ++ (minutes ++ l))))
+          (colon last refl ∙ ap (λ (l : List ℕ). codes ":" ++ l) last_split) ∙ sym joined;
     })
 
 clock_stands : (negative : Bool) (sign hours rest bytes : List ℕ) → IsSign true negative sign → AreDigits hours
@@ -148,14 +159,16 @@ clock_stands : (negative : Bool) (sign hours rest bytes : List ℕ) → IsSign t
     → Stands bytes (read_clock negative hours rest)
 unfolding read_clock
 clock_stands negative sign hours rest bytes signed digits split =
-    seconds_stand negative sign hours (front_digits rest) (after_digits rest) bytes (read_byte 58 (after_digits rest)) (byte_in_front 58 (after_digits rest)) signed digits (front_are_digits rest)
+    seconds_stand negative sign hours (front_digits rest) (after_digits rest) bytes (read_byte 58 (after_digits rest))
+        (byte_in_front 58 (after_digits rest)) signed digits (front_are_digits rest)
     (split ∙ ap (λ (l : List ℕ). sign ++ (hours ++ (codes ":" ++ l))) (sym (front_and_after rest)))
 
 -- behind a sign and digits
 behind_digits : (negative : Bool) (sign whole after bytes : List ℕ) (o : Option (List ℕ))
     → ((last : List ℕ) → o ≡ Some last → after ≡ 58 ∷ last) → IsSign true negative sign → AreDigits whole → bytes ≡ sign ++ (whole ++ after)
     → Stands bytes (read_behind_digits negative whole after o)
-behind_digits negative sign whole after bytes None colon signed digits split = named_stands negative sign whole after bytes signed digits split
+behind_digits negative sign whole after bytes None colon signed digits split =
+    named_stands negative sign whole after bytes signed digits split
 behind_digits negative sign whole after bytes (Some last) colon signed digits split =
     clock_stands negative sign whole last bytes signed digits (split ∙ ap (λ (l : List ℕ). sign ++ (whole ++ l)) (colon last refl))
 
@@ -165,5 +178,6 @@ unfolding read_item
 item_stands bytes =
     let sign = is_sign true bytes in
     let body = (read_sign true bytes).1 in
-    behind_digits (read_sign true bytes).0 sign.0 (front_digits body) (after_digits body) bytes (read_byte 58 (after_digits body)) (byte_in_front 58 (after_digits body)) sign.1 (front_are_digits body)
+    behind_digits (read_sign true bytes).0 sign.0 (front_digits body) (after_digits body) bytes (read_byte 58 (after_digits body))
+        (byte_in_front 58 (after_digits body)) sign.1 (front_are_digits body)
     (sign.2 ∙ ap (λ (l : List ℕ). sign.0 ++ l) (sym (front_and_after body)))

@@ -1,5 +1,6 @@
 -- Items of a number and letters: when one is read, and what it is to count one.
-use Rattle.std.proofs.Common.{◌≡◌, ◌≢◌, ℕ, ◌+◌, ◌<◌, ◌==◌, Bool, true, false, cond, nat_lt, List, [], ◌∷◌, ◌++◌, length, Option, None, Some, refl, sym, ◌∙◌, ap, subst, inl, inr, arith, lt-ltb}
+use Rattle.std.proofs.Common.{◌≡◌, ◌≢◌, ℕ, ◌+◌, ◌<◌, ◌==◌, Bool, true, false, cond, nat_lt, List, [], ◌∷◌, ◌++◌, length, Option, None, Some}
+use Rattle.std.proofs.Common.{refl, sym, ◌∙◌, ap, subst, inl, inr, arith, lt-ltb}
 use Rattle.std.proofs.lemmas.Bool.Decides.{eqb_tells, nat_tests}
 use Rattle.scan_core.specs.Count.{Count}
 use Rattle.scan_core.specs.Fronts.{after_digits, front_digits}
@@ -15,7 +16,8 @@ use Rattle.pg_interval_2.specs.declared.reading.distinct_tally.Step.{Step}
 use Rattle.pg_interval_2.specs.declared.reading.distinct_tally.Step.TheVariants as step
 use Rattle.pg_interval_2.specs.declared.reading.unit_names.NameSet.{NameSet}
 use Rattle.pg_interval_2.specs.inside.DistinctItems.{CountsNamed, IsDistinctTally, IsItemStep}
-use Rattle.pg_interval_2.specs.inside.ItemReading.{NextItem, NamedItem, NoItem, after_blanks, after_letters, front_letters, has_name, read_byte, read_clock, read_item, read_named}
+use Rattle.pg_interval_2.specs.inside.ItemReading.{NextItem, NamedItem, NoItem, after_blanks, after_letters, front_letters, has_name}
+use Rattle.pg_interval_2.specs.inside.ItemReading.{read_byte, read_clock, read_item, read_named}
 use Rattle.pg_interval_2.specs.inside.NamedUnits.{unit_named}
 use Rattle.pg_interval_2.specs.inside.NameSets.{names_in}
 use Rattle.pg_interval_2.specs.inside.Reading.{Numeral, count_with, read_fraction, read_sign}
@@ -28,10 +30,12 @@ use Rattle.pg_interval_2.proofs.Turning.{counts_unit-turned, turned-append}
 
 no_byte : (byte : ℕ) (bytes : List ℕ) → front_byte bytes ≢ Some byte → read_byte byte bytes ≡ None
 no_byte byte [] h = refl
-no_byte byte (b ∷ bs) h = elim (eqb_tells b byte) [ inl equal ↦ absurd (h (ap Some equal.1)) | inr apart ↦ let other = apart.0 in rw other refl ]
+no_byte byte (b ∷ bs) h = elim (eqb_tells b byte) [ inl equal ↦ absurd
+    (h (ap Some equal.1)) | inr apart ↦ let other = apart.0 in rw other refl ]
 
 -- no colon behind the digits
-pub item_named : (bytes : List ℕ) (negative : Bool) (signed digits after : List ℕ) → (negative, signed) ≡ read_sign true bytes → digits ≡ front_digits signed
+pub item_named : (bytes : List ℕ) (negative : Bool) (signed digits after : List ℕ) → (negative, signed) ≡ read_sign true bytes
+    → digits ≡ front_digits signed
     → after ≡ after_digits signed → front_byte after ≢ Some 58
     → read_item bytes ≡ read_named negative digits after
 unfolding read_item
@@ -43,7 +47,8 @@ item_named bytes negative signed digits after sign front rest colon =
     rw (s, d, r, none) refl
 
 -- a colon behind them, which is passed
-pub item_clock : (bytes : List ℕ) (negative : Bool) (signed : List ℕ) (before colon : Place) (whole : Run) → (negative, signed) ≡ read_sign true bytes
+pub item_clock : (bytes : List ℕ) (negative : Bool) (signed : List ℕ) (before colon : Place) (whole : Run)
+    → (negative, signed) ≡ read_sign true bytes
     → digits_of before.text whole ≡ front_digits signed → ahead before ≡ after_digits signed → Passes (58 ∷ []) before colon
     → read_item bytes ≡ read_clock negative (digits_of colon.text whole) (ahead colon)
 unfolding read_item
@@ -66,7 +71,8 @@ none_both true = refl
 none_both false = refl
 
 -- no digits
-pub digitless : (negative : Bool) (text behind bytes after : List ℕ) (whole fraction : Run) → (digits_of behind fraction, after) ≡ read_fraction bytes
+pub digitless : (negative : Bool) (text behind bytes after : List ℕ) (whole fraction : Run)
+    → (digits_of behind fraction, after) ≡ read_fraction bytes
     → true ≡ (whole.start == whole.end) → true ≡ (fraction.start == fraction.end)
     → read_named negative (digits_of text whole) bytes ≡ NoItem
 unfolding read_named
@@ -77,7 +83,8 @@ digitless negative text behind bytes after whole fraction read w f =
     rw (back, no_whole, no_fraction) refl
 
 -- no name behind the number
-pub nameless : (negative : Bool) (whole bytes digits after : List ℕ) → (digits, after) ≡ read_fraction bytes → has_name (after_blanks after) ≡ false
+pub nameless : (negative : Bool) (whole bytes digits after : List ℕ) → (digits, after) ≡ read_fraction bytes
+    → has_name (after_blanks after) ≡ false
     → read_named negative whole bytes ≡ NoItem
 unfolding read_named
 nameless negative whole bytes digits after read none =
@@ -106,14 +113,16 @@ some_whole text run is apart = let long = run_length text run is in omega (arith
 
 -- ---- counting one
 
-step_found : (set : NameSet) (turned : Bool) (text : List ℕ) (item : NextItem) (rest : List ℕ) (counts : List Count) (n m : Numeral) (word : Word)
+step_found : (set : NameSet) (turned : Bool) (text : List ℕ) (item : NextItem) (rest : List ℕ) (counts : List Count) (n m : Numeral)
+    (word : Word)
     (new : DistinctTally) (result : Step) (found : Option TimeUnit) → item ≡ NamedItem n (letters_of text word) rest
     → ((unit : TimeUnit) → count_with m unit ≡ turned_count turned (count_with n unit)) → IsWord text word
     → word.end + length rest ≡ length text → unit_named (names_in set) (letters_of text word) ≡ found
     → CountsNamed found (turned_counts turned counts) m word new result
     → IsItemStep (names_in set) turned text item rest counts new result
 step_found set turned text item rest counts n m word new step.Taken (Some unit) read is letters ends found counted =
-    let same = ap (λ (x : Count). turned_counts turned counts ++ x ∷ []) (is unit) ∙ sym (turned-append turned counts (count_with n unit ∷ [])) in
+    let same = ap (λ (x : Count). turned_counts turned counts ++ x ∷ []) (is unit)
+        ∙ sym (turned-append turned counts (count_with n unit ∷ [])) in
     inr (n, letters_of text word, unit, read, found, subst (IsDistinctTally new) same counted)
 step_found set turned text item rest counts n m word new (step.BadName bad) (Some unit) read is letters ends found (bad_is, before) =
     let long = length-between text word.start word.end letters.order letters.within in
@@ -147,12 +156,15 @@ pub is_turned : (turned negative sign : Bool) (whole digits fraction behind : Li
 is_turned turned negative sign whole digits fraction behind n w f unit = rw (n, w, f) refl
 
 -- a step over a number and letters
-pub named_step : (set : NameSet) (turned : Bool) (text same : List ℕ) (item : NextItem) (rest : List ℕ) (counts : List Count) (n m : Numeral) (word : Word)
+pub named_step : (set : NameSet) (turned : Bool) (text same : List ℕ) (item : NextItem) (rest : List ℕ) (counts : List Count)
+    (n m : Numeral) (word : Word)
     (new : DistinctTally) (result : Step) → same ≡ text → item ≡ NamedItem n (letters_of text word) rest
     → ((unit : TimeUnit) → count_with m unit ≡ turned_count turned (count_with n unit)) → IsWord text word
     → word.end + length rest ≡ length text
     → CountsNamed (unit_named (names_in set) (letters_of same word)) (turned_counts turned counts) m word new result
     → IsItemStep (names_in set) turned text item rest counts new result
 named_step set turned text same item rest counts n m word new result e read is letters ends counted =
-    step_found set turned text item rest counts n m word new result (unit_named (names_in set) (letters_of text word)) read is letters ends refl
-    (subst (λ (l : List ℕ). CountsNamed (unit_named (names_in set) (letters_of l word)) (turned_counts turned counts) m word new result) e counted)
+    step_found set turned text item rest counts n m word new result
+        (unit_named (names_in set) (letters_of text word)) read is letters ends refl
+    (subst (λ (l : List ℕ). CountsNamed (unit_named (names_in set) (letters_of l word)) (turned_counts turned counts) m word new result) e
+        counted)

@@ -1,5 +1,6 @@
 -- A written text is one line.
-use Rattle.std.proofs.Common.{◌≡◌, ℕ, ◌^◌, ◌<◌, ◌≤◌, ◌&&◌, ◌==◌, not, Bool, true, false, cond, ℤ, unsigned_abs, pos, IsTrue, List, [], ◌∷◌, ◌++◌, codes, decimal, refl, sym, subst, arith}
+use Rattle.std.proofs.Common.{◌≡◌, ℕ, ◌^◌, ◌<◌, ◌≤◌, ◌&&◌, ◌==◌, not, Bool, true, false, cond, ℤ, unsigned_abs, pos, IsTrue, List, [], ◌∷◌}
+use Rattle.std.proofs.Common.{◌++◌, codes, decimal, refl, sym, subst, arith}
 use Rattle.std.proofs.lemmas.Bool.Decides.{nat_tests}
 use Rattle.std.specs.Char.{is_ascii_digit}
 use Rattle.std.specs.Int.{is_negative}
@@ -20,10 +21,12 @@ use Rattle.pg_interval_2.specs.inside.PartSteps.{years_of, months_of, hours_of, 
 use Rattle.pg_interval_2.specs.inside.PostgresSteps.{counted_name, number_words, named_words, clock_words, postgres_words, postgres_steps}
 use Rattle.pg_interval_2.specs.Ranges.{IsInRange}
 use Rattle.scan_core.specs.Number.{sign_text}
-use Rattle.pg_interval_2.specs.inside.SqlSteps.{has_all_signs, year_month_text, signed_text, months_text, days_text, time_text, plain_text, sql_steps}
+use Rattle.pg_interval_2.specs.inside.SqlSteps.{has_all_signs, year_month_text, signed_text, months_text, days_text, time_text, plain_text}
+use Rattle.pg_interval_2.specs.inside.SqlSteps.{sql_steps}
 use Rattle.pg_interval_2.specs.Styles.{style_text}
 use Rattle.pg_interval_2.specs.Turned.{turned_sign}
-use Rattle.pg_interval_2.specs.inside.VerboseSteps.{behind_spaces, unit_words, second_digits, second_words, verbose_date, verbose_time, parts_text, verbose_steps, has_ago}
+use Rattle.pg_interval_2.specs.inside.VerboseSteps.{behind_spaces, unit_words, second_digits, second_words, verbose_date, verbose_time}
+use Rattle.pg_interval_2.specs.inside.VerboseSteps.{parts_text, verbose_steps, has_ago}
 use Rattle.pg_interval_2.specs.declared.interval.Interval.{Interval}
 use Rattle.pg_interval_2.specs.declared.style.Style.{Style}
 use Rattle.pg_interval_2.specs.declared.style.Style.TheVariants.{Iso, Postgres, Verbose, Sql, IsoStrict}
@@ -92,7 +95,8 @@ padded_line : (width n : ℕ) → n < 2 ^ 64 → OneLine (padded_digits width n)
 padded_line width n small = each-digits is_no_feed digit_line (padded_digits width n) (digits-padded width n small)
 
 trimmed_line : (width n : ℕ) → n < 2 ^ 64 → OneLine (trimmed_digits (padded_digits width n))
-trimmed_line width n small = each-digits is_no_feed digit_line (trimmed_digits (padded_digits width n)) (digits-trimmed (padded_digits width n) (digits-padded width n small))
+trimmed_line width n small = each-digits is_no_feed digit_line (trimmed_digits (padded_digits width n))
+    (digits-trimmed (padded_digits width n) (digits-padded width n small))
 
 minus_line : (negative : Bool) → OneLine (minus negative)
 minus_line true = lit (codes "-") refl
@@ -102,7 +106,8 @@ minus_line false = lit [] refl
 
 fraction_line : (n : ℕ) → n < 2 ^ 64 → OneLine (fraction_text n)
 unfolding fraction_text
-fraction_line n small = if_line (n == 0) [] (codes "." ++ padded_digits 6 n) (lit [] refl) (append (codes ".") (padded_digits 6 n) (lit (codes ".") refl) (padded_line 6 n small))
+fraction_line n small = if_line (n == 0) [] (codes "." ++ padded_digits 6 n) (lit [] refl)
+    (append (codes ".") (padded_digits 6 n) (lit (codes ".") refl) (padded_line 6 n small))
 
 field_line : (n : ℕ) → n < 2 ^ 64 → OneLine (field_text n)
 unfolding field_text
@@ -116,12 +121,17 @@ clock_line : (width : ℕ) (micros : ℤ) → IsSmall micros → OneLine (clock_
 unfolding clock_steps
 clock_line width micros u =
     let fraction = fraction_line (subsecond_of micros) (subsecond_small micros u) in
-    let seconds = append (field_text (seconds_of micros)) (fraction_text (subsecond_of micros)) (field_line (seconds_of micros) (seconds_small micros u)) fraction in
-    let minutes = append (field_text (minutes_of micros)) (field_text (seconds_of micros) ++ fraction_text (subsecond_of micros)) (field_line (minutes_of micros) (minutes_small micros u)) seconds in
-    append (hours_text width (hours_of micros)) (field_text (minutes_of micros) ++ (field_text (seconds_of micros) ++ fraction_text (subsecond_of micros))) (hours_line width (hours_of micros) (hours_small micros u)) minutes
+    let seconds = append (field_text (seconds_of micros)) (fraction_text (subsecond_of micros))
+        (field_line (seconds_of micros) (seconds_small micros u)) fraction in
+    let minutes = append (field_text (minutes_of micros)) (field_text (seconds_of micros) ++ fraction_text (subsecond_of micros))
+        (field_line (minutes_of micros) (minutes_small micros u)) seconds in
+    append (hours_text width (hours_of micros)) (field_text (minutes_of micros)
+        ++ (field_text (seconds_of micros) ++ fraction_text (subsecond_of micros)))
+        (hours_line width (hours_of micros) (hours_small micros u)) minutes
 
 signed_clock_line : (width : ℕ) (micros : ℤ) → IsSmall micros → OneLine (minus (is_negative micros) ++ clock_steps width micros)
-signed_clock_line width micros u = append (minus (is_negative micros)) (clock_steps width micros) (minus_line (is_negative micros)) (clock_line width micros u)
+signed_clock_line width micros u = append (minus (is_negative micros)) (clock_steps width micros) (minus_line (is_negative micros))
+    (clock_line width micros u)
 
 -- ---- the ISO style
 
@@ -129,7 +139,8 @@ part_line : (negative : Bool) (n : ℕ) (letter : List ℕ) → n < 2 ^ 64 → O
 unfolding iso_part
 part_line negative n letter small h =
     let digits = append (decimal n) letter (decimal_line n small) h in
-    if_line (n == 0) [] (minus negative ++ (decimal n ++ letter)) (lit [] refl) (append (minus negative) (decimal n ++ letter) (minus_line negative) digits)
+    if_line (n == 0) [] (minus negative ++ (decimal n ++ letter)) (lit [] refl)
+        (append (minus negative) (decimal n ++ letter) (minus_line negative) digits)
 
 nonzero_line : (n : ℕ) → n < 2 ^ 64 → OneLine (nonzero_digits n)
 unfolding nonzero_digits
@@ -140,7 +151,8 @@ iso_decimal_line : (negative : Bool) (seconds micros : ℕ) → seconds < 2 ^ 64
 unfolding iso_decimal
 iso_decimal_line negative seconds micros s m =
     let end : List ℕ = padded_digits 6 micros ++ codes "S" in
-    let fraction = append (codes ".") end (lit (codes ".") refl) (append (padded_digits 6 micros) (codes "S") (padded_line 6 micros m) (lit (codes "S") refl)) in
+    let fraction = append (codes ".") end (lit (codes ".") refl)
+        (append (padded_digits 6 micros) (codes "S") (padded_line 6 micros m) (lit (codes "S") refl)) in
     let number = append (nonzero_digits seconds) (codes "." ++ end) (nonzero_line seconds s) fraction in
     append (minus negative) (nonzero_digits seconds ++ (codes "." ++ end)) (minus_line negative) number
 
@@ -148,7 +160,8 @@ iso_seconds_line : (negative : Bool) (seconds micros : ℕ) → seconds < 2 ^ 64
     → OneLine (iso_seconds negative seconds micros)
 unfolding iso_seconds
 iso_seconds_line negative seconds micros s m =
-    if_line (micros == 0) (iso_part negative seconds (codes "S")) (iso_decimal negative seconds micros) (part_line negative seconds (codes "S") s (lit (codes "S") refl)) (iso_decimal_line negative seconds micros s m)
+    if_line (micros == 0) (iso_part negative seconds (codes "S")) (iso_decimal negative seconds micros)
+        (part_line negative seconds (codes "S") s (lit (codes "S") refl)) (iso_decimal_line negative seconds micros s m)
 
 iso_date_line : (months days : ℤ) → IsSmall months → IsSmall days → OneLine (iso_date months days)
 unfolding iso_date
@@ -158,7 +171,8 @@ iso_date_line months days m d =
     let day : List ℕ = iso_part (is_negative days) (unsigned_abs days) (codes "D") in
     let months_in = part_line (is_negative months) (months_of months) (codes "M") (months_small months m) (lit (codes "M") refl) in
     let days_in = part_line (is_negative days) (unsigned_abs days) (codes "D") (abs_small days d) (lit (codes "D") refl) in
-    append year (month ++ day) (part_line (is_negative months) (years_of months) (codes "Y") (years_small months m) (lit (codes "Y") refl)) (append month day months_in days_in)
+    append year (month ++ day) (part_line (is_negative months) (years_of months) (codes "Y") (years_small months m) (lit (codes "Y") refl))
+        (append month day months_in days_in)
 
 iso_clock_line : (micros : ℤ) → IsSmall micros
     → OneLine
@@ -170,18 +184,22 @@ iso_clock_line micros u =
     let minute : List ℕ = iso_part (is_negative micros) (minutes_of micros) (codes "M") in
     let second : List ℕ = iso_seconds (is_negative micros) (seconds_of micros) (subsecond_of micros) in
     let minutes = part_line (is_negative micros) (minutes_of micros) (codes "M") (minutes_small micros u) (lit (codes "M") refl) in
-    let seconds = iso_seconds_line (is_negative micros) (seconds_of micros) (subsecond_of micros) (seconds_small micros u) (subsecond_small micros u) in
-    append hour (minute ++ second) (part_line (is_negative micros) (hours_of micros) (codes "H") (hours_small micros u) (lit (codes "H") refl)) (append minute second minutes seconds)
+    let seconds = iso_seconds_line (is_negative micros) (seconds_of micros) (subsecond_of micros) (seconds_small micros u)
+        (subsecond_small micros u) in
+    append hour (minute ++ second) (part_line (is_negative micros) (hours_of micros) (codes "H") (hours_small micros u)
+        (lit (codes "H") refl)) (append minute second minutes seconds)
 
 iso_time_line : (micros : ℤ) → IsSmall micros → OneLine (iso_time micros)
 unfolding iso_time
-iso_time_line micros u = if_line (int_eq micros (pos 0)) [] _ (lit [] refl) (append (codes "T") _ (lit (codes "T") refl) (iso_clock_line micros u))
+iso_time_line micros u = if_line (int_eq micros (pos 0)) [] _ (lit [] refl)
+    (append (codes "T") _ (lit (codes "T") refl) (iso_clock_line micros u))
 
 iso_line : (months days micros : ℤ) → IsSmall months → IsSmall days → IsSmall micros → OneLine (iso_steps months days micros)
 unfolding iso_steps
 iso_line months days micros m d u =
     let parts = append (iso_date months days) (iso_time micros) (iso_date_line months days m d) (iso_time_line micros u) in
-    if_line (int_eq months (pos 0) && (int_eq days (pos 0) && int_eq micros (pos 0))) (codes "PT0S") (codes "P" ++ (iso_date months days ++ iso_time micros)) (lit (codes "PT0S") refl)
+    if_line (int_eq months (pos 0) && (int_eq days (pos 0) && int_eq micros (pos 0))) (codes "PT0S")
+        (codes "P" ++ (iso_date months days ++ iso_time micros)) (lit (codes "PT0S") refl)
     (append (codes "P") (iso_date months days ++ iso_time micros) (lit (codes "P") refl) parts)
 
 -- ---- words with spaces
@@ -198,11 +216,13 @@ number_line negative n word small h =
 
 counted_line : (negative plural : Bool) (n : ℕ) (name : List ℕ) → n < 2 ^ 64 → list_all is_no_feed name ≡ true
     → OneLineEach (number_words negative n (counted_name plural n name))
-counted_line negative plural n name small h = number_line negative n (counted_name plural n name) small (name_line plural n name (lit name h))
+counted_line negative plural n name small h = number_line negative n (counted_name plural n name) small
+    (name_line plural n name (lit name h))
 
 clock_words_line : (micros : ℤ) → IsSmall micros → OneLineEach (clock_words micros)
 unfolding clock_words
-clock_words_line micros u = if_words (int_eq micros (pos 0)) [] ((minus (is_negative micros) ++ clock_steps 2 micros) ∷ []) tt (signed_clock_line 2 micros u, tt)
+clock_words_line micros u = if_words (int_eq micros (pos 0)) [] ((minus (is_negative micros) ++ clock_steps 2 micros) ∷ []) tt
+    (signed_clock_line 2 micros u, tt)
 
 postgres_words_line : (months days micros : ℤ) → IsSmall months → IsSmall days → IsSmall micros
     → OneLineEach (postgres_words months days micros)
@@ -213,7 +233,8 @@ postgres_words_line months days micros m d u =
     let years = counted_line (is_negative months) (is_negative months) (years_of months) (codes "year") (years_small months m) refl in
     let months_in = counted_line (is_negative months) (is_negative months) (months_of months) (codes "mon") (months_small months m) refl in
     let days_in = counted_line (is_negative days) (is_negative days) (unsigned_abs days) (codes "day") (abs_small days d) refl in
-    words_then year (month ++ (day ++ clock_words micros)) years (words_then month (day ++ clock_words micros) months_in (words_then day (clock_words micros) days_in (clock_words_line micros u)))
+    words_then year (month ++ (day ++ clock_words micros)) years
+        (words_then month (day ++ clock_words micros) months_in (words_then day (clock_words micros) days_in (clock_words_line micros u)))
 
 joined_line : (all : List (List ℕ)) → OneLineEach all → OneLine (join_with_byte 32 all)
 joined_line [] h = lit [] refl
@@ -225,12 +246,14 @@ joined_line (word ∷ next ∷ more) h =
 postgres_line : (months days micros : ℤ) → IsSmall months → IsSmall days → IsSmall micros → OneLine (postgres_steps months days micros)
 unfolding postgres_steps
 postgres_line months days micros m d u =
-    if_line (int_eq months (pos 0) && (int_eq days (pos 0) && int_eq micros (pos 0))) (codes "00:00:00") (join_with_byte 32 (postgres_words months days micros)) (lit (codes "00:00:00") refl)
+    if_line (int_eq months (pos 0) && (int_eq days (pos 0) && int_eq micros (pos 0))) (codes "00:00:00")
+        (join_with_byte 32 (postgres_words months days micros)) (lit (codes "00:00:00") refl)
     (joined_line (postgres_words months days micros) (postgres_words_line months days micros m d u))
 
 spaced_line : (all : List (List ℕ)) → OneLineEach all → OneLine (behind_spaces all)
 spaced_line [] h = lit [] refl
-spaced_line (word ∷ more) h = append (codes " ") (word ++ behind_spaces more) (lit (codes " ") refl) (append word (behind_spaces more) h.0 (spaced_line more h.1))
+spaced_line (word ∷ more) h = append (codes " ") (word ++ behind_spaces more) (lit (codes " ") refl)
+    (append word (behind_spaces more) h.0 (spaced_line more h.1))
 
 unit_line : (negative : Bool) (n : ℕ) (name : List ℕ) → n < 2 ^ 64 → list_all is_no_feed name ≡ true
     → OneLine (behind_spaces (unit_words negative n name))
@@ -247,7 +270,8 @@ second_words_line : (negative : Bool) (seconds micros : ℕ) → seconds < 2 ^ 6
 unfolding second_words
 second_words_line negative seconds micros s m =
     let number = append (minus negative) (second_digits seconds micros) (minus_line negative) (second_digits_line seconds micros s m) in
-    if_words (micros == 0) (unit_words negative seconds (codes "sec")) ((minus negative ++ second_digits seconds micros) ∷ codes "secs" ∷ [])
+    if_words (micros == 0) (unit_words negative seconds (codes "sec"))
+        ((minus negative ++ second_digits seconds micros) ∷ codes "secs" ∷ [])
     (counted_line negative false seconds (codes "sec") s refl) (number, (lit (codes "secs") refl, tt))
 
 verbose_date_line : (ago : Bool) (months days : ℤ) → IsSmall months → IsSmall days → OneLine (verbose_date ago months days)
@@ -259,7 +283,8 @@ verbose_date_line ago months days m d =
     let day : List ℕ = behind_spaces (unit_words (turned_sign ago (is_negative days)) (unsigned_abs days) (codes "day")) in
     let months_in = unit_line sign (months_of months) (codes "mon") (months_small months m) refl in
     let days_in = unit_line (turned_sign ago (is_negative days)) (unsigned_abs days) (codes "day") (abs_small days d) refl in
-    append year (month ++ day) (unit_line sign (years_of months) (codes "year") (years_small months m) refl) (append month day months_in days_in)
+    append year (month ++ day) (unit_line sign (years_of months) (codes "year") (years_small months m) refl)
+        (append month day months_in days_in)
 
 verbose_time_line : (ago : Bool) (micros : ℤ) → IsSmall micros → OneLine (verbose_time ago micros)
 unfolding verbose_time
@@ -269,8 +294,10 @@ verbose_time_line ago micros u =
     let minute : List ℕ = behind_spaces (unit_words sign (minutes_of micros) (codes "min")) in
     let second : List ℕ = behind_spaces (second_words sign (seconds_of micros) (subsecond_of micros)) in
     let minutes = unit_line sign (minutes_of micros) (codes "min") (minutes_small micros u) refl in
-    let seconds = spaced_line (second_words sign (seconds_of micros) (subsecond_of micros)) (second_words_line sign (seconds_of micros) (subsecond_of micros) (seconds_small micros u) (subsecond_small micros u)) in
-    append hour (minute ++ second) (unit_line sign (hours_of micros) (codes "hour") (hours_small micros u) refl) (append minute second minutes seconds)
+    let seconds = spaced_line (second_words sign (seconds_of micros) (subsecond_of micros))
+        (second_words_line sign (seconds_of micros) (subsecond_of micros) (seconds_small micros u) (subsecond_small micros u)) in
+    append hour (minute ++ second) (unit_line sign (hours_of micros) (codes "hour") (hours_small micros u) refl)
+        (append minute second minutes seconds)
 
 parts_line : (ago : Bool) (months days micros : ℤ) → IsSmall months → IsSmall days → IsSmall micros
     → OneLine (parts_text ago months days micros)
@@ -279,12 +306,14 @@ parts_line ago months days micros m d u =
     let end = if_line ago (codes " ago") [] (lit (codes " ago") refl) (lit [] refl) in
     let time = append (verbose_time ago micros) (if ago then codes " ago" else []) (verbose_time_line ago micros u) end in
     let behind : List ℕ = verbose_date ago months days ++ (verbose_time ago micros ++ (if ago then codes " ago" else [])) in
-    append (codes "@") behind (lit (codes "@") refl) (append (verbose_date ago months days) (verbose_time ago micros ++ (if ago then codes " ago" else [])) (verbose_date_line ago months days m d) time)
+    append (codes "@") behind (lit (codes "@") refl) (append (verbose_date ago months days)
+        (verbose_time ago micros ++ (if ago then codes " ago" else [])) (verbose_date_line ago months days m d) time)
 
 verbose_line : (months days micros : ℤ) → IsSmall months → IsSmall days → IsSmall micros → OneLine (verbose_steps months days micros)
 unfolding verbose_steps
 verbose_line months days micros m d u =
-    if_line (int_eq months (pos 0) && (int_eq days (pos 0) && int_eq micros (pos 0))) (codes "@ 0") (parts_text (has_ago months days micros) months days micros) (lit (codes "@ 0") refl)
+    if_line (int_eq months (pos 0) && (int_eq days (pos 0) && int_eq micros (pos 0))) (codes "@ 0")
+        (parts_text (has_ago months days micros) months days micros) (lit (codes "@ 0") refl)
     (parts_line (has_ago months days micros) months days micros m d u)
 
 -- ---- the SQL style
@@ -296,8 +325,10 @@ plus_line false = lit (codes "+") refl
 year_month_line : (months : ℤ) → IsSmall months → OneLine (year_month_text months)
 unfolding year_month_text
 year_month_line months m =
-    let month = append (codes "-") (decimal (months_of months)) (lit (codes "-") refl) (decimal_line (months_of months) (months_small months m)) in
-    append (decimal (years_of months)) (codes "-" ++ decimal (months_of months)) (decimal_line (years_of months) (years_small months m)) month
+    let month = append (codes "-") (decimal (months_of months)) (lit (codes "-") refl)
+        (decimal_line (months_of months) (months_small months m)) in
+    append (decimal (years_of months)) (codes "-" ++ decimal (months_of months))
+        (decimal_line (years_of months) (years_small months m)) month
 
 signed_text_line : (months days micros : ℤ) → IsSmall months → IsSmall days → IsSmall micros → OneLine (signed_text months days micros)
 unfolding signed_text
@@ -305,23 +336,29 @@ signed_text_line months days micros m d u =
     let date : List ℕ = sign_text (is_negative months) ++ year_month_text months in
     let day : List ℕ = sign_text (is_negative days) ++ decimal (unsigned_abs days) in
     let time : List ℕ = sign_text (is_negative micros) ++ clock_steps 1 micros in
-    let dates = append (sign_text (is_negative months)) (year_month_text months) (plus_line (is_negative months)) (year_month_line months m) in
-    let days_in = append (sign_text (is_negative days)) (decimal (unsigned_abs days)) (plus_line (is_negative days)) (decimal_line (unsigned_abs days) (abs_small days d)) in
+    let dates = append (sign_text (is_negative months)) (year_month_text months) (plus_line (is_negative months))
+        (year_month_line months m) in
+    let days_in = append (sign_text (is_negative days)) (decimal (unsigned_abs days)) (plus_line (is_negative days))
+        (decimal_line (unsigned_abs days) (abs_small days d)) in
     let times = append (sign_text (is_negative micros)) (clock_steps 1 micros) (plus_line (is_negative micros)) (clock_line 1 micros u) in
     let behind_days = append (codes " ") time (lit (codes " ") refl) times in
-    let behind_date = append (codes " ") (day ++ (codes " " ++ time)) (lit (codes " ") refl) (append day (codes " " ++ time) days_in behind_days) in
+    let behind_date = append (codes " ") (day ++ (codes " " ++ time)) (lit (codes " ") refl)
+        (append day (codes " " ++ time) days_in behind_days) in
     append date (codes " " ++ (day ++ (codes " " ++ time))) dates behind_date
 
 months_line : (months : ℤ) → IsSmall months → OneLine (months_text months)
 unfolding months_text
-months_line months m = append (minus (is_negative months)) (year_month_text months) (minus_line (is_negative months)) (year_month_line months m)
+months_line months m = append (minus (is_negative months)) (year_month_text months) (minus_line (is_negative months))
+    (year_month_line months m)
 
 days_line : (days micros : ℤ) → IsSmall days → IsSmall micros → OneLine (days_text days micros)
 unfolding days_text
 days_line days micros d u =
     let day : List ℕ = minus (is_negative days) ++ decimal (unsigned_abs days) in
-    let days_in = append (minus (is_negative days)) (decimal (unsigned_abs days)) (minus_line (is_negative days)) (decimal_line (unsigned_abs days) (abs_small days d)) in
-    append day (codes " " ++ clock_steps 1 micros) days_in (append (codes " ") (clock_steps 1 micros) (lit (codes " ") refl) (clock_line 1 micros u))
+    let days_in = append (minus (is_negative days)) (decimal (unsigned_abs days)) (minus_line (is_negative days))
+        (decimal_line (unsigned_abs days) (abs_small days d)) in
+    append day (codes " " ++ clock_steps 1 micros) days_in (append (codes " ") (clock_steps 1 micros) (lit (codes " ") refl)
+        (clock_line 1 micros u))
 
 time_line : (micros : ℤ) → IsSmall micros → OneLine (time_text micros)
 unfolding time_text
@@ -339,7 +376,8 @@ unfolding sql_steps
 sql_line months days micros m d u =
     let rest : List ℕ = if has_all_signs months days micros then signed_text months days micros else plain_text months days micros in
     if_line (int_eq months (pos 0) && (int_eq days (pos 0) && int_eq micros (pos 0))) (codes "0") rest (lit (codes "0") refl)
-    (if_line (has_all_signs months days micros) (signed_text months days micros) (plain_text months days micros) (signed_text_line months days micros m d u) (plain_line months days micros m d u))
+    (if_line (has_all_signs months days micros) (signed_text months days micros) (plain_text months days micros)
+        (signed_text_line months days micros m d u) (plain_line months days micros m d u))
 
 -- ---- every style
 

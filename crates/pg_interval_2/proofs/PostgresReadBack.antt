@@ -25,10 +25,12 @@ sums t range = SumsTo-date_time _ _ t (date_counts-sum t range) (clock_part-sum 
 
 spelled : (t : Interval) → IsInRange t
     → IsPostgres (postgres_steps t.months t.days t.microseconds) (postgres_counts t.months t.days t.microseconds)
-spelled t range = postgres_spelled t.months t.days t.microseconds (abs_fits Months t.months (fits_32 t.months range.months)) (abs_fits Days t.days (fits_32 t.days range.days)) (abs_fits Micros t.microseconds (fits_64 t.microseconds range.microseconds))
+spelled t range = postgres_spelled t.months t.days t.microseconds (abs_fits Months t.months (fits_32 t.months range.months))
+    (abs_fits Days t.days (fits_32 t.days range.days)) (abs_fits Micros t.microseconds (fits_64 t.microseconds range.microseconds))
 
 pub postgres_denotes : (t : Interval) → IsInRange t → Denotes IsPostgres (postgres_steps t.months t.days t.microseconds) t
-postgres_denotes t range = Denotes-SumsTo IsPostgres (postgres_steps t.months t.days t.microseconds) (postgres_counts t.months t.days t.microseconds) t range (spelled t range) (sums t range)
+postgres_denotes t range = Denotes-SumsTo IsPostgres (postgres_steps t.months t.days t.microseconds)
+    (postgres_counts t.months t.days t.microseconds) t range (spelled t range) (sums t range)
 
 pub postgres_alone : (t u : Interval) → IsInRange t → Denotes IsPostgres (postgres_steps t.months t.days t.microseconds) u → u ≡ t
 postgres_alone t u range =

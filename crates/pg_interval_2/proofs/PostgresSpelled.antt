@@ -1,5 +1,7 @@
 -- A text written in `postgres` style spells the counts of its interval.
-use Rattle.std.proofs.Common.{◌≡◌, ℕ, ◌<◌, ◌≤◌, ◌^◌, Bool, true, false, not, ◌&&◌, ◌==◌, IsTrue, List, [], ◌∷◌, ◌++◌, codes, decimal, filter, if◌then◌else◌, ℤ, pos, unsigned_abs, int_eq, Some, refl, sym, arith, inl, inr, append_assoc, append-nil}
+use Rattle.std.proofs.Common.{◌≡◌, ℕ, ◌<◌, ◌≤◌, ◌^◌, Bool, true, false, not, ◌&&◌, ◌==◌, IsTrue, List, [], ◌∷◌, ◌++◌, codes, decimal}
+use Rattle.std.proofs.Common.{filter, if◌then◌else◌, ℤ, pos, unsigned_abs, int_eq, Some, refl, sym, arith, inl, inr, append_assoc}
+use Rattle.std.proofs.Common.{append-nil}
 use Rattle.std.proofs.lemmas.Bool.{cond_both, and_parts}
 use Rattle.std.proofs.lemmas.Fmt.{decimal_nonempty}
 use Rattle.std.specs.Int.{is_negative}
@@ -40,7 +42,8 @@ pub counted_unit : (names : TimeUnit → List (List ℕ)) (negative : Bool) (n :
     → unit_named names name ≡ Some unit → unit_named names (name ++ codes "s") ≡ Some unit
     → unit_named names (counted_name negative n name) ≡ Some unit
 unfolding counted_name
-counted_unit names negative n name unit one more = cond_both (not negative && n == 1) _ _ (λ word. unit_named names word ≡ Some unit) (λ _. one) (λ _. more)
+counted_unit names negative n name unit one more = cond_both (not negative && n == 1) _ _ (λ word. unit_named names word ≡ Some unit)
+    (λ _. one) (λ _. more)
 
 named : (names : TimeUnit → List (List ℕ)) (negative : Bool) (n : ℕ) (word : List ℕ) (unit : TimeUnit) → n < 2 ^ 64
     → unit_named names word ≡ Some unit
@@ -69,7 +72,8 @@ part_join : (negative : Bool) (n : ℕ) (name : List ℕ) (unit : TimeUnit) → 
     → unit_named postgres_names (name ++ codes "s") ≡ Some unit
     → IsJoin (IsItem postgres_names) (named_words negative n name) (part_items negative n unit)
 part_join negative n name unit small one more =
-    number_join postgres_names negative n (counted_name negative n name) unit small (counted_unit postgres_names negative n name unit one more)
+    number_join postgres_names negative n (counted_name negative n name) unit small
+        (counted_unit postgres_names negative n name unit one more)
 
 pub all_counts-part : (negative : Bool) (n : ℕ) (unit : TimeUnit) → all_counts (part_items negative n unit) ≡ part_counts negative n unit
 all_counts-part negative n unit =
@@ -135,7 +139,8 @@ clock_join micros small =
 
 all_counts-clock : (micros : ℤ) → all_counts (clock_items micros) ≡ clock_part micros
 all_counts-clock micros =
-    cond_two (int_eq micros (pos 0)) (λ (items : List (List Count)) (counts : List Count). all_counts items ≡ counts) _ _ _ _ (λ _. refl) (λ _. append-nil _)
+    cond_two (int_eq micros (pos 0)) (λ (items : List (List Count)) (counts : List Count). all_counts items ≡ counts) _ _ _ _ (λ _. refl)
+        (λ _. append-nil _)
 
 -- ---- the whole text
 
@@ -151,23 +156,30 @@ rises_clock micros =
 distinct : (months days micros : ℤ) → IsTrue (has_distinct_units (postgres_counts months days micros))
 distinct months days micros =
     distinct_units 0 (postgres_counts months days micros)
-    (rw (append_assoc, append_assoc) (rises_front (years_of months == 0) _ _ (rises_front (months_of months == 0) _ _ (rises_lower _ _ _ (omega arith) (rises_front (unsigned_abs days == 0) _ _ (rises_clock micros))))))
+    (rw (append_assoc, append_assoc) (rises_front (years_of months == 0) _ _
+        (rises_front (months_of months == 0) _ _ (rises_lower _ _ _ (omega arith)
+        (rises_front (unsigned_abs days == 0) _ _ (rises_clock micros))))))
 
 -- the counts of four runs of items
 counts_of_four : (a b c d : List (List Count)) (x y z w : List Count) → all_counts a ≡ x → all_counts b ≡ y → all_counts c ≡ z
     → all_counts d ≡ w
     → (x ++ (y ++ z)) ++ w ≡ all_counts (a ++ (b ++ (c ++ d)))
 counts_of_four a b c d x y z w is_a is_b is_c is_d =
-    rw (all_counts-append a (b ++ (c ++ d)), all_counts-append b (c ++ d), all_counts-append c d, is_a, is_b, is_c, is_d) (simp append_assoc)
+    rw (all_counts-append a (b ++ (c ++ d)), all_counts-append b (c ++ d), all_counts-append c d, is_a, is_b, is_c, is_d)
+        (simp append_assoc)
 
 nonzero_items : (months days micros : ℤ) → unsigned_abs months ≤ 2 ^ 63 → unsigned_abs days ≤ 2 ^ 63 → unsigned_abs micros ≤ 2 ^ 63
     → AreItems postgres_names (postgres_words months days micros) (postgres_counts months days micros)
 nonzero_items months days micros small_months small_days small_micros = (
-  part_items (is_negative months) (years_of months) Year ++ (part_items (is_negative months) (months_of months) Month ++ (part_items (is_negative days) (unsigned_abs days) Day ++ clock_items micros)),
+  part_items (is_negative months) (years_of months) Year ++ (part_items (is_negative months) (months_of months) Month
+      ++ (part_items (is_negative days) (unsigned_abs days) Day ++ clock_items micros)),
   IsJoin-append _ _ _ _ _ (part_join (is_negative months) (years_of months) (codes "year") Year (omega arith) year_names.0 year_names.1)
-      (IsJoin-append _ _ _ _ _ (part_join (is_negative months) (months_of months) (codes "mon") Month (omega arith) month_names.0 month_names.1)
-      (IsJoin-append _ _ _ _ _ (part_join (is_negative days) (unsigned_abs days) (codes "day") Day (omega arith) day_names.0 day_names.1) (clock_join micros small_micros))),
-  counts_of_four (part_items (is_negative months) (years_of months) Year) (part_items (is_negative months) (months_of months) Month) (part_items (is_negative days) (unsigned_abs days) Day) (clock_items micros) _ _ _ _
+      (IsJoin-append _ _ _ _ _ (part_join (is_negative months) (months_of months) (codes "mon") Month
+          (omega arith) month_names.0 month_names.1)
+      (IsJoin-append _ _ _ _ _ (part_join (is_negative days) (unsigned_abs days) (codes "day") Day (omega arith) day_names.0 day_names.1)
+          (clock_join micros small_micros))),
+  counts_of_four (part_items (is_negative months) (years_of months) Year) (part_items (is_negative months) (months_of months) Month)
+      (part_items (is_negative days) (unsigned_abs days) Day) (clock_items micros) _ _ _ _
       (all_counts-part (is_negative months) (years_of months) Year) (all_counts-part (is_negative months) (months_of months) Month)
       (all_counts-part (is_negative days) (unsigned_abs days) Day) (all_counts-clock micros),
   distinct_pairs _ (distinct months days micros),
@@ -193,7 +205,8 @@ zero_clock = record {
 }
 
 zero_items : AreItems postgres_names (codes "00:00:00" ∷ []) []
-zero_items = ([] ∷ [], IsJoin-one (IsItem postgres_names) (codes "00:00:00" ∷ []) [] (inr (codes "00:00:00", zero_clock, refl)), refl, distinct_pairs [] refl)
+zero_items = ([] ∷ [], IsJoin-one (IsItem postgres_names) (codes "00:00:00" ∷ []) [] (inr (codes "00:00:00", zero_clock, refl)), refl,
+    distinct_pairs [] refl)
 
 zero_spelled : (months days micros : ℤ) → int_eq months (pos 0) && (int_eq days (pos 0) && int_eq micros (pos 0)) ≡ true
     → IsPostgres (codes "00:00:00") (postgres_counts months days micros)
@@ -211,4 +224,5 @@ pub postgres_spelled : (months days micros : ℤ) → unsigned_abs months ≤ 2 
 unfolding postgres_steps
 postgres_spelled months days micros small_months small_days small_micros =
     cond_both _ _ _ (λ text. IsPostgres text (postgres_counts months days micros)) (zero_spelled months days micros)
-    (λ _. rw (words-join (postgres_words months days micros) (AreWords-postgres_words months days micros small_months small_days small_micros)) (nonzero_items months days micros small_months small_days small_micros))
+    (λ _. rw (words-join (postgres_words months days micros) (AreWords-postgres_words months days micros small_months small_days
+        small_micros)) (nonzero_items months days micros small_months small_days small_micros))

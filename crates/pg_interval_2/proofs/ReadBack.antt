@@ -29,7 +29,8 @@ steps_alone Iso t u range h = iso_alone t u range (denotes_onto (IsIso unit_in) 
 steps_alone Postgres t u range h = postgres_alone t u range h
 steps_alone Verbose t u range h = verbose_alone t u range h
 steps_alone Sql t u range h = sql_alone t u range h
-steps_alone IsoStrict t u range h = strict_alone t u range (denotes_onto IsIsoStrict IsStrictEither strict_either (steps_of IsoStrict t) u h)
+steps_alone IsoStrict t u range h = strict_alone t u range (denotes_onto IsIsoStrict IsStrictEither strict_either
+    (steps_of IsoStrict t) u h)
 
 pub denotes : (style : Style) (t : Interval) → IsInRange t → Denotes (Shape style) (style_text style t) t
 denotes style t range = subst (λ (l : List ℕ). Denotes (Shape style) l t) (sym (in_steps style t)) (steps_denote style t range)

@@ -17,7 +17,8 @@ pub ok_onto : (S U : List ℕ → List Count → Type 0) → Onto S U → (text 
 ok_onto S U onto text (Ok t) h = denotes_onto S U onto text t h
 ok_onto S U onto text (Err e) h = tt
 
-refuses_onto : (S U : List ℕ → List Count → Type 0) → Onto S U → Onto U S → (B : List ℕ → ℕ → ℕ → Type 0) (message text : List ℕ) (e : ParseError)
+refuses_onto : (S U : List ℕ → List Count → Type 0) → Onto S U → Onto U S
+    → (B : List ℕ → ℕ → ℕ → Type 0) (message text : List ℕ) (e : ParseError)
     → Refuses S B message text e → Refuses U B message text e
 refuses_onto S U onto back B message text (InvalidInterval m) h = ((λ counts shape. h.0 counts (back text counts shape)), h.1, h.2)
 refuses_onto S U onto back B message text (BadUnit start end) h = ((λ counts shape. h.0 counts (back text counts shape)), h.1)
@@ -25,7 +26,8 @@ refuses_onto S U onto back B message text (InvalidYearMonth m) h = ((h.0.0, onto
 refuses_onto S U onto back B message text (InvalidDay m) h = ((h.0.0, onto text h.0.0 h.0.1, h.0.2), h.1)
 refuses_onto S U onto back B message text (InvalidTime m) h = ((h.0.0, onto text h.0.0 h.0.1, h.0.2), h.1)
 
-pub err_onto : (S U : List ℕ → List Count → Type 0) → Onto S U → Onto U S → (B : List ℕ → ℕ → ℕ → Type 0) (message text : List ℕ) (r : Result Interval ParseError)
+pub err_onto : (S U : List ℕ → List Count → Type 0) → Onto S U → Onto U S
+    → (B : List ℕ → ℕ → ℕ → Type 0) (message text : List ℕ) (r : Result Interval ParseError)
     → IfErr r (λ e. Refuses S B message text e) → IfErr r (λ e. Refuses U B message text e)
 err_onto S U onto back B message text (Ok t) h = tt
 err_onto S U onto back B message text (Err e) h = refuses_onto S U onto back B message text e h

@@ -1,5 +1,6 @@
 -- Words with one space between each two.
-use Rattle.std.proofs.Common.{◌≡◌, ℕ, ◌<◌, Bool, true, false, ◌||◌, List, [], ◌∷◌, ◌++◌, codes, length, refl, ap, sym, ◌∙◌, arith, append_assoc, append-nil}
+use Rattle.std.proofs.Common.{◌≡◌, ℕ, ◌<◌, Bool, true, false, ◌||◌, List, [], ◌∷◌, ◌++◌, codes, length, refl, ap, sym, ◌∙◌, arith}
+use Rattle.std.proofs.Common.{append_assoc, append-nil}
 use Rattle.std.specs.List.{join_with_byte}
 use Rattle.scan_core.specs.Blanks.{words}
 use Rattle.scan_core.proofs.WordFacts.{NoBlanks, words-blank, words-first}
@@ -13,7 +14,8 @@ AreWords (word ∷ words) = (0 < length word) × NoBlanks word × AreWords words
 pub join-append : (x y : List ℕ) (xs ys : List (List ℕ))
     → join_with_byte 32 ((x ∷ xs) ++ (y ∷ ys)) ≡ join_with_byte 32 (x ∷ xs) ++ (32 ∷ join_with_byte 32 (y ∷ ys))
 join-append x y [] ys = refl
-join-append x y (z ∷ zs) ys = rw (join-append z y zs ys) (sym (append_assoc x (32 ∷ join_with_byte 32 (z ∷ zs)) (32 ∷ join_with_byte 32 (y ∷ ys))))
+join-append x y (z ∷ zs) ys = rw (join-append z y zs ys) (sym (append_assoc x (32 ∷ join_with_byte 32 (z ∷ zs))
+    (32 ∷ join_with_byte 32 (y ∷ ys))))
 
 -- words behind other words, and more words behind them all
 words_behind-append : (others : Bool) (xs ys : List (List ℕ))
@@ -51,4 +53,5 @@ words-join ([] ∷ more) are = absurd (omega arith)
 words-join ((b ∷ bs) ∷ []) are = ap words (sym (append-nil (b ∷ bs))) ∙ words-first b bs [] are.1 tt
 words-join ((b ∷ bs) ∷ next ∷ more) are =
     words-first b bs (32 ∷ join_with_byte 32 (next ∷ more)) are.1 refl
-    ∙ ap (λ (rest : List (List ℕ)). (b ∷ bs) ∷ rest) (words-blank 32 (join_with_byte 32 (next ∷ more)) refl ∙ words-join (next ∷ more) are.2)
+    ∙ ap (λ (rest : List (List ℕ)). (b ∷ bs) ∷ rest) (words-blank 32 (join_with_byte 32 (next ∷ more)) refl
+        ∙ words-join (next ∷ more) are.2)

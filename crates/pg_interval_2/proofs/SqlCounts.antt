@@ -1,10 +1,12 @@
 -- A text in `sql_standard` style has one list of counts: what the reader finds.
-use Rattle.std.proofs.Common.{◌≡◌, ◌⊎◌, ℕ, cond, Bool, true, false, List, [], ◌∷◌, ◌++◌, Some, option_and_then, refl, sym, ◌∙◌, ap, ap₂, inl, inr, codes}
+use Rattle.std.proofs.Common.{◌≡◌, ◌⊎◌, ℕ, cond, Bool, true, false, List, [], ◌∷◌, ◌++◌, Some, option_and_then, refl, sym, ◌∙◌, ap, ap₂}
+use Rattle.std.proofs.Common.{inl, inr, codes}
 use Rattle.scan_core.specs.Blanks.{is_blank, words, EndsWord}
 use Rattle.scan_core.specs.Count.{Count}
 use Rattle.pg_interval_2.specs.inside.ItemReading.{after_blanks}
 use Rattle.pg_interval_2.specs.Sql.{IsYearMonth, IsSqlTime, AreSqlWords, IsSql}
-use Rattle.pg_interval_2.specs.inside.SqlReading.{YearMonth, Days, word_counts, read_field, read_word, last_time, behind_date, behind_days, read_sql}
+use Rattle.pg_interval_2.specs.inside.SqlReading.{YearMonth, Days, word_counts, read_field, read_word, last_time, behind_date, behind_days}
+use Rattle.pg_interval_2.specs.inside.SqlReading.{read_sql}
 use Rattle.pg_interval_2.proofs.Answering.{HasOneList}
 use Rattle.pg_interval_2.proofs.ItemWords.{first_word, words-after_blanks, words_in_front}
 use Rattle.pg_interval_2.proofs.SqlWords.{year_month_read, days_read, time_read}
@@ -38,7 +40,8 @@ begins : (bytes word : List ℕ) (more : List (List ℕ)) → NoBlankFirst bytes
 begins [] word more clear h = cc
 begins (b ∷ bs) word more clear h =
     let found = first_word b bs clear in
-    let all : words (b ∷ bs) ≡ found.word ∷ words found.rest = ap words found.split ∙ words_in_front found.word found.rest found.some found.solid found.ends in
+    let all : words (b ∷ bs) ≡ found.word ∷ words found.rest = ap words found.split
+        ∙ words_in_front found.word found.rest found.some found.solid found.ends in
     let same : found.word ∷ words found.rest ≡ word ∷ more = sym all ∙ h in
     let word_is : found.word ≡ word = cc in
     record {
@@ -58,7 +61,8 @@ nothing_if : (bytes : List ℕ) → NoBlankFirst bytes → words bytes ≡ [] �
 nothing_if [] clear h = refl
 nothing_if (b ∷ bs) clear h =
     let found = first_word b bs clear in
-    let all : words (b ∷ bs) ≡ found.word ∷ words found.rest = ap words found.split ∙ words_in_front found.word found.rest found.some found.solid found.ends in
+    let all : words (b ∷ bs) ≡ found.word ∷ words found.rest = ap words found.split
+        ∙ words_in_front found.word found.rest found.some found.solid found.ends in
     let clash : found.word ∷ words found.rest ≡ [] = sym all ∙ h in cc
 
 pub no_words : (bytes : List ℕ) → words bytes ≡ [] → after_blanks bytes ≡ []

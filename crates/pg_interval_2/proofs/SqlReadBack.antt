@@ -1,5 +1,6 @@
 -- A text written in `sql_standard` style is read back as its interval, and as no other.
-use Rattle.std.proofs.Common.{◌≡◌, ◌+◌, ◌*◌, ◌≤◌, ◌^◌, Bool, true, false, not, ◌&&◌, ◌||◌, IsTrue, List, [], ◌∷◌, ◌++◌, decimal, ℤ, pos, negsuc, unsigned_abs, int_eq, refl, sym, arith}
+use Rattle.std.proofs.Common.{◌≡◌, ◌+◌, ◌*◌, ◌≤◌, ◌^◌, Bool, true, false, not, ◌&&◌, ◌||◌, IsTrue, List, [], ◌∷◌, ◌++◌, decimal, ℤ, pos}
+use Rattle.std.proofs.Common.{negsuc, unsigned_abs, int_eq, refl, sym, arith}
 use Rattle.std.proofs.lemmas.Bool.{cond_both, and_parts, not-true, not-false}
 use Rattle.std.proofs.lemmas.Bool.Decides.{nat_tests}
 use Rattle.std.proofs.lemmas.Int.{ints}
@@ -37,11 +38,14 @@ year_month-sum t range =
     let month_digits = number_of-decimal (months_of months) (omega arith) in
     record {
       months = AddsUp-same Months _ _ _
-          (AddsUp-append Months (years ∷ []) _ _ _ (field_sum Months years (years_of months) 0 months year_digits (rounded-nil _) (signed-abs months) (omega arith) fits)
+          (AddsUp-append Months (years ∷ []) _ _ _ (field_sum Months years (years_of months) 0 months year_digits (rounded-nil _)
+              (signed-abs months) (omega arith) fits)
           (field_sum Months rest (months_of months) 0 months month_digits (rounded-nil _) (signed-abs months) (omega arith) fits))
           (signed_two months (12 * years_of months + 0) (months_of months) (omega arith));
-      days = AddsUp-append Days (years ∷ []) _ (pos 0) _ (field_nothing Days years (years_of months) 0 year_digits (rounded-nil _) refl) (field_nothing Days rest (months_of months) 0 month_digits (rounded-nil _) refl);
-      micros = AddsUp-append Micros (years ∷ []) _ (pos 0) _ (field_nothing Micros years (years_of months) 0 year_digits (rounded-nil _) refl) (field_nothing Micros rest (months_of months) 0 month_digits (rounded-nil _) refl);
+      days = AddsUp-append Days (years ∷ []) _ (pos 0) _ (field_nothing Days years (years_of months) 0 year_digits (rounded-nil _) refl)
+          (field_nothing Days rest (months_of months) 0 month_digits (rounded-nil _) refl);
+      micros = AddsUp-append Micros (years ∷ []) _ (pos 0) _ (field_nothing Micros years (years_of months) 0 year_digits
+          (rounded-nil _) refl) (field_nothing Micros rest (months_of months) 0 month_digits (rounded-nil _) refl);
     }
 
 days-sum : (t : Interval) → IsInRange t → SumsTo (day_counts (is_negative t.days) t.days) (days_alone t)
@@ -53,7 +57,8 @@ days-sum t range =
     let digits = number_of-decimal (unsigned_abs days) (omega arith) in
     record {
       months = field_nothing Months count (unsigned_abs days) 0 digits (rounded-nil _) refl;
-      days = AddsUp-same Days _ _ _ (field_sum Days count (unsigned_abs days) 0 days digits (rounded-nil _) (signed-abs days) (omega arith) fits) (signed-abs days);
+      days = AddsUp-same Days _ _ _ (field_sum Days count (unsigned_abs days) 0 days digits (rounded-nil _) (signed-abs days)
+          (omega arith) fits) (signed-abs days);
       micros = field_nothing Micros count (unsigned_abs days) 0 digits (rounded-nil _) refl;
     }
 
@@ -65,7 +70,8 @@ signed-sum : (t : Interval) → IsInRange t
     ++ (day_counts (is_negative t.days) t.days ++ three_counts (is_negative t.microseconds) 1 t.microseconds)) t
 signed-sum t range =
     SumsTo-append _ _ _ _ _ (year_month-sum t range)
-    (SumsTo-append _ _ _ _ (record { months = pos 0; days = t.days; microseconds = t.microseconds }) (days-sum t range) (three_counts-sum (is_negative t.microseconds) 1 t range (signed-abs t.microseconds))
+    (SumsTo-append _ _ _ _ (record { months = pos 0; days = t.days; microseconds = t.microseconds }) (days-sum t range)
+        (three_counts-sum (is_negative t.microseconds) 1 t range (signed-abs t.microseconds))
     (omega (arith, ints)) (omega (arith, ints)) (omega (arith, ints)))
     (omega (arith, ints)) (omega (arith, ints)) (omega (arith, ints))
 
@@ -94,7 +100,8 @@ both_or false false false micros h none = cc
 none_beside : (months days micros : ℤ) → has_all_signs months days micros ≡ false → int_eq months (pos 0) ≡ false
     → (int_eq days (pos 0) ≡ true) × (int_eq micros (pos 0) ≡ true)
 unfolding has_all_signs
-none_beside months days micros one some = both_or (has_negative months days micros && has_positive months days micros) (int_eq months (pos 0)) (int_eq days (pos 0)) (int_eq micros (pos 0)) one some
+none_beside months days micros one some = both_or (has_negative months days micros && has_positive months days micros)
+    (int_eq months (pos 0)) (int_eq days (pos 0)) (int_eq micros (pos 0)) one some
 
 no_opposites : (months days micros : ℤ) → has_all_signs months days micros ≡ false
     → has_negative months days micros && has_positive months days micros ≡ false
@@ -123,7 +130,8 @@ plain-sum t range one =
     cond_both (not (int_eq t.days (pos 0))) _ _ (λ counts. SumsTo counts t)
     (λ some.
     let serves = one_sign t.months t.days t.microseconds (not-true _ some) (no_opposites t.months t.days t.microseconds one) in
-    SumsTo-append _ _ _ _ _ (days-sum t range) (three_counts-sum (is_negative t.days) 1 t range serves) (omega (arith, ints, months)) (omega (arith, ints)) (omega (arith, ints)))
+    SumsTo-append _ _ _ _ _ (days-sum t range) (three_counts-sum (is_negative t.days) 1 t range serves) (omega (arith, ints, months))
+        (omega (arith, ints)) (omega (arith, ints)))
     (λ no_days.
     let days = int_eq-zero t.days (not-false _ no_days) in
     SumsTo-same _ _ _ (three_counts-sum (is_negative t.microseconds) 1 t range (signed-abs t.microseconds)) (sym months) (sym days) refl))
@@ -135,10 +143,12 @@ sql-sum t range =
     let outer = and_parts _ _ zero in
     let inner = and_parts _ _ outer.1 in
     SumsTo-nil t (int_eq-zero t.months outer.0) (int_eq-zero t.days inner.0) (int_eq-zero t.microseconds inner.1))
-    (λ _. cond_both (has_all_signs t.months t.days t.microseconds) _ _ (λ counts. SumsTo counts t) (λ _. signed-sum t range) (λ one. plain-sum t range one))
+    (λ _. cond_both (has_all_signs t.months t.days t.microseconds) _ _ (λ counts. SumsTo counts t) (λ _. signed-sum t range)
+        (λ one. plain-sum t range one))
 
 spelled : (t : Interval) → IsInRange t → IsSql (sql_steps t.months t.days t.microseconds) (sql_counts t.months t.days t.microseconds)
-spelled t range = sql_spelled t.months t.days t.microseconds (abs_fits Months t.months (fits_32 t.months range.months)) (abs_fits Days t.days (fits_32 t.days range.days)) (abs_fits Micros t.microseconds (fits_64 t.microseconds range.microseconds))
+spelled t range = sql_spelled t.months t.days t.microseconds (abs_fits Months t.months (fits_32 t.months range.months))
+    (abs_fits Days t.days (fits_32 t.days range.days)) (abs_fits Micros t.microseconds (fits_64 t.microseconds range.microseconds))
 
 pub sql_denotes : (t : Interval) → IsInRange t → Denotes IsSql (sql_steps t.months t.days t.microseconds) t
 sql_denotes t range = Denotes-SumsTo IsSql _ _ t range (spelled t range) (sql-sum t range)

@@ -1,5 +1,6 @@
 -- A text written in `sql_standard` style spells the counts of its interval.
-use Rattle.std.proofs.Common.{ℕ, ◌<◌, ◌≤◌, ◌^◌, Bool, true, false, not, ◌&&◌, List, [], ◌∷◌, ◌++◌, length, ◌==◌, codes, decimal, if◌then◌else◌, ℤ, pos, unsigned_abs, int_eq, refl, sym, ap, subst, arith, inl, inr}
+use Rattle.std.proofs.Common.{ℕ, ◌<◌, ◌≤◌, ◌^◌, Bool, true, false, not, ◌&&◌, List, [], ◌∷◌, ◌++◌, length, ◌==◌, codes, decimal}
+use Rattle.std.proofs.Common.{if◌then◌else◌, ℤ, pos, unsigned_abs, int_eq, refl, sym, ap, subst, arith, inl, inr}
 use Rattle.std.proofs.lemmas.Fmt.{decimal_nonempty}
 use Rattle.std.proofs.lemmas.Bool.{cond_both}
 use Rattle.std.specs.Int.{is_negative}
@@ -15,7 +16,8 @@ use Rattle.scan_core.specs.Number.{minus}
 use Rattle.pg_interval_2.specs.inside.PartSteps.{years_of, months_of, hours_of, minutes_of, seconds_of, subsecond_of}
 use Rattle.pg_interval_2.specs.Sql.{IsSignOr, IsYearMonth, IsDays, IsSqlTime, AreSqlWords, IsSql}
 use Rattle.scan_core.specs.Number.{sign_text}
-use Rattle.pg_interval_2.specs.inside.SqlSteps.{has_all_signs, year_month_text, signed_text, months_text, days_text, time_text, plain_text, sql_steps}
+use Rattle.pg_interval_2.specs.inside.SqlSteps.{has_all_signs, year_month_text, signed_text, months_text, days_text, time_text, plain_text}
+use Rattle.pg_interval_2.specs.inside.SqlSteps.{sql_steps}
 use Rattle.pg_interval_2.proofs.ClockCounts.{micros_digits, uncut_micros, three_counts}
 use Rattle.pg_interval_2.proofs.PostgresSpelled.{padded_field, fraction_is}
 use Rattle.pg_interval_2.proofs.Spaces.{AreWords, words-join}
@@ -43,7 +45,8 @@ decimal_field : (n : ℕ) → n < 2 ^ 64 → AreSomeDigits (decimal n)
 decimal_field n small = (decimal_nonempty n small, digits_decimal n small)
 
 abbrev pub year_month_counts : Bool → ℤ → List Count
-year_month_counts negative months = count_of negative (decimal (years_of months)) [] Year ∷ count_of negative (decimal (months_of months)) [] Month ∷ []
+year_month_counts negative months = count_of negative (decimal (years_of months)) [] Year ∷ count_of negative
+    (decimal (months_of months)) [] Month ∷ []
 
 year_month_is : (negative : Bool) (sign : List ℕ) (months : ℤ) → IsSignOr false negative sign → unsigned_abs months ≤ 2 ^ 63
     → IsYearMonth (sign ++ year_month_text months) (year_month_counts negative months)
@@ -76,7 +79,8 @@ days_are negative sign days signed small = record {
 
 short_micros : (micros : ℕ) → micros < 1_000_000 → length (micros_digits micros) ≤ 6
 short_micros micros below =
-    cond_both (micros == 0) _ _ (λ (digits : List ℕ). length digits ≤ 6) (λ _. omega arith) (λ _. omega (arith, length-padded 6 micros, length_decimal_micros micros below))
+    cond_both (micros == 0) _ _ (λ (digits : List ℕ). length digits ≤ 6) (λ _. omega arith)
+        (λ _. omega (arith, length-padded 6 micros, length_decimal_micros micros below))
 
 time_is : (default negative : Bool) (sign : List ℕ) (micros : ℤ) → IsSignOr default negative sign → unsigned_abs micros ≤ 2 ^ 63
     → IsSqlTime default (sign ++ clock_steps 1 micros) (three_counts negative 1 micros)
@@ -102,7 +106,9 @@ time_is default negative sign micros signed small = record {
     counted = refl;
   });
   joined = refl;
-  counted = let whole = uncut_micros (subsecond_of micros) (omega arith) in ap (λ (fraction : List ℕ). count_of negative (padded_digits 1 (hours_of micros)) [] Hour ∷ count_of negative (padded_digits 2 (minutes_of micros)) [] Minute ∷ count_of negative (padded_digits 2 (seconds_of micros)) fraction Second ∷ []) whole;
+  counted = let whole = uncut_micros (subsecond_of micros) (omega arith) in
+      ap (λ (fraction : List ℕ). count_of negative (padded_digits 1 (hours_of micros)) [] Hour ∷ count_of negative
+      (padded_digits 2 (minutes_of micros)) [] Minute ∷ count_of negative (padded_digits 2 (seconds_of micros)) fraction Second ∷ []) whole;
 }
 
 -- ---- texts
@@ -122,9 +128,11 @@ signed_spelled months days micros small_months small_days small_micros =
     let solid_date = year_month_solid _ _ date in
     let solid_day = days_solid _ _ _ day in
     let solid_time = time_solid _ _ _ time in
-    spelled_by ((sign_text (is_negative months) ++ year_month_text months) ∷ (sign_text (is_negative days) ++ decimal (unsigned_abs days)) ∷ (sign_text (is_negative micros) ++ clock_steps 1 micros) ∷ []) _
+    spelled_by ((sign_text (is_negative months) ++ year_month_text months) ∷ (sign_text (is_negative days) ++ decimal (unsigned_abs days)) ∷
+        (sign_text (is_negative micros) ++ clock_steps 1 micros) ∷ []) _
     (solid_date.0, solid_date.1, (solid_day.0, solid_day.1, (solid_time.0, solid_time.1, tt)))
-    (is_negative days, year_month_counts (is_negative months) months, day_counts (is_negative days) days, three_counts (is_negative micros) 1 micros, date, day, time, refl)
+    (is_negative days, year_month_counts (is_negative months) months, day_counts (is_negative days) days,
+        three_counts (is_negative micros) 1 micros, date, day, time, refl)
 
 months_spelled : (months : ℤ) → unsigned_abs months ≤ 2 ^ 63 → IsSql (months_text months) (year_month_counts (is_negative months) months)
 unfolding months_text
@@ -141,7 +149,8 @@ days_spelled days micros small_days small_micros =
     let time = time_is (is_negative days) (is_negative days) [] micros (governed (is_negative days)) small_micros in
     let solid_day = days_solid _ _ _ day in
     let solid_time = time_solid _ _ _ time in
-    spelled_by ((minus (is_negative days) ++ decimal (unsigned_abs days)) ∷ clock_steps 1 micros ∷ []) _ (solid_day.0, solid_day.1, (solid_time.0, solid_time.1, tt))
+    spelled_by ((minus (is_negative days) ++ decimal (unsigned_abs days)) ∷ clock_steps 1 micros ∷ []) _
+        (solid_day.0, solid_day.1, (solid_time.0, solid_time.1, tt))
     (is_negative days, day_counts (is_negative days) days, three_counts (is_negative days) 1 micros, day, time, refl)
 
 time_spelled : (micros : ℤ) → unsigned_abs micros ≤ 2 ^ 63 → IsSql (time_text micros) (three_counts (is_negative micros) 1 micros)
@@ -154,18 +163,22 @@ time_spelled micros small =
 -- the counts of the written text
 abbrev pub plain_counts : ℤ → ℤ → ℤ → List Count
 plain_counts months days micros =
-    if not (int_eq months (pos 0)) then year_month_counts (is_negative months) months else if not (int_eq days (pos 0)) then (day_counts (is_negative days) days ++ three_counts (is_negative days) 1 micros) else three_counts (is_negative micros) 1 micros
+    if not (int_eq months (pos 0)) then year_month_counts (is_negative months) months else if not (int_eq days (pos 0)) then
+        (day_counts (is_negative days) days ++ three_counts (is_negative days) 1 micros) else three_counts (is_negative micros) 1 micros
 
 abbrev pub sql_counts : ℤ → ℤ → ℤ → List Count
 sql_counts months days micros =
-    if int_eq months (pos 0) && (int_eq days (pos 0) && int_eq micros (pos 0)) then [] else if has_all_signs months days micros then (year_month_counts (is_negative months) months ++ (day_counts (is_negative days) days ++ three_counts (is_negative micros) 1 micros)) else plain_counts months days micros
+    if int_eq months (pos 0) && (int_eq days (pos 0) && int_eq micros (pos 0)) then [] else if has_all_signs months days micros then
+        (year_month_counts (is_negative months) months ++ (day_counts (is_negative days) days
+        ++ three_counts (is_negative micros) 1 micros)) else plain_counts months days micros
 
 plain_spelled : (months days micros : ℤ) → unsigned_abs months ≤ 2 ^ 63 → unsigned_abs days ≤ 2 ^ 63 → unsigned_abs micros ≤ 2 ^ 63
     → IsSql (plain_text months days micros) (plain_counts months days micros)
 unfolding plain_text
 plain_spelled months days micros small_months small_days small_micros =
     cond_two (not (int_eq months (pos 0))) IsSql _ _ _ _ (λ _. months_spelled months small_months) (λ _.
-    cond_two (not (int_eq days (pos 0))) IsSql _ _ _ _ (λ _. days_spelled days micros small_days small_micros) (λ _. time_spelled micros small_micros))
+    cond_two (not (int_eq days (pos 0))) IsSql _ _ _ _ (λ _. days_spelled days micros small_days small_micros)
+        (λ _. time_spelled micros small_micros))
 
 -- the written text spells these counts
 pub sql_spelled : (months days micros : ℤ) → unsigned_abs months ≤ 2 ^ 63 → unsigned_abs days ≤ 2 ^ 63 → unsigned_abs micros ≤ 2 ^ 63
@@ -173,4 +186,5 @@ pub sql_spelled : (months days micros : ℤ) → unsigned_abs months ≤ 2 ^ 63 
 unfolding sql_steps
 sql_spelled months days micros small_months small_days small_micros =
     cond_two (int_eq months (pos 0) && (int_eq days (pos 0) && int_eq micros (pos 0))) IsSql _ _ _ _ (λ _. inl (refl, refl)) (λ _.
-    cond_two (has_all_signs months days micros) IsSql _ _ _ _ (λ _. signed_spelled months days micros small_months small_days small_micros) (λ _. plain_spelled months days micros small_months small_days small_micros))
+    cond_two (has_all_signs months days micros) IsSql _ _ _ _ (λ _. signed_spelled months days micros small_months small_days small_micros)
+        (λ _. plain_spelled months days micros small_months small_days small_micros))

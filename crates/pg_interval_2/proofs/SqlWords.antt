@@ -1,5 +1,6 @@
 -- A word of a text in `sql_standard` style that stands in front is read.
-use Rattle.std.proofs.Common.{◌≤◌, ◌≡◌, ℕ, ◌==◌, Bool, true, false, nat_le, List, [], ◌∷◌, ◌++◌, length, Option, Some, None, option_and_then, refl, ◌∙◌, ap, append_assoc, arith, inl, inr, codes, lt-ltb}
+use Rattle.std.proofs.Common.{◌≤◌, ◌≡◌, ℕ, ◌==◌, Bool, true, false, nat_le, List, [], ◌∷◌, ◌++◌, length, Option, Some, None}
+use Rattle.std.proofs.Common.{option_and_then, refl, ◌∙◌, ap, append_assoc, arith, inl, inr, codes, lt-ltb}
 use Rattle.std.proofs.lemmas.Bool.Decides.{nat_tests}
 use Rattle.scan_core.specs.Blanks.{is_blank, EndsWord}
 use Rattle.scan_core.specs.Count.{Count, count_of}
@@ -9,7 +10,9 @@ use Rattle.scan_core.specs.Digits.{AreSomeDigits}
 use Rattle.pg_interval_2.specs.inside.ItemReading.{after_blanks}
 use Rattle.pg_interval_2.specs.Sql.{IsSignOr, IsYearMonth, IsDays, IsSqlTime}
 use Rattle.pg_interval_2.specs.inside.SqlParts.{HasSeconds}
-use Rattle.pg_interval_2.specs.inside.SqlReading.{SqlWord, YearMonth, Days, Time, seconds_counts, word_counts, read_sign_or, read_field, read_seconds, read_perhaps_seconds, read_time, read_months, read_behind, closed_word, read_word}
+use Rattle.pg_interval_2.specs.inside.SqlReading.{SqlWord, YearMonth, Days, Time, seconds_counts, word_counts, read_sign_or, read_field}
+use Rattle.pg_interval_2.specs.inside.SqlReading.{read_seconds, read_perhaps_seconds, read_time, read_months, read_behind, closed_word}
+use Rattle.pg_interval_2.specs.inside.SqlReading.{read_word}
 use Rattle.scan_core.specs.Fronts.{NoDigitFirst}
 use Rattle.scan_core.proofs.FrontFacts.{front_of, after_of}
 use Rattle.pg_interval_2.proofs.Numbers.{NoSignFirst, fraction_of, tail_no_digit}
@@ -38,7 +41,8 @@ field_read field rest h n =
     rw (front, after, some) refl
 
 -- the first digits of a word are read, and what they are is told by what follows them
-word_read : (default negative : Bool) (sign digits tail : List ℕ) → IsSignOr default negative sign → AreSomeDigits digits → NoDigitFirst tail
+word_read : (default negative : Bool) (sign digits tail : List ℕ) → IsSignOr default negative sign → AreSomeDigits digits
+    → NoDigitFirst tail
     → read_word default (sign ++ (digits ++ tail)) ≡ option_and_then closed_word (read_behind negative digits tail)
 unfolding read_word
 word_read default negative sign digits tail signed field n =
@@ -60,7 +64,8 @@ pub year_month_read : (word rest : List ℕ) (counts : List Count) (h : IsYearMo
     → read_word false (word ++ rest) ≡ Some (YearMonth h.negative h.years h.months, after_blanks rest)
 year_month_read word rest counts h ends =
     let split : word ++ rest ≡ h.sign ++ (h.years ++ (codes "-" ++ (h.months ++ rest))) =
-    ap (λ (l : List ℕ). l ++ rest) h.joined ∙ append_assoc h.sign (h.years ++ (codes "-" ++ h.months)) rest ∙ ap (λ (l : List ℕ). h.sign ++ l) (append_assoc h.years (codes "-" ++ h.months) rest) in
+    ap (λ (l : List ℕ). l ++ rest) h.joined ∙ append_assoc h.sign (h.years ++ (codes "-" ++ h.months)) rest
+        ∙ ap (λ (l : List ℕ). h.sign ++ l) (append_assoc h.years (codes "-" ++ h.months) rest) in
     let first = word_read false h.negative h.sign h.years (codes "-" ++ (h.months ++ rest)) h.signed h.year_field refl in
     let behind = months_read h.negative h.years h.months rest h.month_field ends in
     ap (read_word false) split ∙ first ∙ rw behind (word_ends rest (YearMonth h.negative h.years h.months) ends)
@@ -95,7 +100,8 @@ no_seconds : (rest : List ℕ) → EndsWord rest → read_perhaps_seconds rest �
 no_seconds [] ends = refl
 no_seconds (b ∷ bs) ends = let other = (blank_is_no b ends).2 in rw other refl
 
-seconds_behind : (seconds fraction tail rest : List ℕ) → AreSomeDigits seconds → IsFraction fraction tail → length fraction ≤ 6 → EndsWord rest
+seconds_behind : (seconds fraction tail rest : List ℕ) → AreSomeDigits seconds → IsFraction fraction tail → length fraction ≤ 6
+    → EndsWord rest
     → read_seconds (seconds ++ (tail ++ rest)) ≡ Some ((seconds, fraction), rest)
 unfolding read_seconds
 seconds_behind seconds fraction tail rest digits point few ends =
@@ -134,7 +140,8 @@ minutes_read : (negative : Bool) (hours minutes piece rest : List ℕ) (seconds 
     → NoDigitFirst (piece ++ rest) → read_perhaps_seconds (piece ++ rest) ≡ Some (seconds, rest)
     → read_time negative hours (minutes ++ (piece ++ rest)) ≡ Some (Time negative hours minutes seconds, rest)
 unfolding read_time
-minutes_read negative hours minutes piece rest seconds field n read = let found = field_read minutes (piece ++ rest) field n in rw (found, read) refl
+minutes_read negative hours minutes piece rest seconds field n read = let found = field_read minutes (piece ++ rest) field n in
+    rw (found, read) refl
 
 pub time_read : (default : Bool) (word rest : List ℕ) (counts : List Count) → IsSqlTime default word counts → EndsWord rest
     → ReadsTime default word rest counts
@@ -152,5 +159,6 @@ time_read default word rest counts h ends =
       minutes = h.minutes;
       seconds = seconds.seconds;
       read = ap (read_word default) split ∙ first ∙ rw behind (word_ends rest (Time h.negative h.hours h.minutes seconds.seconds) ends);
-      counted = h.counted ∙ ap (λ (more : List Count). count_of h.negative h.hours [] Hour ∷ count_of h.negative h.minutes [] Minute ∷ more) seconds.counted;
+      counted = h.counted ∙ ap (λ (more : List Count). count_of h.negative h.hours [] Hour ∷ count_of h.negative h.minutes [] Minute ∷ more)
+          seconds.counted;
     }

@@ -49,7 +49,8 @@ SumsTo-append xs ys t u v first second months days micros = record {
 
 pub SumsTo-date_time : (dates times : List Count) (t : Interval) → SumsTo dates (date_of t) → SumsTo times (time_of t)
     → SumsTo (dates ++ times) t
-SumsTo-date_time dates times t date time = SumsTo-append dates times (date_of t) (time_of t) t date time (omega (arith, ints)) (omega (arith, ints)) (omega (arith, ints))
+SumsTo-date_time dates times t date time = SumsTo-append dates times (date_of t) (time_of t) t date time (omega (arith, ints))
+    (omega (arith, ints)) (omega (arith, ints))
 
 pub sum_of-SumsTo : (counts : List Count) (t : Interval) → SumsTo counts t → t ≡ sum_of counts
 sum_of-SumsTo counts t sums = rw (sums.months.total_is, sums.days.total_is, sums.micros.total_is) refl

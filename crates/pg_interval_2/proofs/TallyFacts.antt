@@ -20,7 +20,8 @@ use Rattle.pg_interval_2.specs.inside.Tallies.{Tallies, each_fits, marked}
 
 each_fits_push : (part : Part) (counts : List Count) (c : Count)
     → each_fits part (counts ++ c ∷ []) ≡ (each_fits part counts && fits_type part (share part c))
-each_fits_push part counts c = list_all-append _ counts (c ∷ []) ∙ ap (λ (b : Bool). each_fits part counts && b) (and-true (fits_type part (share part c)))
+each_fits_push part counts c = list_all-append _ counts (c ∷ [])
+    ∙ ap (λ (b : Bool). each_fits part counts && b) (and-true (fits_type part (share part c)))
 
 -- the new tally is the old one with a share that fits
 pub record AddsShare (old new : Tally) (c : Count) : Type 0 where
@@ -48,8 +49,10 @@ tally_share old new counts c digits fits adds h =
       days = λ m. adds.days_fit ∙ h.days (sym months ∙ m) ∙ sym days;
       micros = λ m d. adds.micros_fit ∙ h.micros (sym months ∙ m) (sym days ∙ d) ∙ sym micros;
       month_sum = λ m. adds.months ∙ ap (λ (z : ℤ). z +ℤ share Months c) (h.month_sum (sym months ∙ m)) ∙ sym (total_push Months counts c);
-      day_sum = λ m d. adds.days ∙ ap (λ (z : ℤ). z +ℤ share Days c) (h.day_sum (sym months ∙ m) (sym days ∙ d)) ∙ sym (total_push Days counts c);
-      micro_sum = λ m d u. adds.micros ∙ ap (λ (z : ℤ). z +ℤ share Micros c) (h.micro_sum (sym months ∙ m) (sym days ∙ d) (sym micros ∙ u)) ∙ sym (total_push Micros counts c);
+      day_sum = λ m d. adds.days ∙ ap (λ (z : ℤ). z +ℤ share Days c) (h.day_sum (sym months ∙ m) (sym days ∙ d))
+          ∙ sym (total_push Days counts c);
+      micro_sum = λ m d u. adds.micros ∙ ap (λ (z : ℤ). z +ℤ share Micros c) (h.micro_sum (sym months ∙ m) (sym days ∙ d) (sym micros ∙ u))
+          ∙ sym (total_push Micros counts c);
     }
 
 pub off_unless : (x : Bool) → (x ≡ true → false ≡ true) → x ≡ false
@@ -114,8 +117,12 @@ pub tally_mark : (unit : TimeUnit) (negative : Bool) (whole fraction : List ℕ)
     → Tallies (marked (main_part unit) tally) (counts ++ count_of negative whole fraction unit ∷ [])
 tally_mark Year n w f tally counts out h = mark_months tally counts (count_of n w f Year) out h
 tally_mark Month n w f tally counts out h = mark_months tally counts (count_of n w f Month) out h
-tally_mark Week n w f tally counts out h = mark_days tally counts (count_of n w f Week) (fits_type-signed_zero Months n) (signed-zero n) out h
+tally_mark Week n w f tally counts out h = mark_days tally counts (count_of n w f Week) (fits_type-signed_zero Months n)
+    (signed-zero n) out h
 tally_mark Day n w f tally counts out h = mark_days tally counts (count_of n w f Day) (fits_type-signed_zero Months n) (signed-zero n) out h
-tally_mark Hour n w f tally counts out h = mark_micros tally counts (count_of n w f Hour) (fits_type-signed_zero Months n) (signed-zero n) (fits_type-signed_zero Months n) (signed-zero n) out h
-tally_mark Minute n w f tally counts out h = mark_micros tally counts (count_of n w f Minute) (fits_type-signed_zero Months n) (signed-zero n) (fits_type-signed_zero Months n) (signed-zero n) out h
-tally_mark Second n w f tally counts out h = mark_micros tally counts (count_of n w f Second) (fits_type-signed_zero Months n) (signed-zero n) (fits_type-signed_zero Months n) (signed-zero n) out h
+tally_mark Hour n w f tally counts out h = mark_micros tally counts (count_of n w f Hour) (fits_type-signed_zero Months n) (signed-zero n)
+    (fits_type-signed_zero Months n) (signed-zero n) out h
+tally_mark Minute n w f tally counts out h = mark_micros tally counts (count_of n w f Minute) (fits_type-signed_zero Months n)
+    (signed-zero n) (fits_type-signed_zero Months n) (signed-zero n) out h
+tally_mark Second n w f tally counts out h = mark_micros tally counts (count_of n w f Second) (fits_type-signed_zero Months n)
+    (signed-zero n) (fits_type-signed_zero Months n) (signed-zero n) out h

@@ -1,5 +1,6 @@
 -- The end of a text, looked at from its last byte on: blanks, and `ago` or none.
-use Rattle.std.proofs.Common.{◌≡◌, ℕ, ◌-◌, Bool, true, false, not, List, [], ◌∷◌, ◌++◌, length, take, codes, refl, sym, ◌∙◌, ap, append_assoc, take_all, arith}
+use Rattle.std.proofs.Common.{◌≡◌, ℕ, ◌-◌, Bool, true, false, not, List, [], ◌∷◌, ◌++◌, length, take, codes, refl, sym, ◌∙◌, ap}
+use Rattle.std.proofs.Common.{append_assoc, take_all, arith}
 use Rattle.std.proofs.lemmas.List.{append_cancel_right}
 use Rattle.std.specs.List.{list_all}
 use Rattle.std.proofs.lemmas.Bool.{and_parts}
@@ -63,7 +64,8 @@ Lacks bytes end = (front : List ℕ) → bytes ≡ front ++ end → ⊥
 pub no_a : (bytes before first : List ℕ) → bytes ≡ before ++ 111 ∷ [] → before ≡ first ++ 103 ∷ [] → Lacks first (97 ∷ [])
     → Lacks bytes (codes "ago")
 no_a bytes before first o g lacks front e =
-    let less = append_cancel_right before (front ++ (97 ∷ 103 ∷ [])) (111 ∷ []) (sym o ∙ e ∙ sym (append_assoc front (97 ∷ 103 ∷ []) (111 ∷ []))) in
+    let less = append_cancel_right before (front ++ (97 ∷ 103 ∷ [])) (111 ∷ [])
+        (sym o ∙ e ∙ sym (append_assoc front (97 ∷ 103 ∷ []) (111 ∷ []))) in
     let least = append_cancel_right first (front ++ (97 ∷ [])) (103 ∷ []) (sym g ∙ less ∙ sym (append_assoc front (97 ∷ []) (103 ∷ []))) in
     lacks front least
 

@@ -1,5 +1,6 @@
 -- The written texts as the public definitions say them are those that the writers push step by step.
-use Rattle.std.proofs.Common.{◌≡◌, ℕ, pos, unsigned_abs, Bool, true, false, List, [], ◌∷◌, ◌++◌, codes, decimal, ◌==◌, if◌then◌else◌, refl, sym, ◌∙◌, ap, append_assoc, append-nil, int_eq}
+use Rattle.std.proofs.Common.{◌≡◌, ℕ, pos, unsigned_abs, Bool, true, false, List, [], ◌∷◌, ◌++◌, codes, decimal, ◌==◌, if◌then◌else◌, refl}
+use Rattle.std.proofs.Common.{sym, ◌∙◌, ap, append_assoc, append-nil, int_eq}
 use Rattle.std.specs.List.{join_with_byte}
 use Rattle.std.specs.Int.{is_negative}
 use Rattle.scan_core.specs.Number.{minus}
@@ -20,7 +21,8 @@ use Rattle.pg_interval_2.specs.inside.PartSteps.{years_of, months_of, hours_of, 
 use Rattle.pg_interval_2.specs.inside.PostgresSteps.{counted_name, number_words, clock_words, postgres_steps}
 use Rattle.pg_interval_2.specs.inside.SqlSteps.{year_month_text, signed_text, months_text, days_text, time_text, plain_text, sql_steps}
 use Rattle.pg_interval_2.specs.inside.SqlSteps as sql
-use Rattle.pg_interval_2.specs.inside.VerboseSteps.{behind_spaces, unit_words, second_digits, verbose_date, verbose_time, parts_text, verbose_steps}
+use Rattle.pg_interval_2.specs.inside.VerboseSteps.{behind_spaces, unit_words, second_digits, verbose_date, verbose_time, parts_text}
+use Rattle.pg_interval_2.specs.inside.VerboseSteps.{verbose_steps}
 use Rattle.pg_interval_2.specs.inside.VerboseSteps as verbose
 use Rattle.pg_interval_2.proofs.SpacedWords.{behind_spaces-append}
 
@@ -64,9 +66,11 @@ spaced word (next ∷ more) = ap (λ (l : List ℕ). word ++ (32 ∷ l)) (spaced
 
 seven : (y m d h i s e : List (List ℕ))
     → behind_spaces (y ++ (m ++ (d ++ (h ++ (i ++ (s ++ e))))))
-    ≡ (behind_spaces y ++ (behind_spaces m ++ behind_spaces d)) ++ ((behind_spaces h ++ (behind_spaces i ++ behind_spaces s)) ++ behind_spaces e)
+    ≡ (behind_spaces y ++ (behind_spaces m ++ behind_spaces d))
+        ++ ((behind_spaces h ++ (behind_spaces i ++ behind_spaces s)) ++ behind_spaces e)
 seven y m d h i s e =
-    rw (behind_spaces-append, behind_spaces-append, behind_spaces-append, behind_spaces-append, behind_spaces-append, behind_spaces-append, append_assoc, append_assoc, append_assoc, append_assoc) refl
+    rw (behind_spaces-append, behind_spaces-append, behind_spaces-append, behind_spaces-append, behind_spaces-append, behind_spaces-append,
+        append_assoc, append_assoc, append_assoc, append_assoc) refl
 
 end_same : (ago : Bool) → behind_spaces (if ago then (codes "ago" ∷ []) else []) ≡ (if ago then codes " ago" else [])
 end_same true = refl
@@ -79,19 +83,24 @@ behind_at true ws rest h = refl
 behind_at false ws rest h = spaced (codes "@") ws ∙ ap (λ (l : List ℕ). codes "@" ++ l) h
 
 pub verbose_in_steps : (t : Interval) → verbose_text t ≡ verbose_steps t.months t.days t.microseconds
-unfolding verbose_text verbose_steps parts_text verbose_date verbose_time verbose.has_ago second_words verbose.second_words second_digits part_words number_words counted_name
+unfolding verbose_text verbose_steps parts_text verbose_date verbose_time verbose.has_ago second_words verbose.second_words second_digits
+    part_words number_words counted_name
 verbose_in_steps t =
     let ago : Bool = has_ago t in
     let month_sign : Bool = turned_sign ago (is_negative t.months) in
     let time_sign : Bool = turned_sign ago (is_negative t.microseconds) in
     behind_at (is_zero t) _ _
-    (seven (unit_words month_sign (years_of t.months) (codes "year")) (unit_words month_sign (months_of t.months) (codes "mon")) (unit_words (turned_sign ago (is_negative t.days)) (unsigned_abs t.days) (codes "day")) (unit_words time_sign (hours_of t.microseconds) (codes "hour")) (unit_words time_sign (minutes_of t.microseconds) (codes "min")) (verbose.second_words time_sign (seconds_of t.microseconds) (subsecond_of t.microseconds)) (if ago then (codes "ago" ∷ []) else [])
+    (seven (unit_words month_sign (years_of t.months) (codes "year")) (unit_words month_sign (months_of t.months) (codes "mon"))
+        (unit_words (turned_sign ago (is_negative t.days)) (unsigned_abs t.days) (codes "day"))
+        (unit_words time_sign (hours_of t.microseconds) (codes "hour")) (unit_words time_sign (minutes_of t.microseconds) (codes "min"))
+        (verbose.second_words time_sign (seconds_of t.microseconds) (subsecond_of t.microseconds)) (if ago then (codes "ago" ∷ []) else [])
     ∙ ap (λ (l : List ℕ). verbose_date ago t.months t.days ++ (verbose_time ago t.microseconds ++ l)) (end_same ago))
 
 -- ---- the SQL style
 
 pub sql_in_steps : (t : Interval) → sql_text t ≡ sql_steps t.months t.days t.microseconds
-unfolding sql_text sql_steps sql.has_all_signs year_month_text signed_text months_text days_text time_text plain_text clock_steps hours_text field_text fraction_text
+unfolding sql_text sql_steps sql.has_all_signs year_month_text signed_text months_text days_text time_text plain_text clock_steps hours_text
+    field_text fraction_text
 sql_in_steps t = refl
 
 -- ---- all styles

@@ -14,7 +14,8 @@ place_small Minute = omega arith
 place_small Second = omega arith
 
 pub unit_at : ℕ → TimeUnit
-unit_at n = cond (n == 0) Year (cond (n == 1) Month (cond (n == 2) Week (cond (n == 3) Day (cond (n == 4) Hour (cond (n == 5) Minute Second)))))
+unit_at n = cond (n == 0) Year (cond (n == 1) Month (cond (n == 2) Week
+    (cond (n == 3) Day (cond (n == 4) Hour (cond (n == 5) Minute Second)))))
 
 pub at_place : (unit : TimeUnit) → unit_at (place_of unit) ≡ unit
 unfolding unit_at

@@ -1,5 +1,6 @@
 -- Counts whose units go from the greater to the smaller count no unit twice.
-use Rattle.std.proofs.Common.{◌≡◌, ℕ, suc, ◌<◌, ◌≤◌, Bool, true, false, cond, not, ◌==◌, IsTrue, List, [], ◌∷◌, ◌++◌, filter, refl, ap, arith}
+use Rattle.std.proofs.Common.{◌≡◌, ℕ, suc, ◌<◌, ◌≤◌, Bool, true, false, cond, not, ◌==◌, IsTrue, List, [], ◌∷◌, ◌++◌, filter, refl, ap}
+use Rattle.std.proofs.Common.{arith}
 use Rattle.std.proofs.lemmas.Bool.{and_from, ne_eqb}
 use Rattle.std.specs.List.{list_any}
 use Rattle.scan_core.specs.Count.{Count}
@@ -27,7 +28,8 @@ rises_kept false low c all rest below rises = rises_lower _ _ rest (omega arith)
 
 pub rises_filter : (test : Count → Bool) (low : ℕ) (counts : List Count) → RisesFrom low counts → RisesFrom low (filter test counts)
 rises_filter test low [] rises = tt
-rises_filter test low (c ∷ cs) rises = rises_kept (test c) low c cs (filter test cs) rises.0 (rises_filter test (suc (place_of c.unit)) cs rises.1)
+rises_filter test low (c ∷ cs) rises = rises_kept (test c) low c cs (filter test cs) rises.0
+    (rises_filter test (suc (place_of c.unit)) cs rises.1)
 
 unit_below : (place low : ℕ) (counts : List Count) → place < low → RisesFrom low counts
     → list_any (λ c. place_of c.unit == place) counts ≡ false
@@ -39,4 +41,5 @@ unit_below place low (c ∷ cs) below rises =
 pub distinct_units : (low : ℕ) (counts : List Count) → RisesFrom low counts → IsTrue (has_distinct_units counts)
 distinct_units low [] rises = refl
 distinct_units low (c ∷ cs) rises =
-    and_from _ _ (ap not (unit_below (place_of c.unit) (suc (place_of c.unit)) cs (omega arith) rises.1)) (distinct_units (suc (place_of c.unit)) cs rises.1)
+    and_from _ _ (ap not (unit_below (place_of c.unit) (suc (place_of c.unit)) cs (omega arith) rises.1))
+        (distinct_units (suc (place_of c.unit)) cs rises.1)

@@ -1,5 +1,6 @@
 -- Names and units as the definitions tell them, and as the readers' tests do.
-use Rattle.std.proofs.Common.{◌≡◌, ◌≢◌, ℕ, zero, suc, ◌==◌, Bool, true, false, cond, not, IsTrue, All, AllPairs, Contains, List, [], ◌∷◌, Option, Some, None, refl, sym, ◌∙◌, ap, subst, arith, inl, inr}
+use Rattle.std.proofs.Common.{◌≡◌, ◌≢◌, ℕ, zero, suc, ◌==◌, Bool, true, false, cond, not, IsTrue, All, AllPairs, Contains, List, [], ◌∷◌}
+use Rattle.std.proofs.Common.{Option, Some, None, refl, sym, ◌∙◌, ap, subst, arith, inl, inr}
 use Rattle.std.specs.List.{list_all}
 use Rattle.std.specs.Prelude.{bytes_eq}
 use Rattle.std.proofs.lemmas.Bool.{and_parts, and_from, or_parts, or_cases, not-true, ne_eqb, eq-eqb, eqb-true}
@@ -68,7 +69,8 @@ unit_is unit (Some other) h =
     ap (λ (u : TimeUnit). Some u) (sym (at_place other) ∙ (ap unit_at (eqb-true (place_of other) (place_of unit) h) ∙ at_place unit))
 
 -- no two units share a name
-own_names : (set : NameSet) (unit : TimeUnit) → IsTrue (list_all (λ word. is_unit unit (unit_named (names_in set) word)) (names_in set unit))
+own_names : (set : NameSet) (unit : TimeUnit) → IsTrue (list_all (λ word. is_unit unit (unit_named (names_in set) word))
+    (names_in set unit))
 unfolding unit_named is_unit
 own_names Postgres Year = refl
 own_names Postgres Month = refl
@@ -96,7 +98,8 @@ other_place : (a b : TimeUnit) → a ≢ b → (place_of a == place_of b) ≡ fa
 other_place a b ne = ne_eqb (place_of a) (place_of b) (λ same. ne (sym (at_place a) ∙ (ap unit_at same ∙ at_place b)))
 
 other_unit : (a b : TimeUnit) → (place_of a == place_of b) ≡ false → a ≢ b
-other_unit a b h same = let equal : (place_of a == place_of b) ≡ true = eq-eqb (place_of a) (place_of b) (ap place_of same) in let clash : true ≡ false = sym equal ∙ h in cc
+other_unit a b h same = let equal : (place_of a == place_of b) ≡ true = eq-eqb (place_of a) (place_of b) (ap place_of same) in
+    let clash : true ≡ false = sym equal ∙ h in cc
 
 pub fresh_all : (unit : TimeUnit) (counts : List Count) → counts_unit unit counts ≡ false → All (λ c. c.unit ≢ unit) counts
 fresh_all unit [] h = All-nil (λ (c : Count). c.unit ≢ unit)
@@ -117,10 +120,12 @@ distinct_pairs (c ∷ cs) h =
     let split = and_parts (not (counts_unit c.unit cs)) (has_distinct_units cs) h in
     let apart = fresh_all c.unit cs (not-true _ split.0) in
     AllPairs-cons (λ (a b : Count). a.unit ≢ b.unit) c cs
-    (All-weaker (λ (d : Count). d.unit ≢ c.unit) (λ (d : Count). c.unit ≢ d.unit) (λ d ne same. ne (sym same)) cs apart) (distinct_pairs cs split.1)
+    (All-weaker (λ (d : Count). d.unit ≢ c.unit) (λ (d : Count). c.unit ≢ d.unit) (λ d ne same. ne (sym same)) cs apart)
+        (distinct_pairs cs split.1)
 
 pub pairs_distinct : (counts : List Count) → AllPairs (λ c d. c.unit ≢ d.unit) counts → has_distinct_units counts ≡ true
 pairs_distinct [] h = refl
 pairs_distinct (c ∷ cs) h =
     let apart : All (λ (d : Count). d.unit ≢ c.unit) cs = λ k d lt same. h 0 (suc k) d (omega arith) (omega (arith, lt)) (sym same) in
-    and_from _ _ (ap not (all_fresh c.unit cs apart)) (pairs_distinct cs (λ i j d lt within. h (suc i) (suc j) d (omega (arith, lt)) (omega (arith, within))))
+    and_from _ _ (ap not (all_fresh c.unit cs apart)) (pairs_distinct cs
+        (λ i j d lt within. h (suc i) (suc j) d (omega (arith, lt)) (omega (arith, within))))

@@ -1,5 +1,6 @@
 -- A text in `postgres_verbose` style has one bad name at most, and no shape where it has one.
-use Rattle.std.proofs.Common.{◌≡◌, ℕ, ◌+◌, Bool, true, false, List, [], ◌∷◌, ◌++◌, length, sym, ◌∙◌, ap, subst, inl, inr, append_assoc, append-nil, length-append, arith}
+use Rattle.std.proofs.Common.{◌≡◌, ℕ, ◌+◌, Bool, true, false, List, [], ◌∷◌, ◌++◌, length, sym, ◌∙◌, ap, subst, inl, inr, append_assoc}
+use Rattle.std.proofs.Common.{append-nil, length-append, arith}
 use Rattle.scan_core.specs.Blanks.{words, EndsWord, EndsInBlank}
 use Rattle.scan_core.specs.Count.{Count}
 use Rattle.scan_core.proofs.WordFacts.{total_length}
@@ -51,8 +52,10 @@ bad_after names body more start end blank h = record {
 }
 
 closed_behind : (front lead : List ℕ) → AreBlanks front → EndsInBlank lead → EndsInBlank (front ++ lead)
-closed_behind front lead blank (inl none) = subst EndsInBlank (sym (ap (λ (l : List ℕ). front ++ l) none ∙ append-nil front)) (closed_start front blank)
-closed_behind front lead blank (inr (before, b, is, split)) = inr (front ++ before, b, is, ap (λ (l : List ℕ). front ++ l) split ∙ sym (append_assoc front before (b ∷ [])))
+closed_behind front lead blank (inl none) = subst EndsInBlank (sym (ap (λ (l : List ℕ). front ++ l) none ∙ append-nil front))
+    (closed_start front blank)
+closed_behind front lead blank (inr (before, b, is, split)) = inr
+    (front ++ before, b, is, ap (λ (l : List ℕ). front ++ l) split ∙ sym (append_assoc front before (b ∷ [])))
 
 -- with blanks in front
 pub bad_before : (names : Names) (front body : List ℕ) (start end : ℕ) → AreBlanks front → IsBadName names body start end
@@ -97,12 +100,14 @@ body_at_bad bytes body from to counts bad same (inl zero) =
     let clash : BadLetters (total_length (words bad.lead) + length bad.number) bad.letters ≡ Unspelled =
     sym (bad_verdict verbose_names are_names bytes from to bad) ∙ ap (verdict verbose_names [] 0) (same ∙ zero.0) ∙ zero_verdict in cc
 body_at_bad bytes body from to counts bad same (inr items) =
-    no_shape_at_bad_name verbose_names are_names bytes from to counts bad (subst (λ (all : List (List ℕ)). AreItems verbose_names all counts) (sym same) items)
+    no_shape_at_bad_name verbose_names are_names bytes from to counts bad
+        (subst (λ (all : List (List ℕ)). AreItems verbose_names all counts) (sym same) items)
 
 pub no_shape_at_bad : (text : List ℕ) (start end : ℕ) (counts : List Count) → IsVerboseBadName text start end → IsVerbose text counts → ⊥
 no_shape_at_bad text start end counts a h =
     let same = one_frame text a.before h.before a.body h.body a.ago h.ago a.framed h.framed a.whole (whole_text text counts h) in
-    body_at_bad (whole_body a.ago a.body a.framed.after) h.body a.from a.to h.body_counts (whole_bad a.ago a.body a.framed.after a.from a.to a.framed.blank_after a.bad)
+    body_at_bad (whole_body a.ago a.body a.framed.after) h.body a.from a.to h.body_counts
+        (whole_bad a.ago a.body a.framed.after a.from a.to a.framed.blank_after a.bad)
     (ap words same.whole ∙ whole_words h.ago h.body h.framed.after h.framed.blank_after) h.spelled
 
 pub one_bad : (text : List ℕ) (s e t f : ℕ) → IsVerboseBadName text s e → IsVerboseBadName text t f → (s ≡ t) × (e ≡ f)

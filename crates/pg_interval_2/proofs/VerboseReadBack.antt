@@ -1,5 +1,6 @@
 -- A text written in `postgres_verbose` style is read back as its interval, and as no other.
-use Rattle.std.proofs.Common.{◌≡◌, ℕ, ◌<◌, ◌≤◌, ◌^◌, Bool, true, false, cond, ◌==◌, IsTrue, List, [], ◌∷◌, ◌++◌, decimal, ℤ, unsigned_abs, refl, ◌∙◌, ap, ap₂, arith, append_assoc, eqb-true}
+use Rattle.std.proofs.Common.{◌≡◌, ℕ, ◌<◌, ◌≤◌, ◌^◌, Bool, true, false, cond, ◌==◌, IsTrue, List, [], ◌∷◌, ◌++◌, decimal, ℤ, unsigned_abs}
+use Rattle.std.proofs.Common.{refl, ◌∙◌, ap, ap₂, arith, append_assoc, eqb-true}
 use Rattle.std.proofs.lemmas.Bool.{cond_both, and_parts}
 use Rattle.std.specs.Int.{is_negative}
 use Rattle.scan_core.specs.Count.{Count, count_of}
@@ -58,7 +59,8 @@ turned_choice false turned xs ys c d all one = ap (λ (e : Count). e ∷ []) one
 turned_seconds : (turned negative : Bool) (seconds micros : ℕ)
     → turned_counts turned (second_counts (turned_sign turned negative) seconds micros) ≡ second_counts negative seconds micros
 turned_seconds turned negative seconds micros =
-    turned_choice (micros == 0) turned _ _ _ _ (turned_part turned negative seconds Second) (turned_one turned negative (decimal seconds) (micros_behind micros) Second)
+    turned_choice (micros == 0) turned _ _ _ _ (turned_part turned negative seconds Second)
+        (turned_one turned negative (decimal seconds) (micros_behind micros) Second)
 
 turned_two : (turned : Bool) (xs ys us vs : List Count) → turned_counts turned xs ≡ us → turned_counts turned ys ≡ vs
     → turned_counts turned (xs ++ ys) ≡ us ++ vs
@@ -71,7 +73,8 @@ turned_all ago months days micros =
     (turned_two ago _ _ _ _ (turned_part ago (is_negative months) (months_of months) Month)
     (turned_two ago _ _ _ _ (turned_part ago (is_negative days) (unsigned_abs days) Day)
     (turned_two ago _ _ _ _ (turned_part ago (is_negative micros) (hours_of micros) Hour)
-    (turned_two ago _ _ _ _ (turned_part ago (is_negative micros) (minutes_of micros) Minute) (turned_seconds ago (is_negative micros) (seconds_of micros) (subsecond_of micros))))))
+    (turned_two ago _ _ _ _ (turned_part ago (is_negative micros) (minutes_of micros) Minute)
+        (turned_seconds ago (is_negative micros) (seconds_of micros) (subsecond_of micros))))))
 
 -- ---- the sums
 
@@ -80,17 +83,21 @@ second_counts-sum : (part : Part) (negative : Bool) (seconds micros : ℕ) → s
     → AddsUp part (second_counts negative seconds micros) (signed negative (magnitude part Second seconds micros))
 second_counts-sum part negative seconds micros small below fits =
     cond_both (micros == 0) _ _ (λ counts. AddsUp part counts (signed negative (magnitude part Second seconds micros)))
-    (λ zero_is. let none : micros ≡ 0 = eqb-true micros 0 zero_is in rw none (part_counts-sum part negative seconds Second small (rw none at fits)))
-    (λ _. AddsUp-one part _ seconds micros (number_of-decimal seconds small) (rounded-trimmed 1_000_000 (padded_digits 6 micros) ∙ rounded-padded micros below) fits)
+    (λ zero_is. let none : micros ≡ 0 = eqb-true micros 0 zero_is in rw none
+        (part_counts-sum part negative seconds Second small (rw none at fits)))
+    (λ _. AddsUp-one part _ seconds micros (number_of-decimal seconds small)
+        (rounded-trimmed 1_000_000 (padded_digits 6 micros) ∙ rounded-padded micros below) fits)
 
 has_seconds : (micros : ℤ) → unsigned_abs micros ≤ 2 ^ 63
     → HasSeconds micros (second_counts (is_negative micros) (seconds_of micros) (subsecond_of micros))
-has_seconds micros small part = second_counts-sum part (is_negative micros) (seconds_of micros) (subsecond_of micros) (omega arith) (omega arith)
+has_seconds micros small part = second_counts-sum part (is_negative micros) (seconds_of micros) (subsecond_of micros) (omega arith)
+    (omega arith)
 
 counts-sum : (t : Interval) → IsInRange t → SumsTo (verbose_counts false t.months t.days t.microseconds) t
 counts-sum t range =
     let small = abs_fits Micros t.microseconds (fits_64 t.microseconds range.microseconds) in
-    rw (append_assoc, append_assoc) at (SumsTo-date_time _ _ t (date_counts-sum t range) (time_with-sum t _ range (has_seconds t.microseconds small)))
+    rw (append_assoc, append_assoc) at (SumsTo-date_time _ _ t (date_counts-sum t range)
+        (time_with-sum t _ range (has_seconds t.microseconds small)))
 
 sums : (t : Interval) → IsInRange t → SumsTo (written_counts t.months t.days t.microseconds) t
 sums t range =
@@ -103,7 +110,8 @@ sums t range =
 
 spelled : (t : Interval) → IsInRange t
     → IsVerbose (verbose_steps t.months t.days t.microseconds) (written_counts t.months t.days t.microseconds)
-spelled t range = verbose_spelled t.months t.days t.microseconds (abs_fits Months t.months (fits_32 t.months range.months)) (abs_fits Days t.days (fits_32 t.days range.days)) (abs_fits Micros t.microseconds (fits_64 t.microseconds range.microseconds))
+spelled t range = verbose_spelled t.months t.days t.microseconds (abs_fits Months t.months (fits_32 t.months range.months))
+    (abs_fits Days t.days (fits_32 t.days range.days)) (abs_fits Micros t.microseconds (fits_64 t.microseconds range.microseconds))
 
 pub verbose_denotes : (t : Interval) → IsInRange t → Denotes IsVerbose (verbose_steps t.months t.days t.microseconds) t
 verbose_denotes t range = Denotes-SumsTo IsVerbose _ _ t range (spelled t range) (sums t range)

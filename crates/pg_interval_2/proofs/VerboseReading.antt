@@ -1,5 +1,7 @@
 -- From what stands behind the `@` of a text up to the end of its body to what the text spells.
-use Rattle.std.proofs.Common.{◌≡◌, ◌≢◌, ℕ, ◌+◌, ◌≤◌, ◌==◌, Bool, true, false, not, cond, List, [], ◌∷◌, ◌++◌, length, take, codes, Some, Result, Ok, Err, IfErr, IfOk, refl, sym, ◌∙◌, ap, ap₂, subst, inl, inr, append_assoc, append-nil, length-append, arith}
+use Rattle.std.proofs.Common.{◌≡◌, ◌≢◌, ℕ, ◌+◌, ◌≤◌, ◌==◌, Bool, true, false, not, cond, List, [], ◌∷◌, ◌++◌, length, take, codes, Some}
+use Rattle.std.proofs.Common.{Result, Ok, Err, IfErr, IfOk, refl, sym, ◌∙◌, ap, ap₂, subst, inl, inr, append_assoc, append-nil}
+use Rattle.std.proofs.Common.{length-append, arith}
 use Rattle.std.proofs.lemmas.Bool.Decides.{nat_tests}
 use Rattle.std.specs.List.{list_all}
 use Rattle.std.proofs.lemmas.Bool.{and_parts}
@@ -92,7 +94,8 @@ passed front s0 s1 s2 s3 first a b c rest =
       gap = leading is_blank (ahead s2);
       blank_before = leading_passes is_blank (ahead s0);
       blank_gap = leading_passes is_blank (ahead s2);
-      split = sym (ap ahead first) ∙ a.split ∙ ap (λ (l : List ℕ). leading is_blank (ahead s0) ++ l) (b.split ∙ ap (λ (l : List ℕ). 64 ∷ l) c.split);
+      split = sym (ap ahead first) ∙ a.split ∙ ap (λ (l : List ℕ). leading is_blank (ahead s0) ++ l)
+          (b.split ∙ ap (λ (l : List ℕ). 64 ∷ l) c.split);
       place = omega (arith, start, one, two, three);
       solid = λ d ds e. after_solid (ahead s2) d ds (sym rest ∙ e);
     }
@@ -121,7 +124,9 @@ pub items_tally : (front bytes : List ℕ) (at : ℕ) (ago : Bool) (read : Resul
     → IfOk read (IsItemsTally verbose_names ago bytes)
     → IfOk read (IsFrontTally front ago)
 items_tally front bytes at ago (Ok tally) p (counts, items, tallies) =
-    (p.before, p.gap ++ bytes, counts, front_at front bytes at p, inr (subst (λ (all : List (List ℕ)). AreItems verbose_names all counts) (sym (words-blanks p.gap bytes p.blank_gap)) items), tallies)
+    (p.before, p.gap ++ bytes, counts, front_at front bytes at p,
+        inr (subst (λ (all : List (List ℕ)). AreItems verbose_names all counts) (sym (words-blanks p.gap bytes p.blank_gap)) items),
+        tallies)
 items_tally front bytes at ago (Err e) p h = tt
 
 -- the bytes behind the `@` are these
@@ -176,7 +181,8 @@ frame text end ago e before bytes at =
 
 body_gap : (bytes gap : List ℕ) (counts : List Count) → AreBlanks gap → IsBody bytes counts → IsBody (bytes ++ gap) counts
 body_gap bytes gap counts blank (inl zero) = inl (words_before bytes gap blank ∙ zero.0, zero.1)
-body_gap bytes gap counts blank (inr items) = inr (subst (λ (all : List (List ℕ)). AreItems verbose_names all counts) (sym (words_before bytes gap blank)) items)
+body_gap bytes gap counts blank (inr items) = inr (subst (λ (all : List (List ℕ)). AreItems verbose_names all counts)
+    (sym (words_before bytes gap blank)) items)
 
 pub spelled : (text : List ℕ) (end : ℕ) (ago : Bool) (tally : Tally) → IsEnding text end ago → IsFrontTally (take end text) ago tally
     → (counts : List Count) × IsVerbose text counts × Tallies tally counts
@@ -245,7 +251,8 @@ ago_lacks false after h = h
 
 tail_lacks : (text : List ℕ) (end : ℕ) (ago : Bool) (e : IsEnding text end ago) → lacks_at (e.gap ++ (ago_or_none ago ++ e.after)) ≡ true
 tail_lacks text end ago e =
-    blanks_lack e.gap _ e.blank_gap (ago_lacks ago e.after (ap lacks_at (sym (append-nil e.after)) ∙ blanks_lack e.after [] e.blank_after refl))
+    blanks_lack e.gap _ e.blank_gap (ago_lacks ago e.after (ap lacks_at (sym (append-nil e.after))
+        ∙ blanks_lack e.after [] e.blank_after refl))
 
 -- a frame of the text has its `@` before the end of the body, and its words behind it
 framed_words :
@@ -253,17 +260,20 @@ framed_words :
     (f : IsFramed text before body turned) → (turned ≡ false → EndsInAgo text → ⊥)
     → (bytes : List ℕ) × IsBehindAt (take end text) before bytes × (words body ≡ words bytes)
 framed_words text end ago e before body turned f whole =
-    let found = split_at (take end text) (e.gap ++ (ago_or_none ago ++ e.after)) before (body ++ (ago_or_none turned ++ f.after)) (tail_lacks text end ago e) (sym e.split ∙ f.joined) in
+    let found = split_at (take end text) (e.gap ++ (ago_or_none ago ++ e.after)) before (body ++ (ago_or_none turned ++ f.after))
+        (tail_lacks text end ago e) (sym e.split ∙ f.joined) in
     let at : IsBehindAt (take end text) before found.0 = record { blank = f.blank_before; split = found.1 } in
     let same = one_frame text before before body (found.0 ++ e.gap) turned ago f (frame text end ago e before found.0 at) whole e.whole in
-    (found.0, at, sym (whole_words turned body f.after f.blank_after) ∙ ap words same.whole ∙ whole_words ago (found.0 ++ e.gap) e.after e.blank_after ∙ words_before found.0 e.gap e.blank_gap)
+    (found.0, at, sym (whole_words turned body f.after f.blank_after) ∙ ap words same.whole
+        ∙ whole_words ago (found.0 ++ e.gap) e.after e.blank_after ∙ words_before found.0 e.gap e.blank_gap)
 
 no_body : (body bytes : List ℕ) (counts : List Count) → words body ≡ words bytes → verdict verbose_names [] 0 (words bytes) ≡ Unspelled
     → (words bytes ≡ codes "0" ∷ [] → ⊥) → IsBody body counts
     → ⊥
 no_body body bytes counts same judged other (inl zero) = other (sym same ∙ zero.0)
 no_body body bytes counts same judged other (inr items) =
-    let clash : Unspelled ≡ Spelled counts = sym judged ∙ ap (verdict verbose_names [] 0) (sym same) ∙ items_verdict verbose_names are_names (words body) counts items in cc
+    let clash : Unspelled ≡ Spelled counts = sym judged ∙ ap (verdict verbose_names [] 0) (sym same)
+        ∙ items_verdict verbose_names are_names (words body) counts items in cc
 
 pub no_items : (text : List ℕ) (end : ℕ) (ago : Bool) → IsEnding text end ago → IsFrontMisread (take end text) NoItems
     → HasNoShape IsVerbose text × ((start stop : ℕ) → IsVerboseBadName text start stop → ⊥)

@@ -1,5 +1,6 @@
 -- What words spell: items are gone over, a bad name is found, and what begins no item spells nothing.
-use Rattle.std.proofs.Common.{◌≡◌, if◌then◌else◌, ℕ, ◌+◌, ◌<◌, ◌||◌, ◌==◌, Bool, true, false, not, Contains, List, [], ◌∷◌, ◌++◌, length, Some, refl, sym, ◌∙◌, ap, append_assoc, append-nil, arith, inl, inr, lt-ltb}
+use Rattle.std.proofs.Common.{◌≡◌, if◌then◌else◌, ℕ, ◌+◌, ◌<◌, ◌||◌, ◌==◌, Bool, true, false, not, Contains, List, [], ◌∷◌, ◌++◌, length}
+use Rattle.std.proofs.Common.{Some, refl, sym, ◌∙◌, ap, append_assoc, append-nil, arith, inl, inr, lt-ltb}
 use Rattle.std.proofs.lemmas.Bool.Decides.{nat_tests}
 use Rattle.std.proofs.lemmas.List.Folds.{list_any-append}
 use Rattle.std.proofs.lemmas.Bool.{not-true, and_parts, or_parts}
@@ -12,7 +13,8 @@ use Rattle.pg_interval_2.specs.Clock.{IsClock, clock_counts}
 use Rattle.pg_interval_2.specs.Postgres.{IsItem, all_counts}
 use Rattle.pg_interval_2.specs.inside.UnitPlaces.{place_of, counts_unit, has_distinct_units}
 use Rattle.pg_interval_2.specs.inside.Reading.{Numeral, read_number}
-use Rattle.pg_interval_2.specs.inside.ItemReading.{read_item, ClockWord, GluedWord, NumberWord, word_kind, Verdict, Unspelled, judge_unit, judge_word, is_name, verdict}
+use Rattle.pg_interval_2.specs.inside.ItemReading.{read_item, ClockWord, GluedWord, NumberWord, word_kind, Verdict, Unspelled, judge_unit}
+use Rattle.pg_interval_2.specs.inside.ItemReading.{judge_word, is_name, verdict}
 use Rattle.pg_interval_2.specs.inside.NamedUnits.{unit_named}
 use Rattle.pg_interval_2.proofs.Numbers.{finds_number}
 use Rattle.pg_interval_2.proofs.ItemFacts.{AreLetters}
@@ -25,7 +27,8 @@ Names = TimeUnit → List (List ℕ)
 
 -- every name of a unit is letters, and names no other unit
 abbrev pub AreNames : Names → Type 0
-AreNames names = (word : List ℕ) (unit : TimeUnit) → Contains (names unit) word → (unit_named names word ≡ Some unit) × (0 < length word) × AreLetters word
+AreNames names = (word : List ℕ) (unit : TimeUnit) → Contains (names unit) word → (unit_named names word ≡ Some unit) × (0 < length word)
+    × AreLetters word
 
 pub clock_kind : (word : List ℕ) (counts : List Count) (h : IsClock word counts)
     → word_kind word
@@ -38,7 +41,8 @@ pub glued_kind : (negative : Bool) (whole fraction number letters : List ℕ) �
     → word_kind (number ++ letters) ≡ GluedWord (record { negative = negative; whole = whole; fraction = fraction }) letters
 unfolding word_kind
 glued_kind negative whole fraction number letters h some l =
-    let read = ap read_item (ap (λ (x : List ℕ). number ++ x) (sym (append-nil letters))) ∙ named_read negative whole fraction number [] letters [] h refl some l tt in rw read refl
+    let read = ap read_item (ap (λ (x : List ℕ). number ++ x) (sym (append-nil letters)))
+        ∙ named_read negative whole fraction number [] letters [] h refl some l tt in rw read refl
 
 pub number_kind : (negative : Bool) (whole fraction number : List ℕ) → IsNumber true negative whole fraction number
     → word_kind number ≡ NumberWord (record { negative = negative; whole = whole; fraction = fraction })
@@ -76,8 +80,10 @@ pub fresh_behind : (xs : List Count) (c : Count) (ys : List Count) → has_disti
 fresh_behind [] c ys h = refl
 fresh_behind (x ∷ xs) c ys h =
     let split = first_alone x (xs ++ (c ∷ ys)) h in
-    let behind = (or_parts (counts_unit x.unit xs) (counts_unit x.unit (c ∷ ys)) (sym (counts_unit-append x.unit xs (c ∷ ys)) ∙ split.0)).1 in
-    let other = same_both (place_of c.unit) (place_of x.unit) (or_parts (place_of c.unit == place_of x.unit) (counts_unit x.unit ys) behind).0 in
+    let behind = (or_parts (counts_unit x.unit xs) (counts_unit x.unit (c ∷ ys)) (sym (counts_unit-append x.unit xs (c ∷ ys)) ∙ split.0)).1
+        in
+    let other = same_both (place_of c.unit) (place_of x.unit) (or_parts (place_of c.unit == place_of x.unit)
+        (counts_unit x.unit ys) behind).0 in
     let below = fresh_behind xs c ys split.1 in
     rw (other, below) refl
 
@@ -103,7 +109,8 @@ distinct_push (x ∷ xs) c h fresh =
 abbrev pub judge_pair : Names → List Count → ℕ → ℕ → List (List ℕ) → Numeral → Verdict
 judge_pair names counts ink length_of [] n = Unspelled
 judge_pair names counts ink length_of (name ∷ more) n =
-    if is_name name then judge_unit counts (ink + length_of) name n (unit_named names name) (λ cs. verdict names (counts ++ cs) (ink + length_of + length name) more) else Unspelled
+    if is_name name then judge_unit counts (ink + length_of) name n (unit_named names name)
+        (λ cs. verdict names (counts ++ cs) (ink + length_of + length name) more) else Unspelled
 
 -- a word and what follows it
 pub verdict-word : (names : Names) (counts : List Count) (ink : ℕ) (word : List ℕ) (more : List (List ℕ))
@@ -127,7 +134,8 @@ clock_item : (names : Names) (word : List ℕ) (more : List (List ℕ)) (cs coun
 clock_item names word more cs counts ink h distinct =
     let kind = clock_kind word cs h in
     let counted = h.counted in
-    let distinct' : has_distinct_units (counts ++ clock_counts h.negative h.hours h.minutes h.seconds h.fraction) ≡ true = ap (λ (l : List Count). has_distinct_units (counts ++ l)) (sym counted) ∙ distinct in
+    let distinct' : has_distinct_units (counts ++ clock_counts h.negative h.hours h.minutes h.seconds h.fraction)
+        ≡ true = ap (λ (l : List Count). has_distinct_units (counts ++ l)) (sym counted) ∙ distinct in
     verdict-word names counts ink word more ∙ rw (kind, distinct', counted) refl
 
 glued_item : (names : Names) (c : Count) (number name : List ℕ) (more : List (List ℕ)) (counts : List Count) (ink : ℕ)
@@ -152,12 +160,15 @@ advance_item : (names : Names) → AreNames names → (item more : List (List �
     → has_distinct_units (counts ++ (cs ++ rest)) ≡ true
     → verdict names counts ink (item ++ more) ≡ verdict names (counts ++ cs) (ink + total_length item) more
 advance_item names letters item more cs counts rest ink (inl (c, named, one)) distinct =
-    let both_distinct : has_distinct_units (counts ++ (c ∷ rest)) ≡ true = ap (λ (l : List Count). has_distinct_units (counts ++ (l ++ rest))) (sym one) ∙ distinct in
+    let both_distinct : has_distinct_units (counts ++ (c ∷ rest))
+        ≡ true = ap (λ (l : List Count). has_distinct_units (counts ++ (l ++ rest))) (sym one) ∙ distinct in
     let fresh = fresh_behind counts c rest both_distinct in
     let name = letters named.name c.unit named.unit in
     elim named.spelled [
-      | inl two ↦ rw (two, one) (named_pair names c named.number named.name more counts ink named.digits name.0 name.1 name.2 fresh ∙ elsewhere names (counts ++ c ∷ []) _ _ more (omega arith))
-      | inr glued ↦ rw (glued, one) (glued_item names c named.number named.name more counts ink named.digits name.0 name.1 name.2 fresh ∙ elsewhere names (counts ++ c ∷ []) _ _ more (omega arith))
+      | inl two ↦ rw (two, one) (named_pair names c named.number named.name more counts ink named.digits name.0 name.1 name.2 fresh
+          ∙ elsewhere names (counts ++ c ∷ []) _ _ more (omega arith))
+      | inr glued ↦ rw (glued, one) (glued_item names c named.number named.name more counts ink named.digits name.0 name.1 name.2 fresh
+          ∙ elsewhere names (counts ++ c ∷ []) _ _ more (omega arith))
     ]
 advance_item names letters item more cs counts rest ink (inr (word, clock, one)) distinct =
     let front = distinct_front (counts ++ cs) rest (ap has_distinct_units (append_assoc counts cs rest) ∙ distinct) in
@@ -167,12 +178,15 @@ pub advance : (names : Names) → AreNames names → (front more : List (List �
     → IsJoin (IsItem names) front items → has_distinct_units (counts ++ all_counts items) ≡ true
     → verdict names counts ink (front ++ more) ≡ verdict names (counts ++ all_counts items) (ink + total_length front) more
 advance names letters front more [] counts ink h distinct =
-    rw h (ap (λ (l : List Count). verdict names l ink more) (sym (append-nil counts)) ∙ elsewhere names (counts ++ []) ink (ink + 0) more (omega arith))
+    rw h (ap (λ (l : List Count). verdict names l ink more) (sym (append-nil counts))
+        ∙ elsewhere names (counts ++ []) ink (ink + 0) more (omega arith))
 advance names letters front more (cs ∷ items) counts ink h distinct =
     let split : front ++ more ≡ h.0 ++ (h.1 ++ more) = ap (λ (l : List (List ℕ)). l ++ more) h.4 ∙ append_assoc h.0 h.1 more in
     let item = advance_item names letters h.0 (h.1 ++ more) cs counts (all_counts items) ink h.2 distinct in
     let regrouped = append_assoc counts cs (all_counts items) in
-    let below = advance names letters h.1 more items (counts ++ cs) (ink + total_length h.0) h.3 (ap has_distinct_units regrouped ∙ distinct) in
+    let below = advance names letters h.1 more items (counts ++ cs) (ink + total_length h.0) h.3
+        (ap has_distinct_units regrouped ∙ distinct) in
     let lengths = ap total_length h.4 ∙ total_length-append h.0 h.1 in
     ap (λ (l : List (List ℕ)). verdict names counts ink l) split ∙ item ∙ below
-    ∙ ap (λ (l : List Count). verdict names l (ink + total_length h.0 + total_length h.1) more) regrouped ∙ elsewhere names (counts ++ (cs ++ all_counts items)) _ _ more (omega (arith, lengths))
+    ∙ ap (λ (l : List Count). verdict names l (ink + total_length h.0 + total_length h.1) more) regrouped
+        ∙ elsewhere names (counts ++ (cs ++ all_counts items)) _ _ more (omega (arith, lengths))

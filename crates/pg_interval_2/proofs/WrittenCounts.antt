@@ -1,5 +1,6 @@
 -- The counts of written texts, and what they add up to.
-use Rattle.std.proofs.Common.{◌≡◌, ℕ, ◌+◌, ◌*◌, ◌<◌, ◌≤◌, ◌^◌, Bool, false, IsTrue, List, [], ◌∷◌, ◌++◌, decimal, codes, if◌then◌else◌, ◌==◌, ℤ, pos, unsigned_abs, refl, arith, eqb-true, sym}
+use Rattle.std.proofs.Common.{◌≡◌, ℕ, ◌+◌, ◌*◌, ◌<◌, ◌≤◌, ◌^◌, Bool, false, IsTrue, List, [], ◌∷◌, ◌++◌, decimal, codes, if◌then◌else◌}
+use Rattle.std.proofs.Common.{◌==◌, ℤ, pos, unsigned_abs, refl, arith, eqb-true, sym}
 use Rattle.std.proofs.lemmas.Bool.{cond_both}
 use Rattle.std.proofs.lemmas.Int.{ints}
 use Rattle.std.specs.Int.{is_negative}
@@ -31,7 +32,8 @@ part_counts negative n unit = if n == 0 then [] else (record { negative = negati
 -- the count of seconds and microseconds, or none where they are 0
 abbrev pub seconds_counts : Bool → ℕ → ℕ → List Count
 seconds_counts negative seconds micros =
-    if micros == 0 then part_counts negative seconds Second else (record { negative = negative; whole = nonzero_digits seconds; fraction = padded_digits 6 micros; unit = Second } ∷ [])
+    if micros == 0 then part_counts negative seconds Second else
+        (record { negative = negative; whole = nonzero_digits seconds; fraction = padded_digits 6 micros; unit = Second } ∷ [])
 
 -- no seconds, as they are written of zero
 abbrev pub zero_count : Count
@@ -70,13 +72,15 @@ pub seconds_counts-sum : (part : Part) (negative : Bool) (seconds micros : ℕ) 
     → AddsUp part (seconds_counts negative seconds micros) (signed negative (magnitude part Second seconds micros))
 seconds_counts-sum part negative seconds micros small below fits =
     cond_both (micros == 0) _ _ (λ counts. AddsUp part counts (signed negative (magnitude part Second seconds micros)))
-    (λ zero_is. let none : micros ≡ 0 = eqb-true micros 0 zero_is in rw none (part_counts-sum part negative seconds Second small (rw none at fits)))
+    (λ zero_is. let none : micros ≡ 0 = eqb-true micros 0 zero_is in rw none
+        (part_counts-sum part negative seconds Second small (rw none at fits)))
     (λ _. AddsUp-one part _ seconds micros (whole_seconds seconds small) (rounded-padded micros below) fits)
 
 -- the counts of years, months and days
 abbrev pub date_counts : ℤ → ℤ → List Count
 date_counts months days =
-    part_counts (is_negative months) (years_of months) Year ++ (part_counts (is_negative months) (months_of months) Month ++ part_counts (is_negative days) (unsigned_abs days) Day)
+    part_counts (is_negative months) (years_of months) Year ++ (part_counts (is_negative months) (months_of months) Month
+        ++ part_counts (is_negative days) (unsigned_abs days) Day)
 
 -- the counts of hours and minutes, and those of seconds behind them
 abbrev pub time_with : ℤ → List Count → List Count
@@ -96,7 +100,8 @@ counted part z n unit small below fits = part_counts-sum part (is_negative z) n 
 uncounted : (part : Part) (negative : Bool) (n : ℕ) (unit : TimeUnit) → n < 2 ^ 64 → magnitude part unit n 0 ≡ 0
     → AddsUp part (part_counts negative n unit) (pos 0)
 uncounted part negative n unit small none =
-    AddsUp-same part _ _ _ (part_counts-sum part negative n unit small (rw none (fits_type-signed_zero part negative))) (rw none (signed-zero negative))
+    AddsUp-same part _ _ _ (part_counts-sum part negative n unit small (rw none (fits_type-signed_zero part negative)))
+        (rw none (signed-zero negative))
 
 date_counts-months : (months days : ℤ) → IsTrue (fits_type Months months) → IsTrue (fits_type Days days)
     → AddsUp Months (date_counts months days) months
@@ -168,7 +173,8 @@ pub date_counts-sum : (t : Interval) → IsInRange t → SumsTo (date_counts t.m
 date_counts-sum t range =
     let months : IsTrue (fits_type Months t.months) = fits_32 t.months range.months in
     let days : IsTrue (fits_type Days t.days) = fits_32 t.days range.days in
-    record { months = date_counts-months t.months t.days months days; days = date_counts-days t.months t.days months days; micros = date_counts-micros t.months t.days months days }
+    record { months = date_counts-months t.months t.days months days; days = date_counts-days t.months t.days months days;
+        micros = date_counts-micros t.months t.days months days }
 
 pub time_with-sum : (t : Interval) (seconds : List Count) → IsInRange t → HasSeconds t.microseconds seconds
     → SumsTo (time_with t.microseconds seconds) (time_of t)
@@ -183,4 +189,5 @@ time_with-sum t seconds range sum =
 pub time_counts-sum : (t : Interval) → IsInRange t → SumsTo (time_counts t.microseconds) (time_of t)
 time_counts-sum t range =
     let small : unsigned_abs t.microseconds ≤ 2 ^ 63 = abs_fits Micros t.microseconds (fits_64 t.microseconds range.microseconds) in
-    time_with-sum t _ range (λ part. seconds_counts-sum part (is_negative t.microseconds) (seconds_of t.microseconds) (subsecond_of t.microseconds) (omega arith) (omega arith))
+    time_with-sum t _ range (λ part. seconds_counts-sum part (is_negative t.microseconds) (seconds_of t.microseconds)
+        (subsecond_of t.microseconds) (omega arith) (omega arith))

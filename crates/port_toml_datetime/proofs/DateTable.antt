@@ -48,10 +48,12 @@ pub record DateRead (year text : List ℕ) (date : Date) (rest : List ℕ) : Typ
 same_bound : (y m d a b c : ℕ) → y ≡ a → m ≡ b → d ≡ c → d ≤ days_in_month (pos y) m → c ≤ days_in_month (pos a) b
 same_bound y m d a b c e f g h = rw (← e, ← f, ← g) h
 
-same_date : (y m d : ℕ) (date : Date) → date.year ≡ y → date.month ≡ m → date.day ≡ d → ◌≡◌ {A = Date} (record { year = y; month = m; day = d }) date
+same_date : (y m d : ℕ) (date : Date) → date.year ≡ y → date.month ≡ m → date.day ≡ d
+    → ◌≡◌ {A = Date} (record { year = y; month = m; day = d }) date
 same_date y m d date e f g = rw (← e, ← f, ← g) refl
 
-pub date_exact : (text rest : List ℕ) (date : Date) (i : IsFullDate text date) → NoDigitFirst rest → DateRead i.year_text (i.month_text ++ (codes "-" ++ (i.day_text ++ rest))) date rest
+pub date_exact : (text rest : List ℕ) (date : Date) (i : IsFullDate text date) → NoDigitFirst rest
+    → DateRead i.year_text (i.month_text ++ (codes "-" ++ (i.day_text ++ rest))) date rest
 unfolding date_rows date_of
 date_exact text rest date i n =
     let month = field_run 2 1 12 i.month_text (45 ∷ (i.day_text ++ rest)) date.month i.months (omega arith) refl in
@@ -59,7 +61,8 @@ date_exact text rest date i n =
     let second : after 2 (i.month_text ++ (45 ∷ (i.day_text ++ rest))) ≡ i.day_text ++ rest = ap after_token month.follows in
     let bound = same_bound _ _ _ _ _ _ i.years.number i.months.number i.days.number i.days.most in
     let days = is_within_them 1 _ (number_of i.day_text) (omega (arith, i.days.number, i.days.least)) bound in
-    let months = is_within_them 1 12 (number_of i.month_text) (omega (arith, i.months.number, i.months.least)) (omega (arith, i.months.number, i.months.most)) in
+    let months = is_within_them 1 12 (number_of i.month_text) (omega (arith, i.months.number, i.months.least))
+        (omega (arith, i.months.number, i.months.most)) in
     record {
       pass = none_fails (date_rows i.year_text (i.month_text ++ (45 ∷ (i.day_text ++ rest)))) (
         month.is,

@@ -5,7 +5,8 @@ use Rattle.std.proofs.lemmas.Bool.Decides.{nat_tests}
 use Rattle.scan_core.specs.Fronts.{front_digits}
 use Rattle.port_toml_datetime.specs.Tokens.{first_token, after_token, is_of, is_mark, is_one_of, is_end}
 
-of_if : (digit mark : Bool) (marks : List ℕ) (b : ℕ) (bs front : List ℕ) → is_of marks (cond digit (b ∷ front) (cond mark (b ∷ []) (b ∷ bs))) ≡ is_one_of marks b
+of_if : (digit mark : Bool) (marks : List ℕ) (b : ℕ) (bs front : List ℕ)
+    → is_of marks (cond digit (b ∷ front) (cond mark (b ∷ []) (b ∷ bs))) ≡ is_one_of marks b
 of_if true mark marks b bs front = refl
 of_if false true marks b bs front = refl
 of_if false false marks b bs front = refl
@@ -24,7 +25,8 @@ two_are b m n h = grind (arith, nat_tests)
 pub behind_mark : (m : ℕ) (bs : List ℕ) → is_ascii_digit m ≡ false → is_mark m ≡ true → after_token (m ∷ bs) ≡ bs
 behind_mark m bs d k = rw (d, k) refl
 
-pub mark_sound : (m : ℕ) (text : List ℕ) → is_ascii_digit m ≡ false → is_mark m ≡ true → is_of (m ∷ []) (first_token text) ≡ true → text ≡ m ∷ after_token text
+pub mark_sound : (m : ℕ) (text : List ℕ) → is_ascii_digit m ≡ false → is_mark m ≡ true → is_of (m ∷ []) (first_token text) ≡ true
+    → text ≡ m ∷ after_token text
 mark_sound m [] d k h = absurd (let no : false ≡ true = h in cc)
 mark_sound m (b ∷ bs) d k h =
     let here : b ≡ m = one_is b m (sym (of_first (m ∷ []) b bs) ∙ h) in

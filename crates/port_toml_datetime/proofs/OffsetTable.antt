@@ -1,5 +1,6 @@
 -- The checks of an offset hold exactly for offsets.
-use Rattle.std.proofs.Common.{◌≡◌, ℕ, ◌+◌, ◌*◌, ◌⊎◌, Bool, true, false, cond, List, [], ◌∷◌, ◌++◌, Option, Some, None, append-nil, codes, refl, sym, ◌∙◌, ap, arith, inl, inr}
+use Rattle.std.proofs.Common.{◌≡◌, ℕ, ◌+◌, ◌*◌, ◌⊎◌, Bool, true, false, cond, List, [], ◌∷◌, ◌++◌, Option, Some, None, append-nil, codes}
+use Rattle.std.proofs.Common.{refl, sym, ◌∙◌, ap, arith, inl, inr}
 use Rattle.std.proofs.lemmas.Bool.Decides.{nat_tests}
 use Rattle.scan_core.specs.Digits.{number_of}
 use Rattle.port_toml_datetime.specs.declared.offset.Offset.{Offset}
@@ -18,7 +19,8 @@ use Rattle.port_toml_datetime.proofs.FieldFacts.{is_length, two_made, field_run,
 
 -- ---- behind the sign
 
-numeric_offset_sound : (negative : Bool) (text : List ℕ) → first_failing (numeric_offset_rows text) ≡ None → IsNumericOffset (sign_text negative ++ text) (numeric_offset_of negative text)
+numeric_offset_sound : (negative : Bool) (text : List ℕ) → first_failing (numeric_offset_rows text) ≡ None
+    → IsNumericOffset (sign_text negative ++ text) (numeric_offset_of negative text)
 unfolding numeric_offset_rows numeric_offset_of
 numeric_offset_sound negative text h =
     let a = all_hold (numeric_offset_rows text) h in
@@ -28,7 +30,8 @@ numeric_offset_sound negative text h =
     let w = a.1.1.1 in
     let last = end_sound (after 3 text) w.1.1.1.1.0 in
     let whole : after 2 text ≡ token 2 text = minute.joined ∙ ap (λ (l : List ℕ). token 2 text ++ l) last ∙ append-nil (token 2 text) in
-    let split : text ≡ token 0 text ++ (58 ∷ token 2 text) = hour.joined ∙ ap (λ (l : List ℕ). token 0 text ++ l) (mark ∙ ap (λ (l : List ℕ). 58 ∷ l) whole) in
+    let split : text ≡ token 0 text ++ (58 ∷ token 2 text) = hour.joined
+        ∙ ap (λ (l : List ℕ). token 0 text ++ l) (mark ∙ ap (λ (l : List ℕ). 58 ∷ l) whole) in
     record {
       negative = negative;
       hour_text = token 0 text;
@@ -46,7 +49,8 @@ record NumericOffsetRead (negative : Bool) (text : List ℕ) (hour minute : ℕ)
   hours : number_of (token 0 text) ≡ hour
   minutes : number_of (token 2 text) ≡ minute
 
-numeric_offset_exact : (text : List ℕ) (offset : Offset) (i : IsNumericOffset text offset) → NumericOffsetRead i.negative (i.hour_text ++ (codes ":" ++ i.minute_text)) i.hour i.minute
+numeric_offset_exact : (text : List ℕ) (offset : Offset) (i : IsNumericOffset text offset)
+    → NumericOffsetRead i.negative (i.hour_text ++ (codes ":" ++ i.minute_text)) i.hour i.minute
 unfolding numeric_offset_rows
 numeric_offset_exact text offset i =
     let hour = field_run 2 0 23 i.hour_text (58 ∷ i.minute_text) i.hour i.hours (omega arith) refl in
@@ -93,10 +97,12 @@ sign b h = grind (arith, nat_tests)
 
 -- the offset behind a byte that is a sign or isn't
 abbrev offset_if : Bool → ℕ → List ℕ → Option Offset
-offset_if t b bs = cond {A = Option Offset} t (Some (numeric_offset_of (is_of (codes "-") (first_token (b ∷ bs))) (after_token (b ∷ bs)))) (Some Z)
+offset_if t b bs = cond {A = Option Offset} t (Some (numeric_offset_of (is_of (codes "-") (first_token (b ∷ bs))) (after_token (b ∷ bs))))
+    (Some Z)
 
 sign_if : (t : Bool) (b : ℕ) (bs : List ℕ) → is_one_of (codes "Zz+-") b ≡ true → is_one_of (codes "+-") b ≡ t
-    → first_failing (cond {A = List Row} t (numeric_offset_rows (after_token (b ∷ bs))) (end_row (after_token (b ∷ bs)) ∷ [])) ≡ None → IsPerhapsOffset (b ∷ bs) (offset_if t b bs)
+    → first_failing (cond {A = List Row} t (numeric_offset_rows (after_token (b ∷ bs))) (end_row (after_token (b ∷ bs)) ∷ [])) ≡ None
+        → IsPerhapsOffset (b ∷ bs) (offset_if t b bs)
 sign_if true b bs h k a =
     elim (sign b k) [
       | inl plus ↦ let f = rw plus at a in rw plus (inr (numeric_offset_of false bs, inr (numeric_offset_sound false bs f), refl))
@@ -128,7 +134,8 @@ pub record OffsetRead (text : List ℕ) (offset : Option Offset) : Type 0 where
   pub pass : first_failing (offset_rows text) ≡ None
   pub value : offset_of text ≡ offset
 
-with_sign : (negative : Bool) (text : List ℕ) (hour minute : ℕ) (offset : Offset) → NumericOffsetRead negative text hour minute → offset ≡ Custom (signed negative (60 * hour + minute))
+with_sign : (negative : Bool) (text : List ℕ) (hour minute : ℕ) (offset : Offset) → NumericOffsetRead negative text hour minute
+    → offset ≡ Custom (signed negative (60 * hour + minute))
     → OffsetRead (sign_text negative ++ text) (Some offset)
 unfolding offset_rows offset_of numeric_offset_of
 with_sign true text hour minute offset n e = record { pass = n.pass; value = rw (n.hours, n.minutes, e) refl }
@@ -139,4 +146,5 @@ unfolding offset_rows offset_of
 offset_exact text offset (inl none) = rw (none.0, none.1) (record { pass = refl; value = refl })
 offset_exact text offset (inr (o, inl (inl upper, z), e)) = rw (upper, e, z) (record { pass = refl; value = refl })
 offset_exact text offset (inr (o, inl (inr lower, z), e)) = rw (lower, e, z) (record { pass = refl; value = refl })
-offset_exact text offset (inr (o, inr i, e)) = rw (e, i.joined) (with_sign i.negative (i.hour_text ++ (codes ":" ++ i.minute_text)) i.hour i.minute o (numeric_offset_exact text o i) i.value)
+offset_exact text offset (inr (o, inr i, e)) = rw (e, i.joined)
+    (with_sign i.negative (i.hour_text ++ (codes ":" ++ i.minute_text)) i.hour i.minute o (numeric_offset_exact text o i) i.value)

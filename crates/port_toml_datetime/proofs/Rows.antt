@@ -19,13 +19,15 @@ pub none_fails : (rows : List Row) → AllHold rows → first_failing rows ≡ N
 none_fails [] h = refl
 none_fails (row ∷ rows) h = rw h.0 (none_fails rows h.1)
 
-front_if : (t : Bool) (fault found : Fault) (more all : Option Fault) → (more ≡ Some found → all ≡ Some found) → cond t more (Some fault) ≡ Some found → cond t all (Some fault) ≡ Some found
+front_if : (t : Bool) (fault found : Fault) (more all : Option Fault) → (more ≡ Some found → all ≡ Some found)
+    → cond t more (Some fault) ≡ Some found → cond t all (Some fault) ≡ Some found
 front_if true fault found more all next h = next h
 front_if false fault found more all next h = h
 
 pub failing_front : (rows more : List Row) (found : Fault) → first_failing rows ≡ Some found → first_failing (rows ++ more) ≡ Some found
 failing_front [] more found h = absurd (cc)
-failing_front (row ∷ rows) more found h = front_if row.holds row.fault found (first_failing rows) (first_failing (rows ++ more)) (failing_front rows more found) h
+failing_front (row ∷ rows) more found h = front_if row.holds row.fault found (first_failing rows) (first_failing (rows ++ more))
+    (failing_front rows more found) h
 
 pub failing_behind : (rows more : List Row) → first_failing rows ≡ None → first_failing (rows ++ more) ≡ first_failing more
 failing_behind [] more h = refl

@@ -1,12 +1,14 @@
 -- The checks of a time hold exactly for times.
-use Rattle.std.proofs.Common.{◌≡◌, ℕ, nat_le, Bool, true, false, cond, List, [], ◌∷◌, ◌++◌, Option, Some, None, codes, refl, sym, ◌∙◌, ap, append_assoc, arith, inl, inr}
+use Rattle.std.proofs.Common.{◌≡◌, ℕ, nat_le, Bool, true, false, cond, List, [], ◌∷◌, ◌++◌, Option, Some, None, codes, refl, sym, ◌∙◌, ap}
+use Rattle.std.proofs.Common.{append_assoc, arith, inl, inr}
 use Rattle.std.specs.Prelude.{is_some, option_map}
 use Rattle.scan_core.specs.Digits.{AreDigits, number_of}
 use Rattle.port_toml_datetime.specs.declared.time.Time.{Time}
 use Rattle.port_toml_datetime.specs.Times.{nanoseconds, IsPartialTime}
 use Rattle.port_toml_datetime.specs.inside.GrammarParts.{IsPerhapsSecondFraction, IsPerhapsSeconds}
 use Rattle.port_toml_datetime.specs.Tokens.{first_token, after_token, token, after, is_digits, is_of}
-use Rattle.port_toml_datetime.specs.Checks.{first_failing, has_length, where_there, marked, after_marked, fraction, after_fraction, time_rows, after_time}
+use Rattle.port_toml_datetime.specs.Checks.{first_failing, has_length, where_there, marked, after_marked, fraction, after_fraction}
+use Rattle.port_toml_datetime.specs.Checks.{time_rows, after_time}
 use Rattle.port_toml_datetime.specs.inside.Values.{time_of}
 use Rattle.scan_core.specs.Fronts.{NoDigitFirst}
 use Rattle.port_toml_datetime.proofs.TokenFacts.{run_exact, run_sound}
@@ -16,8 +18,10 @@ use Rattle.port_toml_datetime.proofs.FieldFacts.{is_length, two_made, field_run,
 
 -- ---- what the checks let through
 
-point_if : (t : Bool) (text : List ℕ) → is_of (46 ∷ []) (first_token text) ≡ t → where_there is_digits (cond {A = Option (List ℕ)} t (Some (token 1 text)) None) ≡ true
-    → (piece : List ℕ) × IsPerhapsSecondFraction piece (option_map nanoseconds (cond {A = Option (List ℕ)} t (Some (token 1 text)) None)) × (text ≡ piece ++ cond t (after 2 text) text)
+point_if : (t : Bool) (text : List ℕ) → is_of (46 ∷ []) (first_token text) ≡ t
+    → where_there is_digits (cond {A = Option (List ℕ)} t (Some (token 1 text)) None) ≡ true
+    → (piece : List ℕ) × IsPerhapsSecondFraction piece (option_map nanoseconds (cond {A = Option (List ℕ)} t (Some (token 1 text)) None))
+        × (text ≡ piece ++ cond t (after 2 text) text)
 point_if true text e h =
     let run = run_sound (after_token text) h in (
       46 ∷ token 1 text,
@@ -27,7 +31,8 @@ point_if true text e h =
 point_if false text e h = ([], inl (refl, refl), refl)
 
 fraction_sound : (second : Bool) (text : List ℕ) → where_there is_digits (fraction second text) ≡ true
-    → (piece : List ℕ) × IsPerhapsSecondFraction piece (option_map nanoseconds (fraction second text)) × (text ≡ piece ++ after_fraction second text)
+    → (piece : List ℕ) × IsPerhapsSecondFraction piece (option_map nanoseconds (fraction second text))
+        × (text ≡ piece ++ after_fraction second text)
 fraction_sound false text h = ([], inl (refl, refl), refl)
 fraction_sound true text h = point_if (is_of (46 ∷ []) (first_token text)) text refl h
 
@@ -39,16 +44,20 @@ abbrev after_if : Bool → List ℕ → List ℕ
 after_if t text = cond {A = List ℕ} t (after 2 text) text
 
 colon_if : (t : Bool) (text : List ℕ) → is_of (58 ∷ []) (first_token text) ≡ t → where_there is_digits (second_if t text) ≡ true
-    → where_there is_digits (fraction (is_some (second_if t text)) (after_if t text)) ≡ true → where_there (has_length 2) (second_if t text) ≡ true
+    → where_there is_digits (fraction (is_some (second_if t text)) (after_if t text)) ≡ true
+        → where_there (has_length 2) (second_if t text) ≡ true
     → where_there (λ (n : ℕ). nat_le n 60) (option_map number_of (second_if t text)) ≡ true
-    → (piece : List ℕ) × IsPerhapsSeconds piece (option_map number_of (second_if t text)) (option_map nanoseconds (fraction (is_some (second_if t text)) (after_if t text)))
+    → (piece : List ℕ) × IsPerhapsSeconds piece (option_map number_of (second_if t text))
+        (option_map nanoseconds (fraction (is_some (second_if t text)) (after_if t text)))
     × (text ≡ piece ++ after_fraction (is_some (second_if t text)) (after_if t text))
 colon_if true text e h f two most =
     let run = run_sound (after_token text) h in
     let more = fraction_sound true (after 2 text) f in (
       58 ∷ (token 1 text ++ more.0),
-      inr (record { digits = token 1 text; fraction = more.0; number = number_of (token 1 text); field = two_made 60 (token 1 text) run.digits two most; fractions = more.1; joined = refl; value = refl }),
-      mark_sound 58 text refl refl e ∙ ap (λ (l : List ℕ). 58 ∷ l) (run.joined ∙ ap (λ (l : List ℕ). token 1 text ++ l) more.2 ∙ sym (append_assoc (token 1 text) more.0 _)),
+      inr (record { digits = token 1 text; fraction = more.0; number = number_of (token 1 text);
+          field = two_made 60 (token 1 text) run.digits two most; fractions = more.1; joined = refl; value = refl }),
+      mark_sound 58 text refl refl e ∙ ap (λ (l : List ℕ). 58 ∷ l)
+          (run.joined ∙ ap (λ (l : List ℕ). token 1 text ++ l) more.2 ∙ sym (append_assoc (token 1 text) more.0 _)),
     )
 colon_if false text e h f two most = ([], inl (refl, refl, refl), refl)
 
@@ -87,7 +96,8 @@ record FractionRead (second : Bool) (text : List ℕ) (value : Option ℕ) (rest
   number : option_map nanoseconds (fraction second text) ≡ value
   follows : after_fraction second text ≡ rest
 
-fraction_exact : (piece rest : List ℕ) (value : Option ℕ) → IsPerhapsSecondFraction piece value → Stops rest → FractionRead true (piece ++ rest) value rest
+fraction_exact : (piece rest : List ℕ) (value : Option ℕ) → IsPerhapsSecondFraction piece value → Stops rest
+    → FractionRead true (piece ++ rest) value rest
 fraction_exact piece rest value (inl none) s =
     rw none.0 (record { pass = rw s.point refl; number = rw s.point (sym none.1); follows = rw s.point refl })
 fraction_exact piece rest value (inr f) s =
@@ -108,7 +118,8 @@ fraction_first : (piece rest : List ℕ) (value : Option ℕ) → IsPerhapsSecon
 fraction_first piece rest value (inl none) s = rw none.0 s.digit
 fraction_first piece rest value (inr f) s = rw f.joined refl
 
-seconds_exact : (piece rest : List ℕ) (second value : Option ℕ) → IsPerhapsSeconds piece second value → Stops rest → SecondsRead (piece ++ rest) second value rest
+seconds_exact : (piece rest : List ℕ) (second value : Option ℕ) → IsPerhapsSeconds piece second value → Stops rest
+    → SecondsRead (piece ++ rest) second value rest
 seconds_exact piece rest second value (inl none) s =
     rw none.0 (record {
       digits = rw s.colon refl;
@@ -120,8 +131,10 @@ seconds_exact piece rest second value (inl none) s =
       follows = rw s.colon refl;
     })
 seconds_exact piece rest second value (inr f) s =
-    let split : piece ++ rest ≡ 58 ∷ (f.digits ++ (f.fraction ++ rest)) = ap (λ (l : List ℕ). l ++ rest) f.joined ∙ ap (λ (l : List ℕ). 58 ∷ l) (append_assoc f.digits f.fraction rest) in
-    let run = field_run 2 0 60 f.digits (f.fraction ++ rest) f.number f.field (omega arith) (fraction_first f.fraction rest value f.fractions s) in
+    let split : piece ++ rest ≡ 58 ∷ (f.digits ++ (f.fraction ++ rest)) = ap (λ (l : List ℕ). l ++ rest) f.joined
+        ∙ ap (λ (l : List ℕ). 58 ∷ l) (append_assoc f.digits f.fraction rest) in
+    let run = field_run 2 0 60 f.digits (f.fraction ++ rest) f.number f.field (omega arith)
+        (fraction_first f.fraction rest value f.fractions s) in
     let more = fraction_exact f.fraction rest value f.fractions s in
     rw split (record {
       digits = run.is;
@@ -133,7 +146,8 @@ seconds_exact piece rest second value (inr f) s =
       follows = rw run.follows more.follows;
     })
 
-seconds_first : (piece rest : List ℕ) (second value : Option ℕ) → IsPerhapsSeconds piece second value → Stops rest → NoDigitFirst (piece ++ rest)
+seconds_first : (piece rest : List ℕ) (second value : Option ℕ) → IsPerhapsSeconds piece second value → Stops rest
+    → NoDigitFirst (piece ++ rest)
 seconds_first piece rest second value (inl none) s = rw none.0 s.digit
 seconds_first piece rest second value (inr f) s = rw f.joined refl
 
@@ -146,10 +160,12 @@ same_time : (h m : ℕ) (s n : Option ℕ) (time : Time) → time.hour ≡ h →
     → ◌≡◌ {A = Time} (record { hour = h; minute = m; second = s; nanosecond = n }) time
 same_time h m s n time e f g k = rw (← e, ← f, g, k) refl
 
-pub time_exact : (text rest : List ℕ) (time : Time) (i : IsPartialTime text time) → Stops rest → TimeRead i.hour_text (i.minute_text ++ (i.second_text ++ rest)) time rest
+pub time_exact : (text rest : List ℕ) (time : Time) (i : IsPartialTime text time) → Stops rest
+    → TimeRead i.hour_text (i.minute_text ++ (i.second_text ++ rest)) time rest
 unfolding time_rows time_of after_time
 time_exact text rest time i st =
-    let minute = field_run 2 0 59 i.minute_text (i.second_text ++ rest) time.minute i.minutes (omega arith) (seconds_first i.second_text rest time.second time.nanosecond i.seconds st) in
+    let minute = field_run 2 0 59 i.minute_text (i.second_text ++ rest) time.minute i.minutes (omega arith)
+        (seconds_first i.second_text rest time.second time.nanosecond i.seconds st) in
     let s = seconds_exact i.second_text rest time.second time.nanosecond i.seconds st in
     record {
       pass = none_fails (time_rows i.hour_text (i.minute_text ++ (i.second_text ++ rest))) (

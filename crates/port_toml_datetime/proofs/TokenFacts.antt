@@ -22,7 +22,8 @@ pub run_exact : (digits rest : List ℕ) → 0 < length digits → AreDigits dig
 run_exact [] rest some d n = absurd (omega arith)
 run_exact (c ∷ cs) rest some d n =
     let yes = test_from_digit c d.0 in
-    record { is = rw (yes, yes) refl; first = rw yes (ap (λ (ds : List ℕ). c ∷ ds) (front_of cs rest d.1 n)); follows = rw yes (after_of cs rest d.1 n) }
+    record { is = rw (yes, yes) refl; first = rw yes (ap (λ (ds : List ℕ). c ∷ ds) (front_of cs rest d.1 n));
+        follows = rw yes (after_of cs rest d.1 n) }
 
 -- what a token of digits is
 pub record IsFront (text : List ℕ) : Type 0 where
@@ -30,7 +31,8 @@ pub record IsFront (text : List ℕ) : Type 0 where
   pub digits : AreDigits (first_token text)
   pub joined : text ≡ first_token text ++ after_token text
 
-run_if : (t m : Bool) (b : ℕ) (bs : List ℕ) → is_ascii_digit b ≡ t → is_digits (cond t (b ∷ front_digits bs) (cond m (b ∷ []) (b ∷ bs))) ≡ true
+run_if : (t m : Bool) (b : ℕ) (bs : List ℕ) → is_ascii_digit b ≡ t
+    → is_digits (cond t (b ∷ front_digits bs) (cond m (b ∷ []) (b ∷ bs))) ≡ true
     → let first : List ℕ = cond t (b ∷ front_digits bs) (cond m (b ∷ []) (b ∷ bs)) in
     (0 < length first) × AreDigits first × (b ∷ bs ≡ first ++ cond t (after_digits bs) (cond m bs []))
 run_if true m b bs e h = (omega arith, (digit_is b e, front_are_digits bs), ap (λ (l : List ℕ). b ∷ l) (sym (front_and_after bs)))
@@ -48,7 +50,8 @@ pub record IsFrontToken (text : List ℕ) : Type 0 where
   pub first : front_digits text ≡ first_token text
   pub follows : after_digits text ≡ after_token text
 
-front_if : (t m : Bool) (b : ℕ) (bs : List ℕ) → is_ascii_digit b ≡ t → 0 < length (cond {A = List ℕ} t (b ∷ front_digits bs) []) → IsFrontToken (b ∷ bs)
+front_if : (t m : Bool) (b : ℕ) (bs : List ℕ) → is_ascii_digit b ≡ t → 0 < length (cond {A = List ℕ} t (b ∷ front_digits bs) [])
+    → IsFrontToken (b ∷ bs)
 front_if true m b bs e some = record { is = rw (e, e) refl; first = rw e refl; follows = rw e refl }
 front_if false m b bs e some = absurd (omega (arith, some))
 
@@ -72,10 +75,12 @@ some_are n t e f = let g : (n == 0) ≡ false = sym e ∙ f in grind (arith, nat
 none_are : (n : ℕ) (t : Bool) → t ≡ (n == 0) → t ≡ true → n ≡ 0
 none_are n t e f = let g : (n == 0) ≡ true = sym e ∙ f in grind (arith, nat_tests)
 
-pub token_found : (text found : List ℕ) (empty : Bool) → found ≡ front_digits text → empty ≡ (length found == 0) → empty ≡ false → IsFrontToken text
+pub token_found : (text found : List ℕ) (empty : Bool) → found ≡ front_digits text → empty ≡ (length found == 0) → empty ≡ false
+    → IsFrontToken text
 token_found text found empty front e f = front_token text (rw front at (some_are (length found) empty e f))
 
-pub no_token_found : (text found : List ℕ) (empty : Bool) → found ≡ front_digits text → empty ≡ (length found == 0) → empty ≡ true → is_digits (first_token text) ≡ false
+pub no_token_found : (text found : List ℕ) (empty : Bool) → found ≡ front_digits text → empty ≡ (length found == 0) → empty ≡ true
+    → is_digits (first_token text) ≡ false
 no_token_found text found empty front e f = no_front_token text (rw front at (none_are (length found) empty e f))
 
 some_front : (t : Bool) (b : ℕ) (bs : List ℕ) → is_ascii_digit b ≡ t → t ≡ true → 0 < length (cond {A = List ℕ} t (b ∷ front_digits bs) [])

@@ -2,7 +2,8 @@
 -- what was expected. They stand in the order in which they are made, and the first that fails
 -- decides. TOML has no such table: order and words are those of the Rust crate. A check is total in
 -- the text. Behind one that fails, later checks may mean nothing; nobody looks at them.
-use Rattle.std.specs.Prelude.{ℕ, Bool, true, ◌||◌, ◌&&◌, ◌==◌, nat_le, List, [], ◌∷◌, ◌++◌, length, codes, Option, Some, None, option_map, is_some, pos, if◌then◌else◌}
+use Rattle.std.specs.Prelude.{ℕ, Bool, true, ◌||◌, ◌&&◌, ◌==◌, nat_le, List, [], ◌∷◌, ◌++◌, length, codes, Option, Some, None, option_map}
+use Rattle.std.specs.Prelude.{is_some, pos, if◌then◌else◌}
 use Rattle.scan_core.specs.Digits.{number_of}
 use Rattle.scan_core.specs.Calendar.{days_in_month}
 use Rattle.port_toml_datetime.specs.Faults.{Fault, fault, bare_fault}

@@ -1,7 +1,12 @@
 -- What an error says, and its text: `invalid date, expected month`.
 use Rattle.std.specs.Prelude.{List, ℕ, [], ◌++◌, codes, Option, Some, None}
 use Rattle.port_toml_datetime.specs.declared.error.Check.{Check}
-use Rattle.port_toml_datetime.specs.declared.error.Check.TheVariants.{YearOrHour, YearOrHourMark, Month, MonthMark, Day, YearWidth, MonthWidth, DayWidth, MonthRange, DayTo28, DayTo29, DayTo30, DayTo31, Delimiter, Hour, HourMark, Minute, Second, Nanosecond, HourWidth, MinuteWidth, SecondWidth, HourRange, MinuteRange, SecondRange, Offset, OffsetHour, OffsetHourMark, OffsetMinute, OffsetHourWidth, OffsetMinuteWidth, OffsetHourRange, OffsetMinuteRange, End}
+use Rattle.port_toml_datetime.specs.declared.error.Check.TheVariants.{YearOrHour, YearOrHourMark, Month, MonthMark, Day, YearWidth}
+use Rattle.port_toml_datetime.specs.declared.error.Check.TheVariants.{MonthWidth, DayWidth, MonthRange, DayTo28, DayTo29, DayTo30, DayTo31}
+use Rattle.port_toml_datetime.specs.declared.error.Check.TheVariants.{Delimiter, Hour, HourMark, Minute, Second, Nanosecond, HourWidth}
+use Rattle.port_toml_datetime.specs.declared.error.Check.TheVariants.{MinuteWidth, SecondWidth, HourRange, MinuteRange, SecondRange, Offset}
+use Rattle.port_toml_datetime.specs.declared.error.Check.TheVariants.{OffsetHour, OffsetHourMark, OffsetMinute, OffsetHourWidth}
+use Rattle.port_toml_datetime.specs.declared.error.Check.TheVariants.{OffsetMinuteWidth, OffsetHourRange, OffsetMinuteRange, End}
 use Rattle.port_toml_datetime.specs.declared.error.DatetimeParseError.{DatetimeParseError}
 
 -- what is wrong, and what was expected there

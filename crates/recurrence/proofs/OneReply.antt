@@ -1,5 +1,6 @@
 -- A line has one reply.
-use Rattle.std.proofs.Common.{◌≡◌, ◌⊎◌, inl, inr, ℕ, ◌<◌, ◌≤◌, true, List, [], ◌++◌, codes, ℤ, Option, Some, None, Result, Ok, Err, IsTrue, refl, sym, ◌∙◌, ap, ap₂, subst, true≢false, arith}
+use Rattle.std.proofs.Common.{◌≡◌, ◌⊎◌, inl, inr, ℕ, ◌<◌, ◌≤◌, true, List, [], ◌++◌, codes, ℤ, Option, Some, None, Result, Ok, Err, IsTrue}
+use Rattle.std.proofs.Common.{refl, sym, ◌∙◌, ap, ap₂, subst, true≢false, arith}
 use Rattle.std.specs.Result.{is_ok}
 use Rattle.scan_core.specs.Count.{Count}
 use Rattle.scan_core.specs.Digits.{number_of}
@@ -18,7 +19,8 @@ use Rattle.forms.specs.declared.form.Form.TheVariants.{IsoDateTime}
 use Rattle.forms.specs.declared.value.Value.{Value}
 use Rattle.forms.specs.declared.value.Value.TheVariants.{Instant, Day, Local, Clock, Triple, Length}
 use Rattle.recurrence.specs.Requests.{IsRequest}
-use Rattle.recurrence.specs.Replies.{refusal, stop_text, IsInstantLine, IsSeriesReply, IsWholeMillis, IsStepReply, IsLengthReply, IsStartReply, IsCountReply, IsReply, AreReplies}
+use Rattle.recurrence.specs.Replies.{refusal, stop_text, IsInstantLine, IsSeriesReply, IsWholeMillis, IsStepReply, IsLengthReply}
+use Rattle.recurrence.specs.Replies.{IsStartReply, IsCountReply, IsReply, AreReplies}
 use Rattle.recurrence.specs.inside.OneReply.{AreOne}
 use Rattle.scan_core.proofs.SumFacts.{misfit-none}
 use Rattle.recurrence.proofs.Asking.{one_request}
@@ -33,24 +35,29 @@ text_in (Err cause) = []
 
 one_line : AreOne → (instant : ℤ) (a b : List ℕ) → IsInstantLine a instant → IsInstantLine b instant → a ≡ b
 one_line ones instant a b (text, is, whole) (text₂, is₂, whole₂) =
-    whole ∙ (ap (λ (l : List ℕ). l ++ codes "\n") (ap text_in (ones.writing IsoDateTime (Instant instant) (Ok text) (Ok text₂) is is₂)) ∙ sym whole₂)
+    whole ∙ (ap (λ (l : List ℕ). l ++ codes "\n") (ap text_in (ones.writing IsoDateTime (Instant instant) (Ok text) (Ok text₂) is is₂))
+        ∙ sym whole₂)
 
-one_series_reply : AreOne → (last : ℕ) (start : ℤ) (step : Interval) (a b : List ℕ) → IsSeriesReply last start step a → IsSeriesReply last start step b → a ≡ b
+one_series_reply : AreOne → (last : ℕ) (start : ℤ) (step : Interval) (a b : List ℕ) → IsSeriesReply last start step a
+    → IsSeriesReply last start step b → a ≡ b
 one_series_reply ones last start step a b h k =
     let same = one_series ones.dates start step last h.instants k.instants h.stop k.stop h.series k.series in
-    let text = one_join IsInstantLine (one_line ones) k.instants h.text k.text (subst (IsJoin IsInstantLine h.text) same.0 h.written) k.written in
+    let text = one_join IsInstantLine (one_line ones) k.instants h.text k.text
+        (subst (IsJoin IsInstantLine h.text) same.0 h.written) k.written in
     h.joined ∙ (ap₂ (λ (s : List ℕ) (o : Option ℕ). s ++ stop_text o) text same.1 ∙ sym k.joined)
 
 -- ---- the step
 
-one_step : AreOne → (last : ℕ) (start : ℤ) (step : Interval) (a b : List ℕ) → IsStepReply last start step a → IsStepReply last start step b → a ≡ b
+one_step : AreOne → (last : ℕ) (start : ℤ) (step : Interval) (a b : List ℕ) → IsStepReply last start step a → IsStepReply last start step b
+    → a ≡ b
 one_step ones last start step a b (inl h) (inl k) = h.1 ∙ sym k.1
 one_step ones last start step a b (inl h) (inr k) = absurd (h.0 k.0)
 one_step ones last start step a b (inr h) (inl k) = absurd (k.0 h.0)
 one_step ones last start step a b (inr h) (inr k) = one_series_reply ones last start step a b h.1 k.1
 
 -- counts that fit have no part that doesn't
-fit_or_not : (ones : AreOne) (text : List ℕ) (step : Interval) (part : Part) → Denotes (Shape Iso) text step → Misfits (Shape Iso) text part → ⊥
+fit_or_not : (ones : AreOne) (text : List ℕ) (step : Interval) (part : Part) → Denotes (Shape Iso) text step → Misfits (Shape Iso) text part
+    → ⊥
 fit_or_not ones text step part (counts, shape, fit, is) (counts₂, shape₂, not_fit) =
     let same = ones.counts Iso text counts counts₂ shape shape₂ in
     let none = (misfit-none counts₂).1 (subst (λ (c : List Count). IsTrue (fits c)) same fit) in
@@ -60,7 +67,8 @@ fit_or_not ones text step part (counts, shape, fit, is) (counts₂, shape₂, no
 abbrev sum_of : List Count → Interval
 sum_of counts = record { months = total Months counts; days = total Days counts; microseconds = total Micros counts }
 
-one_interval : AreOne → (text : List ℕ) (step step₂ : Interval) → Denotes (Shape Iso) text step → Denotes (Shape Iso) text step₂ → step ≡ step₂
+one_interval : AreOne → (text : List ℕ) (step step₂ : Interval) → Denotes (Shape Iso) text step → Denotes (Shape Iso) text step₂
+    → step ≡ step₂
 one_interval ones text step step₂ (counts, shape, fit, is) (counts₂, shape₂, fit₂, is₂) =
     is ∙ (ap sum_of (ones.counts Iso text counts counts₂ shape shape₂) ∙ sym is₂)
 
@@ -78,7 +86,8 @@ one_length ones last start text a b (inr (inr h)) (inr (inr k)) =
 
 -- ---- the start, the count and the line
 
-one_start : AreOne → (last : ℕ) (moment : Result Value Cause) (step a b : List ℕ) → IsStartReply last moment step a → IsStartReply last moment step b → a ≡ b
+one_start : AreOne → (last : ℕ) (moment : Result Value Cause) (step a b : List ℕ) → IsStartReply last moment step a
+    → IsStartReply last moment step b → a ≡ b
 one_start ones last (Err cause) step a b h k = h ∙ sym k
 one_start ones last (Ok (Instant start)) step a b h k = one_length ones last start step a b h k
 one_start ones last (Ok (Day day)) step a b h k = absurd h
@@ -92,18 +101,23 @@ one_count ones last start step a b (inl h) (inl k) = h.1 ∙ sym k.1
 one_count ones last start step a b (inl h) (inr k) = absurd (omega (arith, h.0, k.0))
 one_count ones last start step a b (inr h) (inl k) = absurd (omega (arith, h.0, k.0))
 one_count ones last start step a b (inr (few, moment, is, reply)) (inr (few₂, moment₂, is₂, reply₂)) =
-    one_start ones last moment₂ step a b (subst (λ (m : Result Value Cause). IsStartReply last m step a) (ones.reading IsoDateTime start moment moment₂ is is₂) reply) reply₂
+    one_start ones last moment₂ step a b (subst (λ (m : Result Value Cause). IsStartReply last m step a)
+        (ones.reading IsoDateTime start moment moment₂ is is₂) reply) reply₂
 
-same_parts : (digits start step digits₂ start₂ step₂ out : List ℕ) → (digits ≡ digits₂) × (start ≡ start₂) × (step ≡ step₂) → IsCountReply (number_of digits) start step out → IsCountReply (number_of digits₂) start₂ step₂ out
+same_parts : (digits start step digits₂ start₂ step₂ out : List ℕ) → (digits ≡ digits₂) × (start ≡ start₂) × (step ≡ step₂)
+    → IsCountReply (number_of digits) start step out → IsCountReply (number_of digits₂) start₂ step₂ out
 same_parts digits start step digits₂ start₂ step₂ out same h =
-    subst (λ (d : List ℕ). IsCountReply (number_of d) start₂ step₂ out) same.0 (subst (λ (s : List ℕ). IsCountReply (number_of digits) s step₂ out) same.1 (subst (λ (t : List ℕ). IsCountReply (number_of digits) start t out) same.2 h))
+    subst (λ (d : List ℕ). IsCountReply (number_of d) start₂ step₂ out) same.0
+        (subst (λ (s : List ℕ). IsCountReply (number_of digits) s step₂ out) same.1
+        (subst (λ (t : List ℕ). IsCountReply (number_of digits) start t out) same.2 h))
 
 pub one_reply : AreOne → (line a b : List ℕ) → IsReply a line → IsReply b line → a ≡ b
 one_reply ones line a b (inl h) (inl k) = h.1 ∙ sym k.1
 one_reply ones line a b (inl h) (inr (digits, start, step, asked, is)) = absurd (h.0 digits start step asked)
 one_reply ones line a b (inr (digits, start, step, asked, is)) (inl k) = absurd (k.0 digits start step asked)
 one_reply ones line a b (inr (digits, start, step, asked, is)) (inr (digits₂, start₂, step₂, asked₂, is₂)) =
-    one_count ones (number_of digits₂) start₂ step₂ a b (same_parts digits start step digits₂ start₂ step₂ a (one_request line digits start step digits₂ start₂ step₂ asked.1 asked₂.1) is) is₂
+    one_count ones (number_of digits₂) start₂ step₂ a b (same_parts digits start step digits₂ start₂ step₂ a
+        (one_request line digits start step digits₂ start₂ step₂ asked.1 asked₂.1) is) is₂
 
 pub one_output : AreOne → (lines : List (List ℕ)) (a b : List ℕ) → AreReplies lines a → AreReplies lines b → a ≡ b
 one_output ones lines a b h k = one_join IsReply (one_reply ones) lines a b h k

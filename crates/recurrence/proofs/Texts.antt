@@ -43,11 +43,14 @@ utc c = record {
 whole_subsec : (c : CivilDateTime) (z : ℤ) → civil_nanos c ≡ z → IsInMillis z → c.time.subsec_nanosecond % 1_000_000 ≡ 0
 whole_subsec c z e h = let parts = civil_nanos-parts c in let whole = h.1 in omega (arith, ints, parts, e, whole)
 
-clock_same : (hour minute second subsec : ℕ) → subsec % 1_000_000 ≡ 0 → ((hour * 60 + minute) * 60 + second) * 1_000_000_000 + subsec / 1_000_000 * 1_000_000 ≡ (hour * 3600 + minute * 60 + second) * 1_000_000_000 + subsec
+clock_same : (hour minute second subsec : ℕ) → subsec % 1_000_000 ≡ 0
+    → ((hour * 60 + minute) * 60 + second) * 1_000_000_000 + subsec / 1_000_000 * 1_000_000
+    ≡ (hour * 3600 + minute * 60 + second) * 1_000_000_000 + subsec
 clock_same hour minute second subsec whole = omega (arith, whole)
 
 -- the date-time in UTC of a civil date-time is at its moment
-at_moment : AreCalendarDates → (c : CivilDateTime) (z : ℤ) → civil_nanos c ≡ z → c.time.subsec_nanosecond % 1_000_000 ≡ 0 → IsMomentAt z (utc c) 0
+at_moment : AreCalendarDates → (c : CivilDateTime) (z : ℤ) → civil_nanos c ≡ z → c.time.subsec_nanosecond % 1_000_000 ≡ 0
+    → IsMomentAt z (utc c) 0
 at_moment laws c z is whole =
     let year : IsYear c.date.year = c.date.year_in in
     let parts = civil_nanos-parts c in
@@ -56,7 +59,8 @@ at_moment laws c z is whole =
     let minute = c.time.minute_in in
     let second = c.time.second_in in
     let subsec = c.time.subsec_in in
-    let times : clock_of (utc c).time ≡ time_nanos c.time = clock_same c.time.hour c.time.minute c.time.second c.time.subsec_nanosecond whole in
+    let times : clock_of (utc c).time ≡ time_nanos c.time = clock_same c.time.hour c.time.minute c.time.second c.time.subsec_nanosecond
+        whole in
     record {
       year = c.date.year;
       month = c.date.month;

@@ -10,7 +10,7 @@ ghost use Rattle.recurrence.specs.inside.Written.{IsInMillis};
 
 use crate::answer::{Answer, answer_to};
 use crate::instant::civil_dates_are_calendar_dates;
-use crate::laws::lines_have_one_output;
+use crate::laws;
 use crate::refusal::{Refusal, refusal_line};
 use crate::series::Series;
 use crate::series_lines::{put_left, put_stop, texts_keep_their_order};
@@ -29,7 +29,7 @@ pub fn write_replies<K: Sink>(sink: &mut K, text: &[u8]) -> Result<(), Failed>
     let mut rest = text;
     while let Some((line, after)) = first_line(rest) {
         if let Err(failed) = put_reply(sink, &mut batch, line) {
-            lines_have_one_output(after);
+            laws::lines_have_one_output(after);
             return Err(failed);
         }
         rest = after;

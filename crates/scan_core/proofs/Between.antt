@@ -1,5 +1,6 @@
 -- The bytes of a text from one place up to another: parted, and one byte more at either end.
-use Rattle.std.proofs.Common.{◌≡◌, ℕ, ◌+◌, ◌-◌, ◌<◌, ◌≤◌, List, [], ◌∷◌, ◌++◌, length, get_or, take, drop, suc, refl, ◌∙◌, ap, subst, length-drop, arith}
+use Rattle.std.proofs.Common.{◌≡◌, ℕ, ◌+◌, ◌-◌, ◌<◌, ◌≤◌, List, [], ◌∷◌, ◌++◌, length, get_or, take, drop, suc, refl, ◌∙◌, ap, subst}
+use Rattle.std.proofs.Common.{length-drop, arith}
 use Rattle.std.proofs.Math.Seq.{take-add}
 use Rattle.std.proofs.lemmas.List.{drop-drop, drop_more, length-take-le}
 use Rattle.std.specs.Char.{digit_value}
@@ -17,8 +18,10 @@ pub between_split : (text : List ℕ) (start mid end : ℕ) → start ≤ mid �
     → between start end text ≡ between start mid text ++ between mid end text
 between_split text start mid end first last =
     let parts : end - start ≡ (mid - start) + (end - mid) = omega arith in
-    let there : drop (mid - start) (drop start text) ≡ drop mid text = drop-drop (mid - start) start text ∙ ap (λ (n : ℕ). drop n text) (omega arith) in
-    rw parts (take-add (mid - start) (end - mid) (drop start text) ∙ ap (λ (l : List ℕ). between start mid text ++ take (end - mid) l) there)
+    let there : drop (mid - start) (drop start text) ≡ drop mid text = drop-drop (mid - start) start text
+        ∙ ap (λ (n : ℕ). drop n text) (omega arith) in
+    rw parts (take-add (mid - start) (end - mid) (drop start text)
+        ∙ ap (λ (l : List ℕ). between start mid text ++ take (end - mid) l) there)
 
 -- a byte at the start
 pub between_cons : (text : List ℕ) (at end : ℕ) → at < end → end ≤ length text
@@ -32,7 +35,8 @@ pub between_push : (text : List ℕ) (start at : ℕ) → start ≤ at → at < 
     → between start (at + 1) text ≡ between start at text ++ get_or text at 0 ∷ []
 between_push text start at order within =
     between_split text start at (at + 1) order (omega arith)
-    ∙ ap (λ (l : List ℕ). between start at text ++ l) (between_cons text at (at + 1) (omega arith) (omega arith) ∙ ap (λ (l : List ℕ). get_or text at 0 ∷ l) (between_none text (at + 1)))
+    ∙ ap (λ (l : List ℕ). between start at text ++ l) (between_cons text at (at + 1) (omega arith) (omega arith)
+        ∙ ap (λ (l : List ℕ). get_or text at 0 ∷ l) (between_none text (at + 1)))
 
 -- a byte before the start
 pub between_before : (text : List ℕ) (at end : ℕ) → 0 < at → at ≤ end → end ≤ length text
@@ -44,7 +48,8 @@ between_before text at end some order within =
 -- digits behind a place among digits, and the byte at such a place
 pub digits_behind : (text : List ℕ) (start at end : ℕ) → start ≤ at → at ≤ end → AreDigits (between start end text)
     → AreDigits (between at end text)
-digits_behind text start at end order last digits = digits_right (between start at text) (between at end text) (subst AreDigits (between_split text start at end order last) digits)
+digits_behind text start at end order last digits = digits_right (between start at text) (between at end text)
+    (subst AreDigits (between_split text start at end order last) digits)
 
 pub digit_between : (text : List ℕ) (start at end : ℕ) → start ≤ at → at < end → end ≤ length text → AreDigits (between start end text)
     → digit_value (get_or text at 0) < 10

@@ -1,5 +1,6 @@
 -- Digits and the number that they write: one more digit, a front, a join, and the decimal text of a number.
-use Rattle.std.proofs.Common.{◌≡◌, ℕ, zero, suc, ◌+◌, ◌-◌, ◌*◌, ◌^◌, ◌<◌, ◌≤◌, Bool, true, ◌&&◌, List, [], ◌∷◌, ◌++◌, length, get_or, take, drop, decimal, replicate, append_assoc, refl, ap, sym, ◌∙◌, arith}
+use Rattle.std.proofs.Common.{◌≡◌, ℕ, zero, suc, ◌+◌, ◌-◌, ◌*◌, ◌^◌, ◌<◌, ◌≤◌, Bool, true, ◌&&◌, List, [], ◌∷◌, ◌++◌, length, get_or, take}
+use Rattle.std.proofs.Common.{drop, decimal, replicate, append_assoc, refl, ap, sym, ◌∙◌, arith}
 use Rattle.std.proofs.Math.Nat.{pow-suc}
 use Rattle.std.proofs.lemmas.Bool.Decides.{nat_tests}
 use Rattle.std.proofs.lemmas.Fmt.{decimal_is_IsNumeral, length-decimal-le}
@@ -38,7 +39,8 @@ number_after : (n : ℕ) (ds : List ℕ) → digits_value_after 10 n ds ≡ n * 
 number_after n [] = omega arith
 number_after n (d ∷ ds) =
     let v = digit_value d in
-    rw (pow-suc 10 (length ds)) (weighed n v (10 ^ length ds) (number_of ds) _ _ (number_after (n * 10 + v) ds) (number_after (0 * 10 + v) ds))
+    rw (pow-suc 10 (length ds)) (weighed n v (10 ^ length ds) (number_of ds) _ _ (number_after (n * 10 + v) ds)
+        (number_after (0 * 10 + v) ds))
 
 after-append : (n : ℕ) (xs ys : List ℕ) → digits_value_after 10 n (xs ++ ys) ≡ digits_value_after 10 (digits_value_after 10 n xs) ys
 after-append n [] ys = refl

@@ -14,11 +14,14 @@ pub leading_of : (test : ℕ → Bool) (front rest : List ℕ) → list_all test
     → leading test (front ++ rest) ≡ front
 leading_of test [] [] all n = refl
 leading_of test [] (b ∷ bs) all n = rw n refl
-leading_of test (c ∷ cs) rest all n = let p = and_parts (test c) (list_all test cs) all in rw p.0 (ap (λ (l : List ℕ). c ∷ l) (leading_of test cs rest p.1 n))
+leading_of test (c ∷ cs) rest all n = let p = and_parts (test c) (list_all test cs) all in
+    rw p.0 (ap (λ (l : List ℕ). c ∷ l) (leading_of test cs rest p.1 n))
 
-pub leading_skips : (test : ℕ → Bool) (front rest : List ℕ) → list_all test front ≡ true → leading test (front ++ rest) ≡ front ++ leading test rest
+pub leading_skips : (test : ℕ → Bool) (front rest : List ℕ) → list_all test front ≡ true
+    → leading test (front ++ rest) ≡ front ++ leading test rest
 leading_skips test [] rest all = refl
-leading_skips test (c ∷ cs) rest all = let p = and_parts (test c) (list_all test cs) all in rw p.0 (ap (λ (l : List ℕ). c ∷ l) (leading_skips test cs rest p.1))
+leading_skips test (c ∷ cs) rest all = let p = and_parts (test c) (list_all test cs) all in
+    rw p.0 (ap (λ (l : List ℕ). c ∷ l) (leading_skips test cs rest p.1))
 
 pub behind_skips : (test : ℕ → Bool) (front rest : List ℕ) → list_all test front ≡ true → behind test (front ++ rest) ≡ behind test rest
 behind_skips test [] rest all = refl

@@ -1,4 +1,5 @@
--- A join is read in one way: where a reader finds each piece at the front of whatever follows it, two joins of one list have the same values.
+-- A join is read in one way: where a reader finds each piece at the front of whatever follows it, two joins of one list have the same
+-- values.
 use Rattle.std.proofs.Common.{◌≡◌, List, [], ◌∷◌, ◌++◌, Option, Some, None, refl, sym, ◌∙◌, ap, append_assoc, append-nil}
 use Rattle.scan_core.specs.Join.{IsJoin}
 

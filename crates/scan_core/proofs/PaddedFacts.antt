@@ -1,5 +1,6 @@
 -- Digits with leading zeros: how many they are, the number that they write, and their last digit.
-use Rattle.std.proofs.Common.{◌≡◌, ℕ, zero, suc, ◌+◌, ◌-◌, ◌/◌, ◌%◌, ◌^◌, ◌<◌, ◌≤◌, inl, inr, List, [], ◌∷◌, ◌++◌, length, decimal, replicate, max, append_assoc, length-append, arith, refl, sym, ap, ap₂, ◌∙◌}
+use Rattle.std.proofs.Common.{◌≡◌, ℕ, zero, suc, ◌+◌, ◌-◌, ◌/◌, ◌%◌, ◌^◌, ◌<◌, ◌≤◌, inl, inr, List, [], ◌∷◌, ◌++◌, length, decimal}
+use Rattle.std.proofs.Common.{replicate, max, append_assoc, length-append, arith, refl, sym, ap, ap₂, ◌∙◌}
 use Rattle.std.proofs.lemmas.Fmt.{decimal_digit, decimal_step, decimal_nonempty, length-decimal-le}
 use Rattle.std.proofs.lemmas.Bool.{cases_lt}
 use Rattle.std.proofs.lemmas.List.{length_push}
@@ -17,7 +18,8 @@ length-padded width n =
     omega (arith, length-append (replicate (width - length (decimal n)) 48) (decimal n), length-zeros (width - length (decimal n)))
 
 pub digits-padded : (width n : ℕ) → n < 2 ^ 64 → AreDigits (padded_digits width n)
-digits-padded width n small = digits-append (replicate (width - length (decimal n)) 48) (decimal n) (digits-zeros (width - length (decimal n))) (digits_decimal n small)
+digits-padded width n small = digits-append (replicate (width - length (decimal n)) 48) (decimal n)
+    (digits-zeros (width - length (decimal n))) (digits_decimal n small)
 
 pub number_of-padded : (width n : ℕ) → n < 2 ^ 64 → number_of (padded_digits width n) ≡ n
 number_of-padded width n small = number_of-zeros (width - length (decimal n)) (decimal n) ∙ number_of-decimal n small
@@ -26,7 +28,8 @@ pub padded_some : (width n : ℕ) → n < 2 ^ 64 → 0 < length (padded_digits w
 padded_some width n fits = let some = decimal_nonempty n fits in omega (arith, length-padded width n, some)
 
 -- a number of at most this many digits is written in just as many, a field
-pub padded_field : (count lo hi n : ℕ) → 0 < count → n < 10 ^ count → n < 2 ^ 64 → lo ≤ n → n ≤ hi → IsField count lo hi (padded_digits count n) n
+pub padded_field : (count lo hi n : ℕ) → 0 < count → n < 10 ^ count → n < 2 ^ 64 → lo ≤ n → n ≤ hi
+    → IsField count lo hi (padded_digits count n) n
 padded_field count lo hi n some short fits least most =
     record {
       long = omega (arith, length-padded count n, length-decimal-le count n some short fits);
@@ -70,10 +73,12 @@ zeros_last zero h = absurd (omega arith)
 zeros_last (suc k) h = let same : k ≡ suc k - 1 = omega arith in zeros_more k ∙ ap (λ (m : ℕ). replicate m 48 ++ (48 ∷ [])) same
 
 small_last : (width n : ℕ) → 1 < width → n < 10 → padded_digits width n ≡ padded_digits (width - 1) 0 ++ ((48 + n) ∷ [])
-small_last width n w h = padded_digit width n h ∙ ap (λ (l : List ℕ). l ++ ((48 + n) ∷ [])) (zeros_last (width - 1) (omega (arith, w)) ∙ sym (padded_digit (width - 1) 0 (omega arith)))
+small_last width n w h = padded_digit width n h ∙ ap (λ (l : List ℕ). l ++ ((48 + n) ∷ []))
+    (zeros_last (width - 1) (omega (arith, w)) ∙ sym (padded_digit (width - 1) 0 (omega arith)))
 
 -- in a width above one, the digits of a number are those of its tenth, and its last digit
-pub padded_last : (width n : ℕ) → 1 < width → n < 2 ^ 64 → padded_digits width n ≡ padded_digits (width - 1) (n / 10) ++ ((48 + n % 10) ∷ [])
+pub padded_last : (width n : ℕ) → 1 < width → n < 2 ^ 64 → padded_digits width n ≡ padded_digits (width - 1) (n / 10)
+    ++ ((48 + n % 10) ∷ [])
 padded_last width n w fits =
     elim (cases_lt n 10) [
       | inr ten ↦ padded_more width n ten fits
@@ -90,14 +95,18 @@ padded_two n h =
     ∙ ap (λ (l : List ℕ). l ++ ((48 + n % 10) ∷ [])) (padded_digit 1 (n / 10) (omega (arith, h)) ∙ ap (λ (t : ℕ). (48 + t) ∷ []) tens)
 
 -- in a width above two, the digits of a number are those of its hundredth, and its last two digits
-pub padded_pair : (width n : ℕ) → 2 < width → n < 2 ^ 64 → padded_digits width n ≡ padded_digits (width - 2) (n / 100) ++ padded_digits 2 (n % 100)
+pub padded_pair : (width n : ℕ) → 2 < width → n < 2 ^ 64 → padded_digits width n ≡ padded_digits (width - 2) (n / 100)
+    ++ padded_digits 2 (n % 100)
 padded_pair width n w fits =
     let tens : n % 100 / 10 % 10 ≡ n / 10 % 10 = omega arith in
     let ones : n % 100 % 10 ≡ n % 10 = omega arith in
     let hundredth : n / 10 / 10 ≡ n / 100 = omega arith in
     let narrower : (width - 1) - 1 ≡ width - 2 = omega arith in
-    let pair : padded_digits 2 (n % 100) ≡ (48 + n / 10 % 10) ∷ ((48 + n % 10) ∷ []) = padded_two (n % 100) (omega arith) ∙ ap₂ (λ (t d : ℕ). (48 + t) ∷ ((48 + d) ∷ [])) tens ones in
-    let front : padded_digits (width - 1) (n / 10) ≡ padded_digits (width - 2) (n / 100) ++ ((48 + n / 10 % 10) ∷ []) = padded_last (width - 1) (n / 10) (omega (arith, w)) (omega (arith, fits)) ∙ ap₂ (λ (k t : ℕ). padded_digits k t ++ ((48 + n / 10 % 10) ∷ [])) narrower hundredth in
+    let pair : padded_digits 2 (n % 100) ≡ (48 + n / 10 % 10) ∷ ((48 + n % 10) ∷ []) = padded_two (n % 100) (omega arith)
+        ∙ ap₂ (λ (t d : ℕ). (48 + t) ∷ ((48 + d) ∷ [])) tens ones in
+    let front : padded_digits (width - 1) (n / 10) ≡ padded_digits (width - 2) (n / 100)
+        ++ ((48 + n / 10 % 10) ∷ []) = padded_last (width - 1) (n / 10) (omega (arith, w)) (omega (arith, fits))
+        ∙ ap₂ (λ (k t : ℕ). padded_digits k t ++ ((48 + n / 10 % 10) ∷ [])) narrower hundredth in
     padded_last width n (omega (arith, w)) fits
     ∙ ap (λ (l : List ℕ). l ++ ((48 + n % 10) ∷ [])) front
     ∙ append_assoc (padded_digits (width - 2) (n / 100)) ((48 + n / 10 % 10) ∷ []) ((48 + n % 10) ∷ [])

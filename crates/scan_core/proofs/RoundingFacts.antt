@@ -30,7 +30,8 @@ pub cut-le : (scale : ℕ) (ds : List ℕ) → AreDigits ds → number_of ds * s
 cut-le scale ds all =
     let p = 10 ^ length ds in
     let few = mul-le-mul_right scale (number_of-lt ds all) in
-    let below : number_of ds * scale / p < scale + 1 = div_below (number_of ds * scale) p (scale + 1) (power-pos (length ds)) (omega (arith, power-pos (length ds))) in
+    let below : number_of ds * scale / p < scale + 1 = div_below (number_of ds * scale) p (scale + 1) (power-pos (length ds))
+        (omega (arith, power-pos (length ds))) in
     omega arith
 
 -- what a step of the carry holds fits 64 bits
@@ -74,7 +75,9 @@ unfolding rounded
 rounded-le scale ds all =
     let p = 10 ^ length ds in
     let few = mul-le-mul_right scale (number_of-lt ds all) in
-    let below : (2 * number_of ds * scale + p) / (2 * p) < scale + 1 = div_below (2 * number_of ds * scale + p) (2 * p) (scale + 1) (omega (arith, power-pos (length ds))) (omega (arith, power-pos (length ds))) in
+    let below : (2 * number_of ds * scale + p) / (2 * p) < scale
+        + 1 = div_below (2 * number_of ds * scale + p) (2 * p) (scale + 1) (omega (arith, power-pos (length ds)))
+        (omega (arith, power-pos (length ds))) in
     omega arith
 
 pub rounded_six : (ds : List ℕ) → length ds ≡ 6 → rounded 1_000_000 ds ≡ number_of ds

@@ -1,5 +1,6 @@
 -- Bytes that a scan has passed: one after the other, and all of a class that stand in front.
-use Rattle.std.proofs.Common.{◌≡◌, ◌⊎◌, inl, inr, ℕ, ◌-◌, ◌≤◌, ◌&&◌, Bool, true, List, [], ◌∷◌, ◌++◌, length, take, Option, Some, IfSome, refl, sym, subst, ◌∙◌, ap, append_assoc, append-nil, length-append, arith}
+use Rattle.std.proofs.Common.{◌≡◌, ◌⊎◌, inl, inr, ℕ, ◌-◌, ◌≤◌, ◌&&◌, Bool, true, List, [], ◌∷◌, ◌++◌, length, take, Option, Some, IfSome}
+use Rattle.std.proofs.Common.{refl, sym, subst, ◌∙◌, ap, append_assoc, append-nil, length-append, arith}
 use Rattle.std.proofs.lemmas.List.{take_all}
 use Rattle.std.proofs.lemmas.List.Folds.{list_all-append}
 use Rattle.std.specs.List.{list_all}
@@ -23,7 +24,8 @@ pub front_passed : (b : ℕ) (passed : Option ℕ) (old new : Place) → passed 
     → Passes (b ∷ []) old new
 front_passed b passed old new is front passes = subst (λ (o : Option ℕ). IfSome o (λ byte. Passes (byte ∷ []) old new)) (is ∙ front) passes
 
-pub one_passed : (b : ℕ) (old new : Place) → front_byte (ahead old) ≡ Some b → IfSome (front_byte (ahead old)) (λ byte. Passes (byte ∷ []) old new)
+pub one_passed : (b : ℕ) (old new : Place) → front_byte (ahead old) ≡ Some b
+    → IfSome (front_byte (ahead old)) (λ byte. Passes (byte ∷ []) old new)
     → Passes (b ∷ []) old new
 one_passed b old new front passes = front_passed b (front_byte (ahead old)) old new refl front passes
 
@@ -66,12 +68,14 @@ pub among_more : (test : ℕ → Bool) (bytes : List ℕ) (old mid new : Place) 
 among_more test bytes old mid new b m h p = record {
   all = list_all-append test bytes (b ∷ []) ∙ both (list_all test bytes) (test b) m.all h;
   passed = passes_more bytes (b ∷ []) old mid new m.passed p;
-  front = m.front ∙ ap (λ (l : List ℕ). bytes ++ l) (leading_cons test b (ahead mid) (ahead new) h p.split) ∙ sym (append_assoc bytes (b ∷ []) (leading test (ahead new)));
+  front = m.front ∙ ap (λ (l : List ℕ). bytes ++ l) (leading_cons test b (ahead mid) (ahead new) h p.split)
+      ∙ sym (append_assoc bytes (b ∷ []) (leading test (ahead new)));
   rest = m.rest ∙ behind_cons test b (ahead mid) (ahead new) h p.split;
 }
 
 -- any bytes of the class that were passed
-pub among_of : (test : ℕ → Bool) (bytes : List ℕ) (old new : Place) → list_all test bytes ≡ true → Passes bytes old new → IsAmong test bytes old new
+pub among_of : (test : ℕ → Bool) (bytes : List ℕ) (old new : Place) → list_all test bytes ≡ true → Passes bytes old new
+    → IsAmong test bytes old new
 among_of test bytes old new all p = record {
   all = all;
   passed = p;
@@ -103,5 +107,6 @@ all_passed test bytes old new m none = record {
 pub some_passed : (test : ℕ → Bool) (bytes : List ℕ) (old new : Place) (most : ℕ) → IsAmong test bytes old new
     → (length bytes ≡ most) ⊎ ((length bytes ≤ most) × (leading test (ahead new) ≡ [])) → take most (leading test (ahead old)) ≡ bytes
 some_passed test bytes old new most m (inl full) =
-    ap (take most) m.front ∙ ap (λ (n : ℕ). take n (bytes ++ leading test (ahead new))) (sym full) ∙ take_front bytes (leading test (ahead new))
+    ap (take most) m.front ∙ ap (λ (n : ℕ). take n (bytes ++ leading test (ahead new))) (sym full)
+        ∙ take_front bytes (leading test (ahead new))
 some_passed test bytes old new most m (inr none) = ap (take most) (among_all test bytes old new m none.1) ∙ take_all most bytes none.0

@@ -1,5 +1,6 @@
 -- Which parts of a share fit their types: the parts beside a unit's main one always do.
-use Rattle.std.proofs.Common.{◌≡◌, ◌≢◌, ℕ, zero, suc, ◌*◌, ◌^◌, ◌<◌, ◌≤◌, ◌⊎◌, Bool, true, false, List, ap, arith, inl, inr, refl, subst, sym}
+use Rattle.std.proofs.Common.{◌≡◌, ◌≢◌, ℕ, zero, suc, ◌*◌, ◌^◌, ◌<◌, ◌≤◌, ◌⊎◌, Bool, true, false, List, ap, arith, inl, inr, refl, subst}
+use Rattle.std.proofs.Common.{sym}
 use Rattle.std.proofs.lemmas.Bool.Decides.{nat_tests}
 use Rattle.scan_core.specs.Count.{Count}
 use Rattle.scan_core.specs.Digits.{AreDigits, number_of}
@@ -13,7 +14,8 @@ use Rattle.scan_core.proofs.RoundingFacts.{rounded-le}
 
 -- ---- a share in two steps
 
-pub amount-steps : (part : Part) (unit : TimeUnit) (w : ℕ) (f : List ℕ) → amount part unit w f ≡ magnitude part unit w (rounded (scale_of unit) f)
+pub amount-steps : (part : Part) (unit : TimeUnit) (w : ℕ) (f : List ℕ)
+    → amount part unit w f ≡ magnitude part unit w (rounded (scale_of unit) f)
 amount-steps Months Year w f = refl
 amount-steps Months Month w f = refl
 amount-steps Months Week w f = refl
@@ -36,7 +38,8 @@ amount-steps Micros Hour w f = refl
 amount-steps Micros Minute w f = refl
 amount-steps Micros Second w f = refl
 
-pub share-steps : (part : Part) (c : Count) → share part c ≡ signed c.negative (magnitude part c.unit (number_of c.whole) (rounded (scale_of c.unit) c.fraction))
+pub share-steps : (part : Part) (c : Count) → share part c ≡ signed c.negative
+    (magnitude part c.unit (number_of c.whole) (rounded (scale_of c.unit) c.fraction))
 share-steps part c = ap (signed c.negative) (amount-steps part c.unit (number_of c.whole) c.fraction)
 
 -- ---- a magnitude below half of the type's range fits with either sign
@@ -80,7 +83,8 @@ main_or_fits Micros Second negative w r h = inl refl
 main_or_part_fits : (part : Part) (c : Count) → AreDigits c.fraction → (part ≡ main_part c.unit) ⊎ (fits_type part (share part c) ≡ true)
 main_or_part_fits part c digits =
     rw (share-steps part c)
-    (main_or_fits part c.unit c.negative (number_of c.whole) (rounded (scale_of c.unit) c.fraction) (rounded-le (scale_of c.unit) c.fraction digits))
+    (main_or_fits part c.unit c.negative (number_of c.whole) (rounded (scale_of c.unit) c.fraction)
+        (rounded-le (scale_of c.unit) c.fraction digits))
 
 -- a part beside the main one fits
 pub other_part_fits : (part : Part) (c : Count) → AreDigits c.fraction → part ≢ main_part c.unit → fits_type part (share part c) ≡ true

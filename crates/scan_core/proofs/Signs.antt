@@ -1,5 +1,6 @@
 -- A number by its sign and magnitude.
-use Rattle.std.proofs.Common.{◌≡◌, ℕ, zero, suc, ◌+◌, ◌≤◌, ◌^◌, ◌-◌, Bool, true, false, IsTrue, ℤ, pos, negsuc, ◌+ℤ◌, unsigned_abs, int_eq, refl, ap, arith, lt-ltb, ltb-true}
+use Rattle.std.proofs.Common.{◌≡◌, ℕ, zero, suc, ◌+◌, ◌≤◌, ◌^◌, ◌-◌, Bool, true, false, IsTrue, ℤ, pos, negsuc, ◌+ℤ◌, unsigned_abs, int_eq}
+use Rattle.std.proofs.Common.{refl, ap, arith, lt-ltb, ltb-true}
 use Rattle.std.proofs.lemmas.Int.{ints}
 use Rattle.std.proofs.lemmas.Bool.Decides.{Decides-int_eq, nat_tests}
 use Rattle.std.specs.Int.{is_negative}

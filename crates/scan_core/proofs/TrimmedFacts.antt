@@ -1,5 +1,6 @@
 -- Digits without the zeros at their end: zeros fill them up to all the digits, and as a fraction they are the same number.
-use Rattle.std.proofs.Common.{◌≡◌, ◌≢◌, ℕ, zero, suc, ◌+◌, ◌-◌, ◌*◌, ◌/◌, ◌%◌, ◌^◌, ◌<◌, ◌==◌, inl, inr, Bool, true, false, cond, List, [], ◌∷◌, ◌++◌, length, replicate, append-nil, refl, sym, ◌∙◌, ap, subst, arith}
+use Rattle.std.proofs.Common.{◌≡◌, ◌≢◌, ℕ, zero, suc, ◌+◌, ◌-◌, ◌*◌, ◌/◌, ◌%◌, ◌^◌, ◌<◌, ◌==◌, inl, inr, Bool, true, false, cond, List, []}
+use Rattle.std.proofs.Common.{◌∷◌, ◌++◌, length, replicate, append-nil, refl, sym, ◌∙◌, ap, subst, arith}
 use Rattle.std.proofs.Math.Nat.{div-div-eq-div-mul, mul-div_cancel_left, pow-suc}
 use Rattle.std.proofs.lemmas.Bool.{cases_lt, eqb-true}
 use Rattle.std.proofs.lemmas.Bool.Decides.{nat_tests}
@@ -40,7 +41,8 @@ pub zero_dropped : (width n : ℕ) → 0 < n → n < 2 ^ 64 → n % 10 ≡ 0
 zero_dropped width n some fits none =
     let split = padded_more width n (omega (arith, some, none)) fits in
     let last = rw none at split in
-    (ap trimmed_digits last ∙ trimmed_zero (padded_digits (width - 1) (n / 10)), ap length last ∙ length_push (padded_digits (width - 1) (n / 10)) 48)
+    (ap trimmed_digits last ∙ trimmed_zero (padded_digits (width - 1) (n / 10)), ap length last
+        ∙ length_push (padded_digits (width - 1) (n / 10)) 48)
 
 -- the digits are kept where the last is no zero
 pub kept : (width n : ℕ) → n < 2 ^ 64 → n % 10 ≢ 0 → trimmed_digits (padded_digits width n) ≡ padded_digits width n
@@ -61,7 +63,8 @@ trimmed_zeros (suc k) = rw (trimmed_zeros k) refl
 
 -- nothing is left of zero
 pub trimmed_nothing : (width : ℕ) → trimmed_digits (padded_digits width 0) ≡ []
-trimmed_nothing width = ap trimmed_digits (padded_digit width 0 (omega arith)) ∙ trimmed_zero (replicate (width - 1) 48) ∙ trimmed_zeros (width - 1)
+trimmed_nothing width = ap trimmed_digits (padded_digit width 0 (omega arith)) ∙ trimmed_zero (replicate (width - 1) 48)
+    ∙ trimmed_zeros (width - 1)
 
 -- ---- zeros fill up the digits
 
@@ -102,7 +105,8 @@ tens : (v s p : ℕ) → (2 * (v * 10) * s + p * 10) / (2 * (p * 10)) ≡ (2 * v
 tens v s p =
     let over : 2 * (v * 10) * s + p * 10 ≡ 10 * (2 * v * s + p) = omega arith in
     let under : 2 * (p * 10) ≡ 10 * (2 * p) = omega arith in
-    rw (over, under) (sym (div-div-eq-div-mul (10 * (2 * v * s + p)) 10 (2 * p)) ∙ ap (λ (x : ℕ). x / (2 * p)) (mul-div_cancel_left (2 * v * s + p) (omega arith)))
+    rw (over, under) (sym (div-div-eq-div-mul (10 * (2 * v * s + p)) 10 (2 * p))
+        ∙ ap (λ (x : ℕ). x / (2 * p)) (mul-div_cancel_left (2 * v * s + p) (omega arith)))
 
 rounded-zero_behind : (scale : ℕ) (ds : List ℕ) → rounded scale (ds ++ (48 ∷ [])) ≡ rounded scale ds
 unfolding rounded
@@ -118,7 +122,8 @@ zeros_turned k (d ∷ ds) = ap (λ (l : List ℕ). d ∷ l) (zeros_turned k ds)
 
 rounded-zeros : (scale k : ℕ) (ds : List ℕ) → rounded scale (ds ++ replicate k 48) ≡ rounded scale ds
 rounded-zeros scale zero ds = ap (rounded scale) (append-nil ds)
-rounded-zeros scale (suc k) ds = ap (rounded scale) (zeros_turned k ds) ∙ rounded-zeros scale k (ds ++ (48 ∷ [])) ∙ rounded-zero_behind scale ds
+rounded-zeros scale (suc k) ds = ap (rounded scale) (zeros_turned k ds) ∙ rounded-zeros scale k (ds ++ (48 ∷ []))
+    ∙ rounded-zero_behind scale ds
 
 pub rounded-trimmed : (scale : ℕ) (ds : List ℕ) → rounded scale (trimmed_digits ds) ≡ rounded scale ds
 rounded-trimmed scale ds =

@@ -1,5 +1,6 @@
 -- Words: blanks before them don't count, and a word that ends is the first.
-use Rattle.std.proofs.Common.{◌≡◌, ℕ, ◌+◌, Bool, true, false, cond, List, [], ◌∷◌, ◌++◌, length, refl, sym, ◌∙◌, ap, append_assoc, append-nil, arith, inl, inr}
+use Rattle.std.proofs.Common.{◌≡◌, ℕ, ◌+◌, Bool, true, false, cond, List, [], ◌∷◌, ◌++◌, length, refl, sym, ◌∙◌, ap, append_assoc}
+use Rattle.std.proofs.Common.{append-nil, arith, inl, inr}
 use Rattle.std.specs.Prelude.{if◌then◌else◌}
 use Rattle.scan_core.specs.Blanks.{is_blank, words, EndsWord, EndsInBlank}
 use Rattle.std.specs.List.{onto_first}
@@ -118,9 +119,11 @@ behind_two false false x all front rest h onto = ap (onto_first x) h ∙ onto re
 
 pub words-behind : (front : List ℕ) (b : ℕ) (rest : List ℕ) → is_blank b ≡ true → words (front ++ (b ∷ rest)) ≡ words front ++ words rest
 words-behind [] b rest h = words-blank b rest h
-words-behind (x ∷ []) b rest h = let blank = h in rw blank (behind_one (is_blank x) x (words (b ∷ rest)) (words rest) (words-blank b rest h))
+words-behind (x ∷ []) b rest h = let blank = h in rw blank (behind_one (is_blank x) x (words (b ∷ rest)) (words rest)
+    (words-blank b rest h))
 words-behind (x ∷ y ∷ front) b rest h =
-    behind_two (is_blank x) (is_blank y) x (words (y ∷ (front ++ (b ∷ rest)))) (words (y ∷ front)) (words rest) (words-behind (y ∷ front) b rest h)
+    behind_two (is_blank x) (is_blank y) x (words (y ∷ (front ++ (b ∷ rest)))) (words (y ∷ front)) (words rest)
+        (words-behind (y ∷ front) b rest h)
     (λ solid. let some = word_begins y front solid in onto_join x some.0 (words (y ∷ front)) some.1 (words rest) some.2)
 
 -- words on both sides of a place where a word may begin
@@ -128,4 +131,5 @@ pub words-closed : (front rest : List ℕ) → EndsInBlank front → words (fron
 words-closed front rest (inl none) = rw none refl
 words-closed front rest (inr (before, b, blank, split)) =
     let alone : words front ≡ words before = ap words split ∙ words-behind before b [] blank ∙ append-nil (words before) in
-    ap words (ap (λ (l : List ℕ). l ++ rest) split ∙ append_assoc before (b ∷ []) rest) ∙ words-behind before b rest blank ∙ ap (λ (l : List (List ℕ)). l ++ words rest) (sym alone)
+    ap words (ap (λ (l : List ℕ). l ++ rest) split ∙ append_assoc before (b ∷ []) rest) ∙ words-behind before b rest blank
+        ∙ ap (λ (l : List (List ℕ)). l ++ words rest) (sym alone)

@@ -1,5 +1,6 @@
 -- Lemmas on the report's lines.
-use Rattle.std.proofs.Common.{◌≡◌, ◌⊎◌, ℕ, zero, suc, ◌+◌, ◌<◌, List, [], ◌∷◌, ◌++◌, length, take, drop, get_or, Option, codes, decimal, Result, Ok, Err, OnErr, refl, sym, ◌∙◌, ap, ⊎_elim, append_assoc, append-nil, arith}
+use Rattle.std.proofs.Common.{◌≡◌, ◌⊎◌, ℕ, zero, suc, ◌+◌, ◌<◌, List, [], ◌∷◌, ◌++◌, length, take, drop, get_or, Option, codes, decimal}
+use Rattle.std.proofs.Common.{Result, Ok, Err, OnErr, refl, sym, ◌∙◌, ap, ⊎_elim, append_assoc, append-nil, arith}
 use Rattle.forms.specs.Outside.{AppendsFront}
 use Rattle.whole_input.specs.Outcomes.{GainsPart}
 use Rattle.schedule_check.specs.Checks.{Checks}
@@ -53,23 +54,27 @@ fault_pushed line fault a b c d e ha hb hc hd he =
 next : (n : ℕ) → suc n + 1 ≡ suc (n + 1)
 next n = omega arith
 
-pub one_more_line : (slots : List Slot) (n : ℕ) (d : Slot) → n < length slots → slot_lines (take (n + 1) slots) ≡ slot_lines (take n slots) ++ slot_line (get_or slots n d)
+pub one_more_line : (slots : List Slot) (n : ℕ) (d : Slot) → n < length slots
+    → slot_lines (take (n + 1) slots) ≡ slot_lines (take n slots) ++ slot_line (get_or slots n d)
 one_more_line [] n d inside = absurd (omega arith)
 one_more_line (s ∷ slots) zero d inside = append-nil (slot_line s)
 one_more_line (s ∷ slots) (suc n) d inside =
     ap (λ (m : ℕ). slot_lines (take m (s ∷ slots))) (next n)
-    ∙ (ap (λ (l : List ℕ). slot_line s ++ l) (one_more_line slots n d (omega arith)) ∙ sym (append_assoc (slot_line s) (slot_lines (take n slots)) (slot_line (get_or slots n d))))
+    ∙ (ap (λ (l : List ℕ). slot_line s ++ l) (one_more_line slots n d (omega arith))
+        ∙ sym (append_assoc (slot_line s) (slot_lines (take n slots)) (slot_line (get_or slots n d))))
 
 -- the lines of so many slots, and those of the others
 lines_cut : (slots : List Slot) (n : ℕ) → slot_lines slots ≡ slot_lines (take n slots) ++ slot_lines (drop n slots)
 lines_cut slots zero = refl
 lines_cut [] (suc n) = refl
 lines_cut (s ∷ slots) (suc n) =
-    ap (λ (l : List ℕ). slot_line s ++ l) (lines_cut slots n) ∙ sym (append_assoc (slot_line s) (slot_lines (take n slots)) (slot_lines (drop n slots)))
+    ap (λ (l : List ℕ). slot_line s ++ l) (lines_cut slots n) ∙ sym
+        (append_assoc (slot_line s) (slot_lines (take n slots)) (slot_lines (drop n slots)))
 
 -- a front of what waits and the lines of some slots is a front of what waits and all lines
 pub front_of_lines : (a b : Option (List ℕ)) (before : List ℕ) (slots : List Slot) (n : ℕ) (d : Slot) → n < length slots
-    → AppendsFront a b (before ++ (slot_lines (take n slots) ++ slot_line (get_or slots n d))) → AppendsFront a b (before ++ slot_lines slots)
+    → AppendsFront a b (before ++ (slot_lines (take n slots) ++ slot_line (get_or slots n d)))
+        → AppendsFront a b (before ++ slot_lines slots)
 front_of_lines a b before slots n d inside h =
     let last : List ℕ = slot_lines (drop (n + 1) slots) in
     let all : slot_lines slots ≡ (slot_lines (take n slots) ++ slot_line (get_or slots n d)) ++ last =
@@ -91,7 +96,8 @@ on_err P (Err e) h = h
 -- ---- the report
 
 -- a front of what is written of an answer is one of the report on the input
-pub gains_front : (input : List ℕ) (answer : Result (List Slot) CheckError) (a b : Option (List ℕ)) → (answer ≡ Err NoMemory) ⊎ Checks input answer → (answer ≡ Err NoMemory → ⊥)
+pub gains_front : (input : List ℕ) (answer : Result (List Slot) CheckError) (a b : Option (List ℕ)) → (answer ≡ Err NoMemory)
+    ⊎ Checks input answer → (answer ≡ Err NoMemory → ⊥)
     → AppendsFront a b (report_of answer) → GainsPart Reports input a b
 gains_front input answer a b h some front =
     ⊎_elim (λ none. absurd (some none)) (λ checked. (report_of answer, report_status answer, (answer, checked, refl, refl), front)) h

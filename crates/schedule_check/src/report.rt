@@ -10,7 +10,6 @@ use crate::checking::check;
 use crate::report_lines::{clash_line, fault_line, slot_line};
 use crate::slot::Slot;
 use crate::table::Table;
-use forms::laws::waiting_texts_keep_their_order;
 use forms::{Batch, Failed, Sink, put_text};
 use std::alloc::Global;
 use whole_input::{Command, Response, respond_waiting, respond_with};
@@ -69,7 +68,7 @@ fn write_slots<K: Sink>(sink: &mut K, slots: &[Slot]) -> Response
     ensures memory { result ≢ Response.NoMemory }
     ensures later { K.faults sink.old ≤ K.faults sink.new }
 {
-    waiting_texts_keep_their_order();
+    forms::laws::waiting_texts_keep_their_order();
     let mut batch = Batch::new();
     match put_slots(sink, &mut batch, slots) {
         Ok(()) => respond_waiting(sink, &mut batch, NO_CLASH),
@@ -85,7 +84,7 @@ fn put_slots<K: Sink>(sink: &mut K, batch: &mut Batch, slots: &[Slot]) -> Result
         (batch.old.bytes ++ slot_lines slots.now)) }
     ensures cause { HasCause (K.faults sink.old) (K.faults sink.new) result }
 {
-    waiting_texts_keep_their_order();
+    forms::laws::waiting_texts_keep_their_order();
     for slot in slots {
         let line = slot_line(*slot);
         put_text(sink, batch, line.as_str())?;

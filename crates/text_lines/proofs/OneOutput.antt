@@ -1,5 +1,6 @@
 -- A line has one output: one body, one text at a place, and one reply to it.
-use Rattle.std.proofs.Common.{◌≡◌, ◌⊎◌, ◌||◌, ℕ, zero, suc, ◌+◌, ◌<◌, ◌≤◌, Bool, true, false, List, [], ◌∷◌, ◌++◌, codes, length, Result, refl, sym, ◌∙◌, ap, subst, inl, inr, append_assoc, append-nil, arith}
+use Rattle.std.proofs.Common.{◌≡◌, ◌⊎◌, ◌||◌, ℕ, zero, suc, ◌+◌, ◌<◌, ◌≤◌, Bool, true, false, List, [], ◌∷◌, ◌++◌, codes, length, Result}
+use Rattle.std.proofs.Common.{refl, sym, ◌∙◌, ap, subst, inl, inr, append_assoc, append-nil, arith}
 use Rattle.std.proofs.lemmas.List.{append_cancel_left, append_cancel_right}
 use Rattle.std.specs.Prelude.{IsUtf8}
 use Rattle.whole_input.specs.Parts.{HasNo, IsSplitAt}
@@ -12,7 +13,8 @@ use Rattle.text_lines.specs.Fields.{AreTabbed, IsTabEnd, IsField}
 use Rattle.text_lines.specs.Spaced.{IsFirstWord, IsWord}
 use Rattle.text_lines.specs.Places.{IsPlace, HasNoPlace}
 use Rattle.forms.specs.TextReplies.{IsTextReply}
-use Rattle.text_lines.specs.Outputs.{line_limit, mark, IsBehindMark, IsBeforeEnd, HasBody, RefusesLine, AnswersInPlace, AnswersLine, IsOutput}
+use Rattle.text_lines.specs.Outputs.{line_limit, mark, IsBehindMark, IsBeforeEnd, HasBody, RefusesLine, AnswersInPlace, AnswersLine}
+use Rattle.text_lines.specs.Outputs.{IsOutput}
 use Rattle.text_lines.specs.Ends.{AreJudged}
 use Rattle.text_lines.proofs.FieldPlaces.{no_split, split_same, split_front}
 use Rattle.text_lines.proofs.SpacedPlaces.{first_same}
@@ -21,7 +23,8 @@ use Rattle.text_lines.proofs.SpacedPlaces.{first_same}
 abbrev pub OneAnswer : Type 0
 OneAnswer = (from to : Form) (text : List ℕ) (a b : Result (List ℕ) Cause) → IsAnswer from to text a → IsAnswer from to text b → a ≡ b
 
-pub one_reply : OneAnswer → (from to : Form) (text a b : List ℕ) (r s : Bool) → IsTextReply from to text a r → IsTextReply from to text b s → (a ≡ b) × (r ≡ s)
+pub one_reply : OneAnswer → (from to : Form) (text a b : List ℕ) (r s : Bool) → IsTextReply from to text a r → IsTextReply from to text b s
+    → (a ≡ b) × (r ≡ s)
 one_reply one from to text a b r s (inl h) (inl k) = (h.1 ∙ sym k.1, h.2 ∙ sym k.2)
 one_reply one from to text a b r s (inl h) (inr k) = absurd (h.0 k.1)
 one_reply one from to text a b r s (inr h) (inl k) = absurd (k.0 h.1)
@@ -44,7 +47,8 @@ one_end line b e c f (inl h) (inr k) = absurd (k.0 b h.0)
 one_end line b e c f (inr h) (inl k) = absurd (h.0 c k.0)
 one_end line b e c f (inr h) (inr k) = (h.1 ∙ sym k.1, h.2 ∙ sym k.2)
 
-pub one_body : (first : Bool) (line f b e g c d : List ℕ) → HasBody first line f b e → HasBody first line g c d → (f ≡ g) × (b ≡ c) × (e ≡ d)
+pub one_body : (first : Bool) (line f b e g c d : List ℕ) → HasBody first line f b e → HasBody first line g c d → (f ≡ g) × (b ≡ c)
+    × (e ≡ d)
 one_body first line f b e g c d h k =
     let rests = one_unmarked first line f h.rest g k.rest h.unmarked k.unmarked in
     let ends = one_end k.rest b e c d (subst (λ (l : List ℕ). IsBeforeEnd l b e) rests.1 h.ended) k.ended in
@@ -68,9 +72,11 @@ tab_end_same : (x y a b : List ℕ) → HasNo 9 x → HasNo 9 y → IsTabEnd a �
 tab_end_same x y a b hx hy (inl h) (inl k) same =
     (sym (append-nil x) ∙ (ap (λ (l : List ℕ). x ++ l) (sym h) ∙ (same ∙ (ap (λ (l : List ℕ). y ++ l) k ∙ append-nil y))), h ∙ sym k)
 tab_end_same x y a b hx hy (inl h) (inr k) same =
-    absurd (no_split 9 x y k.0 refl hx (sym (append-nil x) ∙ (ap (λ (l : List ℕ). x ++ l) (sym h) ∙ (same ∙ ap (λ (l : List ℕ). y ++ l) k.1))))
+    absurd (no_split 9 x y k.0 refl hx (sym (append-nil x) ∙ (ap (λ (l : List ℕ). x ++ l) (sym h)
+        ∙ (same ∙ ap (λ (l : List ℕ). y ++ l) k.1))))
 tab_end_same x y a b hx hy (inr h) (inl k) same =
-    absurd (no_split 9 y x h.0 refl hy (sym (append-nil y) ∙ (ap (λ (l : List ℕ). y ++ l) (sym k) ∙ (sym same ∙ ap (λ (l : List ℕ). x ++ l) h.1))))
+    absurd (no_split 9 y x h.0 refl hy (sym (append-nil y) ∙ (ap (λ (l : List ℕ). y ++ l) (sym k)
+        ∙ (sym same ∙ ap (λ (l : List ℕ). x ++ l) h.1))))
 tab_end_same x y a b hx hy (inr h) (inr k) same =
     let both : x ++ 9 ∷ h.0 ≡ y ++ 9 ∷ k.0 = ap (λ (l : List ℕ). x ++ l) (sym h.1) ∙ (same ∙ ap (λ (l : List ℕ). y ++ l) k.1) in
     let rests : h.0 ≡ k.0 = split_same 9 x y h.0 k.0 refl hx hy both in
@@ -91,7 +97,8 @@ one_word zero line b t a c u d h k = first_same line b t a c u d h k
 one_word (suc n) line b t a c u d h k =
     let first = first_same line h.0 h.1 h.2 k.0 k.1 k.2 h.4 k.4 in
     let below = one_word n k.2 h.3 t a k.3 u d (subst (λ (l : List ℕ). IsWord n l h.3 t a) first.2 h.5) k.5 in
-    let fronts : b ≡ c = h.6 ∙ (ap (λ (l : List ℕ). l ++ (h.1 ++ h.3)) first.0 ∙ (ap (λ (l : List ℕ). k.0 ++ (l ++ h.3)) first.1 ∙ (ap (λ (l : List ℕ). k.0 ++ (k.1 ++ l)) below.0 ∙ sym k.6))) in
+    let fronts : b ≡ c = h.6 ∙ (ap (λ (l : List ℕ). l ++ (h.1 ++ h.3)) first.0
+        ∙ (ap (λ (l : List ℕ). k.0 ++ (l ++ h.3)) first.1 ∙ (ap (λ (l : List ℕ). k.0 ++ (k.1 ++ l)) below.0 ∙ sym k.6))) in
     (fronts, below.1, below.2)
 
 pub one_place : (place : Place) (line b t a c u d : List ℕ) → IsPlace place line b t a → IsPlace place line c u d → Same b t a c u d
@@ -101,10 +108,12 @@ one_place (Word n) line b t a c u d h k = one_word n line b t a c u d h k
 
 -- ---- a line
 
-one_in_place : OneAnswer → (from to : Form) (place : Place) (front body end a b : List ℕ) (r s : Bool) → AnswersInPlace from to place front body end a r → AnswersInPlace from to place front body end b s → (a ≡ b) × (r ≡ s)
+one_in_place : OneAnswer → (from to : Form) (place : Place) (front body end a b : List ℕ) (r s : Bool)
+    → AnswersInPlace from to place front body end a r → AnswersInPlace from to place front body end b s → (a ≡ b) × (r ≡ s)
 one_in_place one from to place front body end a b r s h k =
     let parts = one_place place body h.before h.text h.after k.before k.text k.after h.placed k.placed in
-    let replies = one_reply one from to k.text h.reply k.reply r s (subst (λ (l : List ℕ). IsTextReply from to l h.reply r) parts.1 h.replied) k.replied in (
+    let replies = one_reply one from to k.text h.reply k.reply r s
+        (subst (λ (l : List ℕ). IsTextReply from to l h.reply r) parts.1 h.replied) k.replied in (
       h.told ∙ (ap (λ (l : List ℕ). front ++ (l ++ (h.reply ++ (h.after ++ end)))) parts.0
           ∙ (ap (λ (l : List ℕ). front ++ (k.before ++ (l ++ (h.after ++ end)))) replies.0
           ∙ (ap (λ (l : List ℕ). front ++ (k.before ++ (k.reply ++ (l ++ end)))) parts.2 ∙ sym k.told))),
@@ -112,22 +121,28 @@ one_in_place one from to place front body end a b r s h k =
     )
 
 abbrev Answered : Form → Form → Place → List ℕ → List ℕ → List ℕ → List ℕ → Bool → Type 0
-Answered from to place front body end out r = (RefusesLine place body end out × (r ≡ true)) ⊎ AnswersInPlace from to place front body end out r
+Answered from to place front body end out r = (RefusesLine place body end out × (r ≡ true))
+    ⊎ AnswersInPlace from to place front body end out r
 
-one_answered : OneAnswer → (from to : Form) (place : Place) (front body end a b : List ℕ) (r s : Bool) → Answered from to place front body end a r → Answered from to place front body end b s → (a ≡ b) × (r ≡ s)
+one_answered : OneAnswer → (from to : Form) (place : Place) (front body end a b : List ℕ) (r s : Bool)
+    → Answered from to place front body end a r → Answered from to place front body end b s → (a ≡ b) × (r ≡ s)
 one_answered one from to place front body end a b r s (inl h) (inl k) = (h.0.told ∙ sym k.0.told, h.1 ∙ sym k.1)
 one_answered one from to place front body end a b r s (inl h) (inr k) = absurd (h.0.none k.before k.text k.after k.placed)
 one_answered one from to place front body end a b r s (inr h) (inl k) = absurd (k.0.none h.before h.text h.after h.placed)
 one_answered one from to place front body end a b r s (inr h) (inr k) = one_in_place one from to place front body end a b r s h k
 
-one_line : OneAnswer → (from to : Form) (place : Place) (first : Bool) (line a b : List ℕ) (r s : Bool) → AnswersLine from to place first line a r → AnswersLine from to place first line b s → (a ≡ b) × (r ≡ s)
+one_line : OneAnswer → (from to : Form) (place : Place) (first : Bool) (line a b : List ℕ) (r s : Bool)
+    → AnswersLine from to place first line a r → AnswersLine from to place first line b s → (a ≡ b) × (r ≡ s)
 one_line one from to place first line a b r s h k =
     let same = one_body first line h.front h.body h.end k.front k.body k.end h.parts k.parts in
     let moved : Answered from to place k.front k.body k.end a r =
-    subst (λ (l : List ℕ). Answered from to place k.front k.body l a r) same.2 (subst (λ (l : List ℕ). Answered from to place k.front l h.end a r) same.1 (subst (λ (l : List ℕ). Answered from to place l h.body h.end a r) same.0 h.answered)) in
+    subst (λ (l : List ℕ). Answered from to place k.front k.body l a r) same.2
+        (subst (λ (l : List ℕ). Answered from to place k.front l h.end a r) same.1
+        (subst (λ (l : List ℕ). Answered from to place l h.body h.end a r) same.0 h.answered)) in
     one_answered one from to place k.front k.body k.end a b r s moved k.answered
 
-pub one_output : OneAnswer → (from to : Form) (place : Place) (first : Bool) (line a b : List ℕ) (r s : Bool) → IsOutput from to place first line a r → IsOutput from to place first line b s → (a ≡ b) × (r ≡ s)
+pub one_output : OneAnswer → (from to : Form) (place : Place) (first : Bool) (line a b : List ℕ) (r s : Bool)
+    → IsOutput from to place first line a r → IsOutput from to place first line b s → (a ≡ b) × (r ≡ s)
 one_output one from to place first line a b r s (inl h) (inl k) = (h.1 ∙ sym k.1, h.2 ∙ sym k.2)
 one_output one from to place first line a b r s (inl h) (inr k) = absurd (omega (arith, h.0, k.0))
 one_output one from to place first line a b r s (inr h) (inl k) = absurd (omega (arith, h.0, k.0))
@@ -135,7 +150,8 @@ one_output one from to place first line a b r s (inr h) (inr k) = one_line one f
 
 -- ---- lines
 
-pub one_judgement : OneAnswer → (from to : Form) (place : Place) (first : Bool) (xs : List (List ℕ)) (a b : List ℕ) (r s : Bool) → AreJudged (IsOutput from to place) first xs a r → AreJudged (IsOutput from to place) first xs b s → (a ≡ b) × (r ≡ s)
+pub one_judgement : OneAnswer → (from to : Form) (place : Place) (first : Bool) (xs : List (List ℕ)) (a b : List ℕ) (r s : Bool)
+    → AreJudged (IsOutput from to place) first xs a r → AreJudged (IsOutput from to place) first xs b s → (a ≡ b) × (r ≡ s)
 one_judgement one from to place first [] a b r s h k = (h.0 ∙ sym k.0, h.1 ∙ sym k.1)
 one_judgement one from to place first (x ∷ xs) a b r s h k =
     let here = one_output one from to place first x h.0 k.0 h.2 k.2 h.4 k.4 in

@@ -10,7 +10,6 @@ ghost use Rattle.text_lines.specs.Ends.{AreJudged};
 
 use crate::asked::what_is_asked;
 use crate::place::Place;
-use forms::laws::{lines_of_two_names_ask_for_their_text, texts_have_one_answer};
 
 /// The reply to a text is that of a line with the two forms' names and the text.
 pub fn text_replies_are_line_replies()
@@ -18,7 +17,7 @@ pub fn text_replies_are_line_replies()
         → IsTextReply from to text out refused
         → IsReply (names from to ++ (codes " " ++ text)) out }
 {
-    lines_of_two_names_ask_for_their_text();
+    forms::laws::lines_of_two_names_ask_for_their_text();
 }
 
 /// A text has one reply at most, which is a refusal or isn't.
@@ -26,7 +25,7 @@ pub fn texts_have_one_reply()
     ensures { (from to : AnyForm) (text a b : List ℕ) (r s : Bool)
         → IsTextReply from to text a r → IsTextReply from to text b s → (a ≡ b) × (r ≡ s) }
 {
-    texts_have_one_answer();
+    forms::laws::texts_have_one_answer();
 }
 
 /// A line has one output at most, with a refusal or without one.
@@ -35,7 +34,7 @@ pub fn lines_have_one_output()
         → IsOutput from to place first line a r → IsOutput from to place first line b s
         → (a ≡ b) × (r ≡ s) }
 {
-    texts_have_one_answer();
+    forms::laws::texts_have_one_answer();
 }
 
 /// Lines have one list of outputs at most, with a refusal among them or without one.
@@ -46,7 +45,7 @@ pub fn inputs_have_one_output()
         → AreJudged (IsOutput from to place) true lines b s
         → (a ≡ b) × (r ≡ s) }
 {
-    texts_have_one_answer();
+    forms::laws::texts_have_one_answer();
 }
 
 /// Words ask for one thing at most: for lines, with one place, or for one text.

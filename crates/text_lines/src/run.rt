@@ -10,7 +10,6 @@ use crate::columns::Columns;
 use crate::line::LINE;
 use crate::place::Place;
 use crate::texts::Texts;
-use forms::laws::whole_lines_of_a_front_come_first;
 use forms::{Batch, Form, RunEnd, Sink, Source, answer_lines};
 use std::alloc::Global;
 
@@ -52,7 +51,7 @@ pub fn run_lines<S: Source, K: Sink>(
     // Want of memory comes before the first byte.
     ensures no_memory { result ≡ 6 → (source.new ≡ source.old) × (sink.new ≡ sink.old) }
 {
-    whole_lines_of_a_front_come_first();
+    forms::laws::whole_lines_of_a_front_come_first();
     run_at(alloc, from, to, place, source, sink)
 }
 

@@ -9,7 +9,8 @@ use Rattle.text_lines.specs.Ends.{JudgedEnded, MeansLines}
 use Rattle.whole_input.specs.Outcomes.{EndedWhole, MeansStatus}
 
 -- A whole input within a limit is answered by what `Says` says of it.
-pub record AnswersWhole (Says : List ℕ → List ℕ → ℕ → Type 0) (limit : ℕ) (old new : Streams) (Untouched : Type 0) (status : ℕ) : Type 0 where
+pub record AnswersWhole (Says : List ℕ → List ℕ → ℕ → Type 0) (limit : ℕ) (old new : Streams) (Untouched : Type 0)
+    (status : ℕ) : Type 0 where
   -- what was taken and written at each end, and what the status means
   pub ended : EndedWhole Says limit old new status
   pub means : MeansStatus Says limit old new status

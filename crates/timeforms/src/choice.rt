@@ -15,7 +15,6 @@ ghost use Rattle.timeforms.specs.Programs.{AnswersLines, AnswersRequests, Answer
 
 use forms::{Sink, Source};
 use std::alloc::Global;
-use text_lines::laws::asked_words_begin_with_a_capital;
 
 /// The status for words that aren't known.
 const UNKNOWN_WORDS: u8 = 2;
@@ -77,7 +76,7 @@ pub fn pick<S: Source, K: Sink>(alloc: Global, words: &str, source: &mut S, sink
         → words.now ≢ codes "schedule" → result ≡ 6
         → (source.new ≡ source.old) × (sink.new ≡ sink.old) }
 {
-    asked_words_begin_with_a_capital();
+    text_lines::laws::asked_words_begin_with_a_capital();
     // A command that doesn't know the words leaves the source and the sink as they are.
     let status = interval_column::top(alloc, words, source, sink);
     if status != UNKNOWN_WORDS {

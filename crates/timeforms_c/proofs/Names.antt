@@ -6,7 +6,8 @@ use Rattle.std.proofs.lemmas.Str.{IsUtf8-from_ascii}
 use Rattle.std.proofs.lemmas.Str.Ascii.{IsAscii-from_all}
 use Rattle.forms.specs.Names.{name_of}
 use Rattle.forms.specs.declared.form.Form.{Form}
-use Rattle.forms.specs.declared.form.Form.TheVariants.{FileTime, IsoDateTime, IsoDate, IsoDuration, Toml, Fancy, PgIso, Postgres, PgVerbose, PgSql, IsoStrict}
+use Rattle.forms.specs.declared.form.Form.TheVariants.{FileTime, IsoDateTime, IsoDate, IsoDuration, Toml, Fancy, PgIso, Postgres, PgVerbose}
+use Rattle.forms.specs.declared.form.Form.TheVariants.{PgSql, IsoStrict}
 
 abbrev all_ascii : List ℕ → Bool
 all_ascii [] = true
@@ -14,7 +15,8 @@ all_ascii (b ∷ bs) = ltb b 128 && all_ascii bs
 
 ascii_is_utf8 : (bytes : List ℕ) → all_ascii bytes ≡ true → IsUtf8 bytes
 ascii_is_utf8 bytes h =
-    IsUtf8-from_ascii bytes (IsAscii-from_all bytes ((Decides-by_and (λ b. ltb b 128) (λ b. b < 128) all_ascii (λ b. Decides-ltb b 128) refl (λ _ _. refl) bytes).0 h))
+    IsUtf8-from_ascii bytes (IsAscii-from_all bytes ((Decides-by_and (λ b. ltb b 128) (λ b. b < 128) all_ascii (λ b. Decides-ltb b 128) refl
+        (λ _ _. refl) bytes).0 h))
 
 name_is_ascii : (form : Form) → all_ascii (name_of form) ≡ true
 name_is_ascii FileTime = refl

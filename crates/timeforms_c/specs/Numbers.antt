@@ -1,7 +1,8 @@
 -- The forms by number, in the order in which `forms` has them. A further form has the next number, so that none ever changes.
 use Rattle.std.specs.Prelude.{ℤ, pos}
 use Rattle.forms.specs.declared.form.Form.{Form}
-use Rattle.forms.specs.declared.form.Form.TheVariants.{FileTime, IsoDateTime, IsoDate, IsoDuration, Toml, Fancy, PgIso, Postgres, PgVerbose, PgSql, IsoStrict}
+use Rattle.forms.specs.declared.form.Form.TheVariants.{FileTime, IsoDateTime, IsoDate, IsoDuration, Toml, Fancy, PgIso, Postgres, PgVerbose}
+use Rattle.forms.specs.declared.form.Form.TheVariants.{PgSql, IsoStrict}
 
 -- a form's number
 abbrev pub number_of : Form → ℤ

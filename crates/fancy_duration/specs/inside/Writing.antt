@@ -1,8 +1,10 @@
 -- What the loops over the ten parts have still to sum, and what the writers put.
-use Rattle.std.specs.Prelude.{ℕ, ◌/◌, ◌%◌, ◌^◌, ◌||◌, ◌&&◌, not, nat_lt, Bool, true, List, [], ◌∷◌, ◌++◌, filter, map, codes, decimal, ◌==◌, if◌then◌else◌}
+use Rattle.std.specs.Prelude.{ℕ, ◌/◌, ◌%◌, ◌^◌, ◌||◌, ◌&&◌, not, nat_lt, Bool, true, List, [], ◌∷◌, ◌++◌, filter, map, codes, decimal, ◌==◌}
+use Rattle.std.specs.Prelude.{if◌then◌else◌}
 use Rattle.std.specs.List.{join_with_byte, list_any}
 use Rattle.fancy_duration.specs.declared.part.DurationPart.{DurationPart}
-use Rattle.fancy_duration.specs.declared.part.DurationPart.TheVariants.{Years, Months, Weeks, Days, Hours, Minutes, Seconds, Milliseconds, Microseconds, Nanoseconds}
+use Rattle.fancy_duration.specs.declared.part.DurationPart.TheVariants.{Years, Months, Weeks, Days, Hours, Minutes, Seconds, Milliseconds}
+use Rattle.fancy_duration.specs.declared.part.DurationPart.TheVariants.{Microseconds, Nanoseconds}
 use Rattle.fancy_duration.specs.Parts.{unit_of, weight_of, is_part}
 use Rattle.fancy_duration.specs.Breakdown.{PartCount, breakdown, counts_of, nanos_in}
 

@@ -18,7 +18,8 @@ abbrev pub AreWhole : List (List ℕ) → List ℕ → Type 0
 AreWhole lines bytes = IsJoin IsEnded bytes lines
 
 -- of the bytes the whole lines were answered, and what follows them is a part of a line
-pub record Answers {A : Type 0} (Says : A → List ℕ → List ℕ → A → Type 0) (s t : A) (bytes part : List ℕ) (old new : Option (List ℕ)) : Type 0 where
+pub record Answers {A : Type 0} (Says : A → List ℕ → List ℕ → A → Type 0) (s t : A) (bytes part : List ℕ)
+    (old new : Option (List ℕ)) : Type 0 where
   pub answered : List (List ℕ)
   pub front : List ℕ
   pub whole : AreWhole answered front

@@ -1,7 +1,8 @@
 -- What private functions answer: cited by private contracts alone.
 use Rattle.std.specs.Prelude.{◌≡◌, ℕ, ⊤, List, [], ◌∷◌, ◌++◌, codes, Option, Some, None}
 use Rattle.forms.specs.declared.form.Form.{Form}
-use Rattle.forms.specs.declared.form.Form.TheVariants.{FileTime, IsoDateTime, IsoDate, IsoDuration, Toml, Fancy, PgIso, Postgres, PgVerbose, PgSql, IsoStrict}
+use Rattle.forms.specs.declared.form.Form.TheVariants.{FileTime, IsoDateTime, IsoDate, IsoDuration, Toml, Fancy, PgIso, Postgres, PgVerbose}
+use Rattle.forms.specs.declared.form.Form.TheVariants.{PgSql, IsoStrict}
 use Rattle.forms.specs.Names.{name_of}
 use Rattle.forms.specs.Buffers.{IsReplyLine}
 

@@ -14,9 +14,6 @@ ghost use Rattle.forms.specs.declared.form.Form.{Form as AnyForm};
 use crate::cause::Cause;
 use crate::value::Value;
 use arrayvec::ArrayString;
-use pg_interval_2::laws::{
-    denoted_interval_is_in_range, text_has_one_list_of_counts, written_text_is_read_back,
-};
 use pg_interval_2::{Interval, Style};
 use scan_core::{Looked, Steps};
 use std::marker::Brand;
@@ -34,7 +31,7 @@ pub fn read_counted<L: Ledger>(
     ensures most { steps.new ≤ steps.old + (2 * length text.now + 4) }
     ensures least { IfOk result (λ _. steps.old + length text.now ≤ steps.new) }
 {
-    denoted_interval_is_in_range();
+    pg_interval_2::laws::denoted_interval_is_in_range();
     match interval_counted(style, text, steps) {
         Ok(interval) => Ok(Value::Triple {
             months: interval.months as i64,
@@ -160,7 +157,7 @@ pub fn lawful()
     ensures pg_sql { Lawful AnyForm.PgSql }
     ensures iso_strict { Lawful AnyForm.IsoStrict }
 {
-    text_has_one_list_of_counts();
-    denoted_interval_is_in_range();
-    written_text_is_read_back();
+    pg_interval_2::laws::text_has_one_list_of_counts();
+    pg_interval_2::laws::denoted_interval_is_in_range();
+    pg_interval_2::laws::written_text_is_read_back();
 }

@@ -1,5 +1,6 @@
 -- What the readers of times answer, as functions on lists. Cited by private contracts alone.
-use Rattle.std.specs.Prelude.{ℕ, ℤ, pos, Bool, true, false, ◌==◌, List, [], ◌∷◌, ◌++◌, take, codes, Option, Some, None, if◌then◌else◌, option_and_then}
+use Rattle.std.specs.Prelude.{ℕ, ℤ, pos, Bool, true, false, ◌==◌, List, [], ◌∷◌, ◌++◌, take, codes, Option, Some, None, if◌then◌else◌}
+use Rattle.std.specs.Prelude.{option_and_then}
 use Rattle.scan_core.specs.Digits.{number_of}
 use Rattle.scan_core.specs.Fronts.{front_digits, after_digits}
 use Rattle.scan_core.specs.Shares.{signed}

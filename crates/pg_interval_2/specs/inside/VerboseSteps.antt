@@ -1,6 +1,7 @@
 -- The one text that is written of an interval in `postgres_verbose` style (PostgreSQL's manual, section 8.5.5, "Interval Output"):
 -- `@ 1 year 2 mons -3 days 4 hours 5 mins 6.5 secs`, and `@ 0` of zero. Behind the `@` each word stands behind a space.
-use Rattle.std.specs.Prelude.{ℕ, ℤ, pos, unsigned_abs, int_lt, Bool, not, false, List, [], ◌∷◌, ◌++◌, codes, decimal, ◌==◌, ◌&&◌, if◌then◌else◌}
+use Rattle.std.specs.Prelude.{ℕ, ℤ, pos, unsigned_abs, int_lt, Bool, not, false, List, [], ◌∷◌, ◌++◌, codes, decimal, ◌==◌, ◌&&◌}
+use Rattle.std.specs.Prelude.{if◌then◌else◌}
 use Rattle.std.specs.Ordering.{int_eq}
 use Rattle.std.specs.Int.{is_negative}
 use Rattle.scan_core.specs.Padded.{padded_digits, trimmed_digits}

@@ -5,7 +5,8 @@ use Rattle.std.specs.List.{list_any}
 use Rattle.fancy_duration.specs.contracts.part.DurationPart.{the_type}
 use Rattle.fancy_duration.specs.contracts.part.DurationPartPartialEq.TheImpl.{ghosts}
 use Rattle.fancy_duration.specs.declared.part.DurationPart.{DurationPart}
-use Rattle.fancy_duration.specs.declared.part.DurationPart.TheVariants.{Years, Months, Weeks, Days, Hours, Minutes, Seconds, Milliseconds, Microseconds, Nanoseconds}
+use Rattle.fancy_duration.specs.declared.part.DurationPart.TheVariants.{Years, Months, Weeks, Days, Hours, Minutes, Seconds, Milliseconds}
+use Rattle.fancy_duration.specs.declared.part.DurationPart.TheVariants.{Microseconds, Nanoseconds}
 use Rattle.fancy_duration.specs.Parts.{is_part, rank_of}
 use Rattle.fancy_duration.proofs.breakdown.is_among.Goals as goal
 

@@ -14,7 +14,9 @@ loop-first-preserved c =
     let value = digit_value-digit c.in-Some.first.now digit in
     let split = front_more is_digit _ _ _ c.in-Some.ensures.cases.0 digit in
     record {
-      number = min_digit c.in-Some.first.now c.loop-first.number c.with_digit-number.result (2 ^ 128 - 1) (leading is_digit c.in-Some.tail.now) (omega (arith, value, c.with_digit-number.ensures)) ∙ ap (λ ds. capped (digits_value_after 10 c.loop-first.number ds)) (sym split) ∙ c.loop-first.invariant.number;
+      number = min_digit c.in-Some.first.now c.loop-first.number c.with_digit-number.result (2 ^ 128 - 1)
+          (leading is_digit c.in-Some.tail.now) (omega (arith, value, c.with_digit-number.ensures))
+          ∙ ap (λ ds. capped (digits_value_after 10 c.loop-first.number ds)) (sym split) ∙ c.loop-first.invariant.number;
       rest = behind_more is_digit _ _ _ c.in-Some.ensures.cases.0 digit ∙ c.loop-first.invariant.rest;
       within = omega (arith, c.with_digit-number.ensures);
     }

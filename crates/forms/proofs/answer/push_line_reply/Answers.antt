@@ -15,6 +15,7 @@ returns-in-Some-clause-reply g c =
     let replied = c.push_text_reply.ensures.reply in
     record {
       text = replied.0;
-      is = reply_of_names c.args.line.now c.in-Some.from c.in-Some.to c.in-Some.text.now replied.0 c.push_text_reply.result c.in-Some.ensures.found replied.1;
+      is = reply_of_names c.args.line.now c.in-Some.from c.in-Some.to c.in-Some.text.now replied.0 c.push_text_reply.result
+          c.in-Some.ensures.found replied.1;
       gained = replied.2;
     }

@@ -13,7 +13,8 @@ returns-then-out-at-clause-none c =
     let found = c.in_ok-line.ensures.found in
     let whole = c.push.ensures.ascii (omega arith) in
     let long : length c.args.out.now - c.args.at < length c.push.new.self.bytes = grind (arith, nat_tests) in (
-      stops_at_long c.args.text.now c.in_ok-line.line.now c.push.new.self.bytes c.in_ok-line.after.now (length c.args.out.now - c.args.at) found.0 found.1
+      stops_at_long c.args.text.now c.in_ok-line.line.now c.push.new.self.bytes c.in_ok-line.after.now
+          (length c.args.out.now - c.args.at) found.0 found.1
           (c.line_reply-reply.result.bytes, c.line_reply-reply.ensures.reply, whole) long,
       refl,
     )

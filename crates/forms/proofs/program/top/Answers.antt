@@ -8,10 +8,12 @@ pub returns-then-is_empty-clause-front : goal.returns-then-is_empty-clause-front
 returns-then-is_empty-clause-front g c = λ none. each_end_leaves_a_front 67108864 _ _ c.run.result c.run.ensures.ended
 
 pub returns-then-is_empty-clause-within : goal.returns-then-is_empty-clause-within
-returns-then-is_empty-clause-within g c = λ none. rw c.status.ensures (status_within 67108864 _ c.run.result _ _ (length_decides_the_end 67108864 _ _ c.run.result c.run.ensures.ended))
+returns-then-is_empty-clause-within g c = λ none. rw c.status.ensures
+    (status_within 67108864 _ c.run.result _ _ (length_decides_the_end 67108864 _ _ c.run.result c.run.ensures.ended))
 
 pub returns-then-is_empty-clause-beyond : goal.returns-then-is_empty-clause-beyond
-returns-then-is_empty-clause-beyond g c = λ none. rw c.status.ensures (status_beyond 67108864 _ c.run.result _ _ (length_decides_the_end 67108864 _ _ c.run.result c.run.ensures.ended))
+returns-then-is_empty-clause-beyond g c = λ none. rw c.status.ensures
+    (status_beyond 67108864 _ c.run.result _ _ (length_decides_the_end 67108864 _ _ c.run.result c.run.ensures.ended))
 
 pub returns-in-Some-clause-sampled : goal.returns-in-Some-clause-sampled
 returns-in-Some-clause-sampled g c = λ count words.

@@ -8,6 +8,7 @@ use Rattle.interval_column.proofs.output.put_intervals.Given as goal
 
 abbrev pub invariant-loop-ranked : goal.invariant-loop-ranked
 invariant-loop-ranked g l = record {
-  put : ArePut (λ (r : Ranked). interval_line l.style [] r.interval) l.ranks (g.K.Sink.held l.initial.sink) (g.K.Sink.held l.sink) l.initial.batch.bytes l.batch.bytes l.ranked-index;
+  put : ArePut (λ (r : Ranked). interval_line l.style [] r.interval) l.ranks (g.K.Sink.held l.initial.sink)
+      (g.K.Sink.held l.sink) l.initial.batch.bytes l.batch.bytes l.ranked-index;
   later : g.K.Sink.faults l.initial.sink ≤ g.K.Sink.faults l.sink;
 }

@@ -10,7 +10,8 @@ use Rattle.iso8601.proofs.counted.number_in.Goals as goal
 pub returns-then-run : goal.returns-then-run
 returns-then-run c text is = sym (number_none text c.args.run is (inl c.if-run.true))
 
-tried : {E : Type 0} (text : List ℕ) (run : Run) (r : Result ℕ E) → IsRun text run → run.start ≢ run.end → OkIff r (run.value < 4294967296) run.value → result_ok r ≡ number_in (digits_of text run)
+tried : {E : Type 0} (text : List ℕ) (run : Run) (r : Result ℕ E) → IsRun text run → run.start ≢ run.end
+    → OkIff r (run.value < 4294967296) run.value → result_ok r ≡ number_in (digits_of text run)
 tried text run (Ok value) is apart fits = ap Some fits.1 ∙ sym (number_some text run is apart (omega (arith, fits.0)))
 tried text run (Err e) is apart great = sym (number_none text run is (inr (grind (arith, great))))
 

@@ -9,4 +9,5 @@ overflow_mul-result c =
     rw (c.scale.ensures, whole) (omega (arith, front_short c.args.bytes.now))
 
 pub returns-clause-value : goal.returns-clause-value
-returns-clause-value c = rw c.scale.ensures (scaled_front c.args.bytes.now _ _ c.leading_nine-len.ensures.len c.leading_nine-len.ensures.number)
+returns-clause-value c = rw c.scale.ensures (scaled_front c.args.bytes.now _ _ c.leading_nine-len.ensures.len
+    c.leading_nine-len.ensures.number)

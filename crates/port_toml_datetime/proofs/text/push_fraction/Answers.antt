@@ -5,7 +5,8 @@ use Rattle.port_toml_datetime.proofs.PaddedFacts.{some_pushed, zero_pushed}
 use Rattle.port_toml_datetime.proofs.text.push_fraction.Goals as goal
 
 pub returns-then-nanosecond-eq0-clause-bytes : goal.returns-then-nanosecond-eq0-clause-bytes
-returns-then-nanosecond-eq0-clause-bytes g c = zero_pushed _ _ c.args.nanosecond c.if-nanosecond-eq0.true (c.push.ensures.ascii (omega arith))
+returns-then-nanosecond-eq0-clause-bytes g c = zero_pushed _ _ c.args.nanosecond c.if-nanosecond-eq0.true
+    (c.push.ensures.ascii (omega arith))
 
 pub returns-else-nanosecond-eq0-clause-bytes : goal.returns-else-nanosecond-eq0-clause-bytes
 returns-else-nanosecond-eq0-clause-bytes g c =

@@ -12,8 +12,10 @@ pub loop-line-preserved : goal.loop-line-preserved
 loop-line-preserved c = record {
   so_far = λ rest h.
       let reply = c.a_line_has_one_reply.ensures.some in
-      c.loop-line.invariant.so_far (reply.0 ++ rest) (subst (λ (l : List (List ℕ)). AreReplies l (reply.0 ++ rest)) (sym c.in-Some.ensures.lines) (reply.0, rest, reply.1, h, refl));
+      c.loop-line.invariant.so_far (reply.0 ++ rest) (subst (λ (l : List (List ℕ)). AreReplies l (reply.0 ++ rest))
+          (sym c.in-Some.ensures.lines) (reply.0, rest, reply.1, h, refl));
 }
 
 pub returns-clause-some : goal.returns-clause-some
-returns-clause-some c = c.loop-line.invariant.so_far [] (subst (λ (l : List ℕ). AreReplies (lines l) []) (sym c.in_default.ensures.none) refl)
+returns-clause-some c = c.loop-line.invariant.so_far [] (subst (λ (l : List ℕ). AreReplies (lines l) [])
+    (sym c.in_default.ensures.none) refl)

@@ -10,4 +10,5 @@ if_none None P Q h = h
 if_none (Some x) P Q h = tt
 
 pub returns-clause-none : goal.returns-clause-none
-returns-clause-none c = if_none c.strip_prefix.result _ _ (strip_prefix_char 82 c.args.text.now c.strip_prefix.result c.strip_prefix.ensures.cases (omega arith))
+returns-clause-none c = if_none c.strip_prefix.result _ _ (strip_prefix_char 82 c.args.text.now c.strip_prefix.result
+    c.strip_prefix.ensures.cases (omega arith))

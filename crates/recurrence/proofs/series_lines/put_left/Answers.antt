@@ -28,7 +28,8 @@ loop-instant-preserved g c =
     let steps = c.in-Some.ensures.steps in
     let writable = subst AreWritable steps.0 c.loop-instant.invariant.writable in
     record {
-      so_far = one_more IsInstantLine _ _ _ _ _ _ _ _ _ c.in-Some.instant c.texts_keep_their_order.ensures steps.0 c.loop-instant.invariant.so_far (rw (to_z-of_z f) at c.in_ok-put_instant.ensures.ok);
+      so_far = one_more IsInstantLine _ _ _ _ _ _ _ _ _ c.in-Some.instant c.texts_keep_their_order.ensures steps.0
+          c.loop-instant.invariant.so_far (rw (to_z-of_z f) at c.in_ok-put_instant.ensures.ok);
       writable = writable.1;
       stop = steps.1 ∙ c.loop-instant.invariant.stop;
       later = omega (arith, c.loop-instant.invariant.later, c.in_ok-put_instant.ensures.cause.later);
@@ -40,7 +41,8 @@ returns-in_err-put_instant-clause-err g c =
     let steps = c.in-Some.ensures.steps in
     let writable = subst AreWritable steps.0 c.loop-instant.invariant.writable in
     let rest = have_texts c.civil_dates_are_calendar_dates.ensures _ writable.1 in
-    on_err _ c.from_residual.result (fails_at IsInstantLine _ _ _ _ _ _ _ _ c.in-Some.instant c.texts_keep_their_order.ensures steps.0 rest.0 rest.1 c.loop-instant.invariant.so_far (rw (to_z-of_z f) at c.in_err-put_instant.ensures.err))
+    on_err _ c.from_residual.result (fails_at IsInstantLine _ _ _ _ _ _ _ _ c.in-Some.instant c.texts_keep_their_order.ensures steps.0
+        rest.0 rest.1 c.loop-instant.invariant.so_far (rw (to_z-of_z f) at c.in_err-put_instant.ensures.err))
 
 pub returns-clause-ok : goal.returns-clause-ok
 returns-clause-ok g c = all_put IsInstantLine _ _ _ _ _ _ c.in_default.ensures.steps.0 c.loop-instant.invariant.so_far

@@ -6,6 +6,7 @@ use Rattle.schedule_check.proofs.report.put_slots.Given as goal
 
 abbrev pub invariant-loop-slot : goal.invariant-loop-slot
 invariant-loop-slot g l = record {
-  moved : Moves (g.K.Sink.held l.initial.sink) (g.K.Sink.held l.sink) l.initial.batch.bytes (slot_lines (take l.slot-index l.slots)) l.batch.bytes;
+  moved : Moves (g.K.Sink.held l.initial.sink) (g.K.Sink.held l.sink) l.initial.batch.bytes
+      (slot_lines (take l.slot-index l.slots)) l.batch.bytes;
   later : g.K.Sink.faults l.initial.sink ≤ g.K.Sink.faults l.sink;
 }

@@ -26,6 +26,8 @@ loop-left-preserved c =
     record {
       within = field_within c.loop-left.at line field back c.loop-left.invariant.within found;
       most = omega (arith, c.loop-left.invariant.most);
-      tabbed = tabbed_more c.args.number c.loop-left.left c.loop-left.at line field back some c.loop-left.invariant.most c.loop-left.invariant.tabbed found;
-      still = subst (λ (l : List ℕ). StillTabbed c.args.number line (c.loop-left.left - 1) l) behind (still_less c.args.number c.loop-left.left line rest field back some c.loop-left.invariant.still found);
+      tabbed = tabbed_more c.args.number c.loop-left.left c.loop-left.at line field back some c.loop-left.invariant.most
+          c.loop-left.invariant.tabbed found;
+      still = subst (λ (l : List ℕ). StillTabbed c.args.number line (c.loop-left.left - 1) l) behind
+          (still_less c.args.number c.loop-left.left line rest field back some c.loop-left.invariant.still found);
     }

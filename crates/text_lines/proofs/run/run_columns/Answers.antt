@@ -7,7 +7,9 @@ pub returns-in_default-clause-ended : goal.returns-in_default-clause-ended
 returns-in_default-clause-ended g c = rw c.status.ensures (judged_nowhere (IsOutput c.args.from c.args.to c.args.place) _)
 
 pub returns-in_default-new-clause-ended : goal.returns-in_default-new-clause-ended
-returns-in_default-new-clause-ended g c = rw c.status-in_default-new.ensures (judged_nowhere (IsOutput c.args.from c.args.to c.args.place) _)
+returns-in_default-new-clause-ended g c = rw c.status-in_default-new.ensures
+    (judged_nowhere (IsOutput c.args.from c.args.to c.args.place) _)
 
 pub returns-clause-ended : goal.returns-clause-ended
-returns-clause-ended g c = columns_ended c.args.from c.args.to c.args.place c.answer_lines-end.new.answerer _ _ c.answer_lines-end.result c.status_with.result c.answer_lines-end.ensures.ended c.status_with.ensures
+returns-clause-ended g c = columns_ended c.args.from c.args.to c.args.place c.answer_lines-end.new.answerer _ _ c.answer_lines-end.result
+    c.status_with.result c.answer_lines-end.ensures.ended c.status_with.ensures

@@ -9,7 +9,9 @@ loop-line-preserved g c =
     let items : c.push.new.self.items ≡ c.loop-line.values.items ++ (c.in-Ok-read_line.value ∷ []) = search rules in
     let less : length (lines c.loop-line.rest.now) ≡ suc (length (lines c.in-Some.after.now)) = ap length c.in-Some.ensures.lines in
     record {
-      far = rw items (far_more (g.R.ReadLine.is_read c.args.reader.now) c.args.text.now c.loop-line.rest.now c.in-Some.after.now c.in-Some.line.now c.loop-line.number c.loop-line.values.items c.in-Ok-read_line.value c.loop-line.invariant.far c.in-Some.ensures.lines c.in-Ok-read_line.ensures);
+      far = rw items (far_more (g.R.ReadLine.is_read c.args.reader.now) c.args.text.now c.loop-line.rest.now c.in-Some.after.now
+          c.in-Some.line.now c.loop-line.number c.loop-line.values.items c.in-Ok-read_line.value c.loop-line.invariant.far
+          c.in-Some.ensures.lines c.in-Ok-read_line.ensures);
       room = omega (arith, less, c.loop-line.invariant.room);
       count = omega (arith, c.loop-line.invariant.count, c.in-Some.ensures.shorter);
     }

@@ -12,7 +12,8 @@ use Rattle.forms.proofs.ShortDurations.{negative, too_long, read_back, ambiguous
 use Rattle.forms.proofs.form.fancy.length_of.Goals as goal
 
 pub returns-in_default-clause-held : goal.returns-in_default-clause-held
-returns-in_default-clause-held c = sym (negative c.args.nanos (subst (λ (z : ℤ). z <ℤ pos 0) (to_z-of_z c.ranges.nanos) (less (pos 0) _ c.in_default.ensures)))
+returns-in_default-clause-held c = sym (negative c.args.nanos (subst (λ (z : ℤ). z <ℤ pos 0) (to_z-of_z c.ranges.nanos)
+    (less (pos 0) _ c.in_default.ensures)))
 
 pub returns-then-length-clause-held : goal.returns-then-length-clause-held
 returns-then-length-clause-held c =
@@ -30,7 +31,8 @@ returns-then-reads_back-clause-held c =
     let long = c.if-length.false in
     let length = c.duration.ensures in
     let same : nanos_of (duration_times c.duration.result.0) ≡ c.in-Ok.length = omega arith in
-    sym (ap length_of is ∙ read_back c.in-Ok.length (omega arith) (λ alone. c.reads_back.ensures.months.0 c.if-reads_back.true (subst MonthsStandAlone (sym same) alone)))
+    sym (ap length_of is ∙ read_back c.in-Ok.length (omega arith)
+        (λ alone. c.reads_back.ensures.months.0 c.if-reads_back.true (subst MonthsStandAlone (sym same) alone)))
 
 pub returns-else-reads_back-clause-held : goal.returns-else-reads_back-clause-held
 returns-else-reads_back-clause-held c =
@@ -40,4 +42,6 @@ returns-else-reads_back-clause-held c =
     let long = c.if-length.false in
     let length = c.duration.ensures in
     let same : nanos_of (duration_times c.duration.result.0) ≡ c.in-Ok.length = omega arith in
-    sym (ap length_of is ∙ ambiguous c.in-Ok.length (omega arith) (λ clear. let back = c.reads_back.ensures.months.1 (λ alone. clear (subst MonthsStandAlone same alone)) in let not = c.if-reads_back.false in cc))
+    sym (ap length_of is ∙ ambiguous c.in-Ok.length (omega arith)
+        (λ clear. let back = c.reads_back.ensures.months.1 (λ alone. clear (subst MonthsStandAlone same alone)) in let not
+        = c.if-reads_back.false in cc))

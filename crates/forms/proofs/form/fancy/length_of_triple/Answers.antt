@@ -19,4 +19,5 @@ returns-then-months-eq0-clause-held c =
     c.length_of.ensures.held ∙ (ap length_of (omega (arith, ints)) ∙ sym (without_months c.args.months c.args.days c.args.micros none))
 
 pub returns-else-months-eq0-clause-held : goal.returns-else-months-eq0-clause-held
-returns-else-months-eq0-clause-held c = sym (with_months c.args.months c.args.days c.args.micros (λ none. c.if-months-eq0.false (ap (λ (z : ℤ). of_z w64 z) none)))
+returns-else-months-eq0-clause-held c = sym (with_months c.args.months c.args.days c.args.micros
+    (λ none. c.if-months-eq0.false (ap (λ (z : ℤ). of_z w64 z) none)))

@@ -11,7 +11,9 @@ returns-then-not-is_fancy_text c =
     cc)
 
 pub returns-in-Ok : goal.returns-in-Ok
-returns-in-Ok c = reads_length c.strict_texts_spell_their_sums.ensures c.args.text.now (c.in-Ok.seconds, c.in-Ok.nanos) (c.is_fancy_text.ensures.0 c.if-not-is_fancy_text.false) c.in-Ok.ensures.ok _ refl
+returns-in-Ok c = reads_length c.strict_texts_spell_their_sums.ensures c.args.text.now (c.in-Ok.seconds, c.in-Ok.nanos)
+    (c.is_fancy_text.ensures.0 c.if-not-is_fancy_text.false) c.in-Ok.ensures.ok _ refl
 
 pub returns-in-Err : goal.returns-in-Err
-returns-in-Err c = refused c.strict_texts_spell_their_sums.ensures c.args.text.now c.in-Err.field-0 (c.is_fancy_text.ensures.0 c.if-not-is_fancy_text.false) c.in-Err.ensures.too_big.0 c.in-Err.ensures.held
+returns-in-Err c = refused c.strict_texts_spell_their_sums.ensures c.args.text.now c.in-Err.field-0
+    (c.is_fancy_text.ensures.0 c.if-not-is_fancy_text.false) c.in-Err.ensures.too_big.0 c.in-Err.ensures.held

@@ -9,4 +9,5 @@ pub returns-in-Ok-clause-held : goal.returns-in-Ok-clause-held
 returns-in-Ok-clause-held c = inl (c.in-Ok.civil, c.in-Ok.ensures.value ∙ to_z-of_z c.ranges.nanos, c.in_millis.ensures.held)
 
 pub returns-in-Err-clause-held : goal.returns-in-Err-clause-held
-returns-in-Err-clause-held c = no_civil c.args.nanos (λ h. let e = c.in-Err.ensures.succeeds.1 (subst IsCivilNanos (sym (to_z-of_z c.ranges.nanos)) h) in cc)
+returns-in-Err-clause-held c = no_civil c.args.nanos (λ h. let e = c.in-Err.ensures.succeeds.1
+    (subst IsCivilNanos (sym (to_z-of_z c.ranges.nanos)) h) in cc)

@@ -17,9 +17,11 @@ returns-in-Some c =
     let seconds = value.2 in
     let nanos = c.instant_of.ensures in
     let fits = c.instant_of.type_inv in
-    let same : civil_nanos c.in-Some.moment.local -ℤ c.in-Some.moment.offset_seconds *ℤ pos 1_000_000_000 ≡ to_z w128 (of_z w128 c.instant_of.result) = omega (arith, ints) in
+    let same : civil_nanos c.in-Some.moment.local -ℤ c.in-Some.moment.offset_seconds *ℤ pos 1_000_000_000
+        ≡ to_z w128 (of_z w128 c.instant_of.result) = omega (arith, ints) in
     let P : ℤ → Type 0 = λ z. Worth c.args.datetime (Ok (Instant z)) in
     subst P same (is_worth c.args.datetime c.in-Some.moment real value)
 
 pub returns-then-is_real : goal.returns-then-is_real
-returns-then-is_real c = is_out c.args.datetime (c.is_real.ensures.0 c.if-is_real.true) (λ moment. let e = c.in-None.ensures.some.1 moment in cc)
+returns-then-is_real c = is_out c.args.datetime (c.is_real.ensures.0 c.if-is_real.true)
+    (λ moment. let e = c.in-None.ensures.some.1 moment in cc)

@@ -6,7 +6,8 @@ use Rattle.forms.proofs.sample.summary.counts_of.Goals as goal
 pub loop-reply-preserved-then-starts_with : goal.loop-reply-preserved-then-starts_with
 loop-reply-preserved-then-starts_with c =
     let found = c.in-Some.ensures.found in
-    let first = first_refused _ c.in-Some.reply.now c.in-Some.after.now found.0 found.1 (sym c.starts_with.ensures.value ∙ c.if-starts_with.true) in
+    let first = first_refused _ c.in-Some.reply.now c.in-Some.after.now found.0 found.1
+        (sym c.starts_with.ensures.value ∙ c.if-starts_with.true) in
     let before = c.loop-reply.invariant in
     record {
       ok = omega (arith, before.ok, first.answer);
@@ -17,7 +18,8 @@ loop-reply-preserved-then-starts_with c =
 pub loop-reply-preserved : goal.loop-reply-preserved
 loop-reply-preserved c =
     let found = c.in-Some.ensures.found in
-    let first = first_answered _ c.in-Some.reply.now c.in-Some.after.now found.0 found.1 (sym c.starts_with.ensures.value ∙ c.if-starts_with.false) in
+    let first = first_answered _ c.in-Some.reply.now c.in-Some.after.now found.0 found.1
+        (sym c.starts_with.ensures.value ∙ c.if-starts_with.false) in
     let before = c.loop-reply.invariant in
     record {
       ok = omega (arith, before.ok, first.answer);

@@ -10,7 +10,8 @@ pub returns-in-Some-clause-found : goal.returns-in-Some-clause-found
 returns-in-Some-clause-found c = duration_sound c.args.i.now c.in-Some.found.1.now c.in-Some.found.0 (search rules)
 
 pub returns-in-Some-clause-longest : goal.returns-in-Some-clause-longest
-returns-in-Some-clause-longest c = none_longer IsDuration read_duration duration_reach c.args.i.now c.in-Some.found.1.now c.in-Some.found.0 (search rules)
+returns-in-Some-clause-longest c = none_longer IsDuration read_duration duration_reach c.args.i.now c.in-Some.found.1.now c.in-Some.found.0
+    (search rules)
 
 pub returns-in-None-clause-none : goal.returns-in-None-clause-none
 returns-in-None-clause-none c = none_begins IsDuration read_duration duration_reach c.args.i.now (search rules)

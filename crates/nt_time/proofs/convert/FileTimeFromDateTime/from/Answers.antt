@@ -13,7 +13,8 @@ unwrap-requires c =
     let since : pos 0 ≤ℤ civil_nanos civil = since_1980 civil (omega (arith, ints)) in
     let split = civil_nanos-civil_seconds civil in
     let made = c.from_unix_time_secs.ensures in
-    succeeds c.from_unix_time_secs.result (λ e. omega (arith, ints, seconds, since, split, made.negative.0 e)) (λ e. omega (arith, ints, made.overflow.0 e))
+    succeeds c.from_unix_time_secs.result (λ e. omega (arith, ints, seconds, since, split, made.negative.0 e))
+        (λ e. omega (arith, ints, made.overflow.0 e))
 
 pub returns : goal.returns
 returns c =

@@ -7,7 +7,8 @@ use Rattle.scan_core.proofs.Scans.{among_more, among_none, one_passed}
 use Rattle.scan_core.proofs.scan.Scan.digits_inside.Goals as goal
 
 pub loop-digit-init : goal.loop-digit-init
-loop-digit-init g c = record { among = ([], among_none is_ascii_digit c.args.self.now, inl refl, omega arith); room = c.requires.room; ticks = refl }
+loop-digit-init g c = record { among = ([], among_none is_ascii_digit c.args.self.now, inl refl, omega arith); room = c.requires.room;
+    ticks = refl }
 
 pub next_inside-requires : goal.next_inside-requires
 next_inside-requires g c = omega (arith, c.loop-digit.invariant.room, c.in-Some.ensures.some.0)
@@ -15,12 +16,15 @@ next_inside-requires g c = omega (arith, c.loop-digit.invariant.room, c.in-Some.
 pub loop-digit-preserved : goal.loop-digit-preserved
 loop-digit-preserved g c =
     let some = c.loop-digit.invariant.among in
-    let passed = one_passed c.in-Some.digit c.loop-digit.self c.next_inside.new.self c.in-Some.ensures.some.2 c.next_inside.ensures.passed in
+    let passed = one_passed c.in-Some.digit c.loop-digit.self c.next_inside.new.self c.in-Some.ensures.some.2 c.next_inside.ensures.passed
+        in
     record {
       among = (
         some.0 ++ c.in-Some.digit ∷ [],
-        among_more is_ascii_digit some.0 c.args.self.now c.loop-digit.self c.next_inside.new.self c.in-Some.digit some.1 c.in-Some.ensures.some.1 passed,
-        subst (λ (n : ℕ). Knows (10 ^ 18) c.with_digit-value.result n) (sym (number_of_push some.0 c.in-Some.digit c.in-Some.ensures.some.1)) (c.with_digit-value.ensures _ some.2),
+        among_more is_ascii_digit some.0 c.args.self.now c.loop-digit.self c.next_inside.new.self c.in-Some.digit some.1
+            c.in-Some.ensures.some.1 passed,
+        subst (λ (n : ℕ). Knows (10 ^ 18) c.with_digit-value.result n)
+            (sym (number_of_push some.0 c.in-Some.digit c.in-Some.ensures.some.1)) (c.with_digit-value.ensures _ some.2),
         (let long = length-append some.0 (c.in-Some.digit ∷ []) in omega (arith, some.3, c.in-Some.ensures.some.0)),
       );
       room = omega (arith, c.loop-digit.invariant.room, c.next_inside.ensures.left, c.in-Some.ensures.some.0);

@@ -10,7 +10,8 @@ use Rattle.scan_core.proofs.scan.Scan.digits_up_to.Given as goal
 -- some of the digits were passed, and they are known
 abbrev pub invariant-loop-digit : goal.invariant-loop-digit
 invariant-loop-digit g l = record {
-  among : (bytes : List ℕ) × IsAmong is_ascii_digit bytes l.fn.self l.self × Knows (10 ^ 18) l.value (number_of bytes) × (length bytes + l.left ≡ l.most);
+  among : (bytes : List ℕ) × IsAmong is_ascii_digit bytes l.fn.self l.self × Knows (10 ^ 18) l.value (number_of bytes)
+      × (length bytes + l.left ≡ l.most);
   ticks : l.steps + unseen (ahead l.self) ≡ l.fn.steps + unseen (ahead l.fn.self);
 }
 

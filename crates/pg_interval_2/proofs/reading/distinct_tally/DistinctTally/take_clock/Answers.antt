@@ -11,5 +11,7 @@ pub returns-clause-step : goal.returns-clause-step
 returns-clause-step g c =
     λ names counts h.
     let taken = c.count_ahead-taken in
-    subst (λ (p : Place). IsItemStep (names_in names) c.args.turned taken.new.scan.text (read_clock c.args.negative (digits_of p.text c.args.hours) (ahead p)) (ahead taken.new.scan) counts taken.new.self (clock_step taken.result)) c.here-here.ensures
+    subst (λ (p : Place). IsItemStep (names_in names) c.args.turned taken.new.scan.text
+        (read_clock c.args.negative (digits_of p.text c.args.hours) (ahead p)) (ahead taken.new.scan) counts taken.new.self
+        (clock_step taken.result)) c.here-here.ensures
     (taken.ensures.step names counts h)

@@ -1,9 +1,9 @@
--- The invariant and the measure of the loop of `pieces::answer_lines`.
+-- The invariant and the measure of the loop of `source_lines::answer_lines`.
 use Rattle.std.proofs.Common.{◌≡◌, ◌≤◌, [], ℕ, List, take, vec_len, vec_capacity}
 use Rattle.forms.specs.Ends.{streams}
 use Rattle.forms.specs.Outputs.{cut}
 use Rattle.forms.proofs.Runs.{IsRunning}
-use Rattle.forms.proofs.pieces.answer_lines.Given as goal
+use Rattle.forms.proofs.source_lines.answer_lines.Given as goal
 
 abbrev pub invariant-loop-room : goal.invariant-loop-room
 invariant-loop-room g l = record {

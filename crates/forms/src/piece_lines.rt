@@ -9,7 +9,7 @@ ghost use Rattle.forms.specs.inside.Pieces.{AnswersPiece, FailsPiece, AnswersLas
 use crate::answer::push_line_reply;
 use crate::answers_lines::{AnswersLines, Waits};
 use crate::line::split_line;
-use crate::outside::{Failed, Sink};
+use crate::streams::{Failed, Sink};
 use crate::waiting::{BATCH, Batch};
 
 /// The longest reply, with its line feed: a written text has at most 96 bytes.

@@ -4,9 +4,9 @@ ghost use Rattle.forms.specs.Ends.{streams};
 ghost use Rattle.forms.specs.Outputs.{cut, EndedBy};
 
 use crate::answers_lines::{AnswersLines, Waits};
-use crate::output::{answer_last, answer_piece};
-use crate::outside::{Failed, Sink, Source};
+use crate::piece_lines::{answer_last, answer_piece};
 use crate::run_end::RunEnd;
+use crate::streams::{Failed, Sink, Source};
 use crate::waiting::Batch;
 
 /// How many bytes a read asks for at most.

@@ -1,6 +1,6 @@
--- Answers to the goals of `output::push_reply`.
+-- Answers to the goals of `piece_lines::push_reply`.
 use Rattle.std.proofs.Common.{◌++◌, arith, codes, refl, append_assoc}
-use Rattle.forms.proofs.output.push_reply.Goals as goal
+use Rattle.forms.proofs.piece_lines.push_reply.Goals as goal
 
 pub returns : goal.returns
 returns c =
