@@ -17,6 +17,7 @@ CAUSES = {
     -101: "NoSuchForm",
     -102: "NotUtf8",
     -103: "NoRoom",
+    -104: "BadOffsets",
 }
 
 Text = ctypes.c_char * TEXT_MAX
@@ -40,6 +41,16 @@ reply.restype = ctypes.c_int32
 replies = _free.timeforms_replies
 replies.argtypes = [ctypes.c_void_p, ctypes.c_size_t, ctypes.c_char_p, ctypes.c_size_t, ctypes.POINTER(ctypes.c_size_t)]
 replies.restype = ctypes.c_size_t
+
+_ARRAY = [ctypes.c_void_p, ctypes.c_size_t]
+
+convert_column = _free.timeforms_convert_column
+convert_column.argtypes = [ctypes.c_int32, ctypes.c_int32, *5 * _ARRAY, ctypes.POINTER(ctypes.c_size_t)]
+convert_column.restype = ctypes.c_int32
+
+intervals_from_column = _free.timeforms_intervals_from_column
+intervals_from_column.argtypes = [ctypes.c_int32, *6 * _ARRAY, ctypes.POINTER(ctypes.c_size_t)]
+intervals_from_column.restype = ctypes.c_int32
 
 interval_from_text = _held.timeforms_interval_from_text
 interval_from_text.argtypes = [ctypes.c_int32, ctypes.c_char_p, ctypes.c_size_t, ctypes.POINTER(Interval)]

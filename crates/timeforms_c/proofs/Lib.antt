@@ -1,5 +1,6 @@
 -- Lemmas by subject.
 pub mod Answered
+pub mod Columns
 pub mod Intervals
 pub mod Names
 pub mod Rooms
