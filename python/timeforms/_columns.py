@@ -4,13 +4,13 @@ from __future__ import annotations
 import ctypes
 import sys
 from array import array
-from itertools import accumulate
+from itertools import accumulate, islice
 from typing import Any, Iterable, NamedTuple
 
 from . import _library
 from ._errors import ConversionError
 from ._forms import NUMBERS, no_such_form
-from ._interval import Interval, total
+from ._interval import Interval
 
 __all__ = ["IntervalColumn", "TextColumn", "convert_all", "convert_column", "intervals", "to_timedelta64"]
 
@@ -264,7 +264,8 @@ def _converted(number: int, other: int, data: Any, offsets: array[int]) -> TextC
     if count < 1:
         return TextColumn(b"", array("I", [0]), array("i"))
     ends, codes = array("I", bytes(4 * (count + 1))), array("i", bytes(4 * count))
-    room = ctypes.create_string_buffer(min(96 * count, _ROOM))
+    # a call for a further part counts its offsets from 0 on, so the room is such that there is seldom one
+    room = ctypes.create_string_buffer(min(_library.TEXT_MAX * count, max(_ROOM, 2 * len(data)), 2**31 - 1))
     start = ctypes.cast(ctypes.c_char_p(data), ctypes.c_void_p).value or 0
     used, done, put, pieces = ctypes.c_size_t(), 0, 0, []
     while done < count:
@@ -307,8 +308,8 @@ def _answers(number: int, other: int, cells: list[Any], forms: tuple[str, str], 
     """The answers to some cells, in order."""
     packed = _packed(cells)
     column = _converted(number, other, packed.data, packed.offsets)
-    text, ends = column.data.decode(), column.offsets
-    answers: list[Any] = [text[start:end] for start, end in zip(ends, ends[1:])]
+    text, start = column.data.decode(), 0
+    answers: list[Any] = [text[start : (start := end)] for end in islice(column.offsets.tolist(), 1, None)]
     _put_back(answers, cells, packed, column.codes, forms, errors)
     return answers
 

@@ -153,3 +153,71 @@ answered_all from to bytes offsets out_old out_new ends_old ends_new codes_old c
 -- without a place more there is no cell more
 pub no_place : {X : Type 0} → (offsets ends codes count done : ℕ) → count ≡ min (min (offsets - 1) (ends - 1)) codes → count ≤ done → (offsets ≤ done + 1) ⊎ ((ends ≤ done + 1) ⊎ ((codes ≤ done) ⊎ X))
 no_place offsets ends codes count done is all = grind arith
+
+-- the cells so far are read
+pub record AreRead (style : Style) (bytes offsets : List ℕ) (months_old months_new days_old days_new micros_old micros_new codes_old codes_new : List ℤ) (done : ℕ) : Type 0 where
+  pub answers : List (Result Interval ℤ)
+  pub each : AreBetween (IsCellAnswer (FindsInterval style) bytes) offsets answers
+  pub count : done ≡ length answers
+  pub months : Fills (map (part_of (λ t. t.months)) answers) months_old months_new
+  pub days : Fills (map (part_of (λ t. t.days)) answers) days_old days_new
+  pub micros : Fills (map (part_of (λ t. t.microseconds)) answers) micros_old micros_new
+  pub codes : Fills (map answer_code answers) codes_old codes_new
+
+-- at first none is
+pub read_none : (style : Style) (bytes offsets : List ℕ) (months days micros codes : List ℤ) → AreRead style bytes offsets months months days days micros micros codes codes 0
+read_none style bytes offsets months days micros codes =
+    let empty : (xs : List ℤ) → Fills [] xs xs = λ xs. (omega arith, refl) in
+    record { answers = []; each = tt; count = refl; months = empty months; days = empty days; micros = empty micros; codes = empty codes }
+
+-- one answer more, seen by a part, fills one place more
+fills_part : (see : Result Interval ℤ → ℤ) (answers : List (Result Interval ℤ)) (answer : Result Interval ℤ) (old new newer : List ℤ) (done : ℕ) → Fills (map see answers) old new → done ≡ length answers → done < length old
+    → newer ≡ set new done (see answer) → Fills (map see (answers ++ answer ∷ [])) old newer
+fills_part see answers answer old new newer done h count place put =
+    subst (λ (l : List ℤ). Fills l old newer) (sym (map-append see answers (answer ∷ [])))
+    (subst (Fills (map see answers ++ see answer ∷ []) old) (sym put) (fills_set (map see answers) old new (see answer) done h (count ∙ sym (length-map answers see)) place))
+
+-- and then the next one
+pub read_push : (style : Style) (bytes offsets : List ℕ) (months_old months_new months_newer days_old days_new days_newer micros_old micros_new micros_newer codes_old codes_new codes_newer : List ℤ) (done : ℕ)
+    (answer : Result Interval ℤ)
+    → AreRead style bytes offsets months_old months_new days_old days_new micros_old micros_new codes_old codes_new done
+    → done + 1 < length offsets → done < length months_old → done < length days_old → done < length micros_old → done < length codes_old
+    → IsCellAnswer (FindsInterval style) bytes (slice_index offsets done) (slice_index offsets (done + 1)) answer
+    → months_newer ≡ set months_new done (part_of (λ t. t.months) answer)
+    → days_newer ≡ set days_new done (part_of (λ t. t.days) answer)
+    → micros_newer ≡ set micros_new done (part_of (λ t. t.microseconds) answer)
+    → codes_newer ≡ set codes_new done (answer_code answer)
+    → AreRead style bytes offsets months_old months_newer days_old days_newer micros_old micros_newer codes_old codes_newer (done + 1)
+read_push style bytes offsets months_old months_new months_newer days_old days_new days_newer micros_old micros_new micros_newer codes_old codes_new codes_newer done answer h more month day micro slot is months days micros codes =
+    let counted = length-append h.answers (answer ∷ []) in
+    let next = drop_same offsets done (length h.answers) h.count ∙ two_left offsets done 0 more in
+    record {
+      answers = h.answers ++ answer ∷ [];
+      each = between_push (IsCellAnswer (FindsInterval style) bytes) offsets h.answers answer _ _ _ h.each next is;
+      count = omega (arith, counted, h.count);
+      months = fills_part (part_of (λ t. t.months)) h.answers answer months_old months_new months_newer done h.months h.count month months;
+      days = fills_part (part_of (λ t. t.days)) h.answers answer days_old days_new days_newer done h.days h.count day days;
+      micros = fills_part (part_of (λ t. t.microseconds)) h.answers answer micros_old micros_new micros_newer done h.micros h.count micro micros;
+      codes = fills_part answer_code h.answers answer codes_old codes_new codes_newer done h.codes h.count slot codes;
+    }
+
+no_place_read : (offsets months days micros codes count places done : ℕ) → places ≡ min (min (min months days) micros) codes → count ≡ min (offsets - 1) places → count ≤ done
+    → (offsets ≤ done + 1) ⊎ ((months ≤ done) ⊎ ((days ≤ done) ⊎ ((micros ≤ done) ⊎ (codes ≤ done))))
+no_place_read offsets months days micros codes count places done least is all = grind arith
+
+-- and the loop ends where a place is wanting
+pub read_all : (style : Style) (bytes offsets : List ℕ) (months_old months_new days_old days_new micros_old micros_new codes_old codes_new : List ℤ) (count places done : ℕ)
+    → AreRead style bytes offsets months_old months_new days_old days_new micros_old micros_new codes_old codes_new done
+    → places ≡ min (min (min (length months_old) (length days_old)) (length micros_old)) (length codes_old)
+    → count ≡ min (length offsets - 1) places → count ≤ done
+    → ReadsColumn style bytes offsets months_old months_new days_old days_new micros_old micros_new codes_old codes_new done
+read_all style bytes offsets months_old months_new days_old days_new micros_old micros_new codes_old codes_new count places done h least is all = record {
+  answers = h.answers;
+  each = h.each;
+  count = h.count;
+  months = h.months;
+  days = h.days;
+  micros = h.micros;
+  codes = h.codes;
+  stops = no_place_read (length offsets) (length months_old) (length days_old) (length micros_old) (length codes_old) count places done least is all;
+}
