@@ -18,11 +18,17 @@ __all__ = ["IntervalColumn", "TextColumn", "convert_all", "convert_column", "int
 _CELLS = 16_384
 _ROOM = 1 << 19
 _DAY = 86_400_000_000
+_VALID = object()
 
 
 class TextColumn(NamedTuple):
     """Texts side by side: cell n has the bytes of `data` from `offsets[n]` up to `offsets[n + 1]`, and its code is `codes[n]`, 0 where it
-    was answered."""
+    was answered.
+
+    >>> from array import array
+    >>> convert_column("Fancy", "PgIso", b"5m", array("I", [0, 2])).data
+    b'PT5M'
+    """
 
     data: bytes
     offsets: Any
@@ -57,6 +63,7 @@ def convert_column(from_: str, to: str, data: Any, offsets: Any) -> TextColumn:
     or that of `timeforms.h`, and then its answer is empty: a text that can't be answered raises nothing, nor do offsets that fall or leave
     the data. Raises `OverflowError` beyond 2,147,483,647 bytes of answers, which 32 bits don't hold, and `TypeError` for other buffers.
 
+    >>> from array import array
     >>> convert_column("Fancy", "PgIso", b"36h5m-", array("I", [0, 3, 5, 6]))
     TextColumn(data=b'P1DT12HPT5M', offsets=array('I', [0, 7, 11, 11]), codes=array('i', [0, 0, -1]))
     """
@@ -346,8 +353,8 @@ def _intervals(number: int, cells: list[Any], form: str, errors: str) -> Interva
     )  # fmt: skip
     if said < 0:
         raise ConversionError(_library.CAUSES[said], str(form))
-    valid: list[Any] = [1] * count
+    valid: list[Any] = [_VALID] * count
     for place in packed.missing:
         months[place] = days[place] = microseconds[place] = 0
     _put_back(valid, cells, packed, codes, (form, None), errors)
-    return IntervalColumn(months, days, microseconds, array("B", [mark == 1 for mark in valid]))
+    return IntervalColumn(months, days, microseconds, array("B", [mark is _VALID for mark in valid]))
