@@ -1,5 +1,6 @@
 -- Lemmas by subject.
 pub mod Answered
+pub mod Cells
 pub mod Columns
 pub mod Intervals
 pub mod Names
