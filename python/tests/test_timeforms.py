@@ -403,7 +403,8 @@ class Columns(unittest.TestCase):
         months, days, microseconds, valid = timeforms.intervals(["P1Y2M", None, "-", "PT1H"], errors="none")
         self.assertEqual((list(months), list(days), list(microseconds), list(valid)), ([14, 0, 0, 0], [0] * 4, [0, 0, 0, 3_600_000_000], [1, 0, 0, 1]))
         self.assertRaises(ConversionError, timeforms.intervals, ["-"])
-        self.assertRaises(ConversionError, timeforms.intervals, ["1h"], "Fancy", "none")
+        for cells in (["1h"], []):
+            self.assertRaises(ConversionError, timeforms.intervals, cells, "Fancy", "none")
         for cells in ([3], [bytearray(b"P1D")], "P1D", b"P1D", None):
             self.assertRaises(TypeError, timeforms.intervals, cells)
         bad = [None, float("nan"), b"P2D", b"\xff", "P\ud800", "P1D\n", "", "\0", "P" + "0" * 1_000_000 + "3D", "P2147483648D"]
