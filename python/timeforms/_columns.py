@@ -114,8 +114,8 @@ class IntervalColumn(NamedTuple):
 
     def _parts(self) -> list[tuple[int, int, int]]:
         """The parts of the cells that have an interval."""
-        lists = [part.tolist() for part in self]
-        return [parts for *parts, valid in zip(*lists) if valid]  # type: ignore[misc]
+        cells = zip(*(part.tolist() for part in self))
+        return [(months, days, microseconds) for months, days, microseconds, valid in cells if valid]
 
 
 def intervals(texts: Iterable[Any], form: str = "PgIso", errors: str = "raise") -> IntervalColumn:
@@ -131,7 +131,8 @@ def intervals(texts: Iterable[Any], form: str = "PgIso", errors: str = "raise") 
     number = _numbers(form)[0]
     cells = _cells(texts)
     column = IntervalColumn(array("i"), array("i"), array("q"), array("B"))
-    for start in range(0, len(cells), _CELLS):
+    # a form that is none of intervals is refused of no cells too
+    for start in range(0, len(cells) or 1, _CELLS):
         for whole, part in zip(column, _intervals(number, cells[start : start + _CELLS], form, errors)):
             whole += part
     numpy = sys.modules.get("numpy")
@@ -304,7 +305,8 @@ def _bytes_of(data: Any) -> bytes:
 def _offsets_of(offsets: Any) -> array[int]:
     """Offsets of 32 bits as an array."""
     if isinstance(offsets, array) and offsets.typecode == "I":
-        return offsets
+        # a copy, which no other thread lets grow while the library reads it
+        return offsets[:]
     view = memoryview(offsets)
     if view.itemsize != 4 or view.format not in ("i", "I", "l", "L", "=i", "=I", "<i", "<I"):
         raise TypeError(f"offsets are whole numbers of 32 bits, not a buffer of the format {view.format!r}")

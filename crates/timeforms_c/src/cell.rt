@@ -7,7 +7,7 @@ ghost use Rattle.timeforms_c.specs.Columns.{FindsInterval, HasNoCell, IsCell, Is
 ghost use Rattle.timeforms_c.specs.inside.Cells.{shown};
 
 use crate::code::{BAD_OFFSETS, NOT_UTF8, code_of};
-use forms::{Cause, Form};
+use forms::{Cause, Form, push_text_reply, reply};
 use pg_interval_2::{Interval, Style, read_counted};
 use scan_core::{Looked, Short, Steps};
 use std::marker::Brand;
@@ -60,14 +60,27 @@ fn cell_text(bytes: &[u8], start: u32, end: u32) -> Option<&[u8]>
     None
 }
 
-/// The answer to a text, or a code.
+/// The answer to a text, or a code. A text that has an answer is gone through once.
 #[inline(always)]
 fn text_answer(from: Form, to: Form, text: &[u8]) -> Result<Short, i32>
     ensures answer { IsCoded (IsAnswer from to) text.now (shown result) }
     ensures len { IfOk result (λ text. array_string_len text ≤ 96) }
 {
+    let mut out = Short::new();
+    if push_text_reply(from, to, text, &mut out) {
+        return refused_answer(from, to, text);
+    }
+    Ok(out)
+}
+
+/// The same of a text that is likely refused.
+#[inline(never)]
+fn refused_answer(from: Form, to: Form, text: &[u8]) -> Result<Short, i32>
+    ensures answer { IsCoded (IsAnswer from to) text.now (shown result) }
+    ensures len { IfOk result (λ text. array_string_len text ≤ 96) }
+{
     match str::from_utf8(text) {
-        Ok(text) => coded_answer(forms::reply(from, to, text)),
+        Ok(text) => coded_answer(reply(from, to, text)),
         Err(_) => Err(NOT_UTF8),
     }
 }
