@@ -174,6 +174,24 @@ int32_t timeforms_file_time_to_unix_time(uint64_t ticks, int64_t *seconds, uint3
  * RANGE where the seconds are before 1601, or the whole ticks of the sum are past the last one, in the year 60056. */
 int32_t timeforms_file_time_from_unix_time(int64_t seconds, uint32_t nanoseconds, uint64_t *ticks);
 
+/* ---- Instants: whole seconds since 1970 in UTC, rounded down, and the nanoseconds beyond them, below 1,000,000,000 ---- */
+
+/* The instant that a text of a form stands for: 0. Else the first of these that holds: NO_SUCH_FORM, NOT_UTF8, the cause why the text
+ * stands for nothing, KIND where it stands for no instant, as a date or a time of day alone. */
+int32_t timeforms_instant_from_text(int32_t form, const char *text, size_t text_len, int64_t *seconds, uint32_t *nanoseconds);
+
+/* Puts the text of an instant in a form into the buffer: how many bytes it has, 96 at most. Else the first of these that holds:
+ * NO_SUCH_FORM, RANGE at 1,000,000,000 nanoseconds and more and for an instant farther than 10^13 seconds from 1970, the cause why the form
+ * has no text for it, NO_ROOM. */
+int32_t timeforms_instant_to_text(int32_t form, int64_t seconds, uint32_t nanoseconds, char *out, size_t out_len);
+
+/* The instant of a recurrence that lies so many steps behind its start: 0. All months of the steps at once lead to a month, in which the day
+ * of the month is held, so that a step of a month leads from January 31st to February 29th and to March 31st; then the days, of 24 hours,
+ * and the microseconds are added. RANGE at 1,000,000,000 nanoseconds and more, and exactly where the start's own day, the year to which
+ * the months lead, or the day at the end isn't of the years -9999 to 9999. */
+int32_t timeforms_recurrence_at(int64_t seconds, uint32_t nanoseconds, timeforms_interval step, uint32_t steps, int64_t *at_seconds,
+                                uint32_t *at_nanoseconds);
+
 /* ---- Short durations, the form `Fancy` ---- */
 
 /* The length that a text denotes, in whole seconds and the nanoseconds beyond them, below 1,000,000,000: 0. NOT_UTF8, SYNTAX, and

@@ -445,6 +445,46 @@ class Columns(unittest.TestCase):
         self.assertEqual((Interval(1) * numpy.int64(3), numpy.int64(3) * Interval(1)), (Interval(3), Interval(3)))
 
 
+class Recurrences(unittest.TestCase):
+    def test_instants(self):
+        utc = datetime.timezone.utc
+        days = [datetime.datetime(2024, 1, 31, tzinfo=utc), datetime.datetime(2024, 2, 29, tzinfo=utc), datetime.datetime(2024, 3, 31, tzinfo=utc)]
+        self.assertEqual(list(timeforms.recur("R2/2024-01-31T00:00:00Z/P1M")), days)
+        self.assertEqual(list(timeforms.recur("R000/2024-01-31T00:00:00Z/P1M")), days[:1])
+        half = list(timeforms.recur("R1/2024-01-31T02:30:00.5+02:30/PT0.000001S"))
+        self.assertEqual(half, [datetime.datetime(2024, 1, 31, 0, 0, 0, part, utc) for part in (500_000, 500_001)])
+        # the years of `datetime` begin with 1
+        eve = list(timeforms.recur("R1/0000-12-31T23:59:59Z/PT1S"))
+        self.assertEqual(eve, ["0000-12-31T23:59:59.000+00:00", datetime.datetime(1, 1, 1, tzinfo=utc)])
+        late = timeforms.recur("R9/9999-12-31T00:00:00Z/P1D")
+        self.assertEqual(next(late), datetime.datetime(9999, 12, 31, tzinfo=utc))
+        with self.assertRaises(ConversionError) as refused:
+            next(late)
+        self.assertEqual(refused.exception.cause, "Range")
+
+    def test_what_is_refused(self):
+        for text, cause in [
+            ("", "Syntax"),
+            ("R/2024-01-31T00:00:00Z/P1M", "Syntax"),
+            ("R-1/2024-01-31T00:00:00Z/P1M", "Syntax"),
+            ("R1/2024-01-31T00:00:00Z", "Syntax"),
+            ("R1/2024-02-30T00:00:00Z/P1M", "NoSuchMoment"),
+            ("R1/2024-01-31T00:00:00Z/", "Syntax"),
+            ("R1/2024-01-31T00:00:00Z/P2147483648D", "Range"),
+            ("R1/\ud800/P1M", "NotUtf8"),
+            ("R1/2024-01-31T00:00:00Z/\ud800", "NotUtf8"),
+            ("R1/2024-01-31T00:00:00Z/P1M\n", "Syntax"),
+        ]:
+            with self.assertRaises(ConversionError) as refused:
+                timeforms.recur(text)
+            self.assertEqual(refused.exception.cause, cause, text)
+        for text in (None, b"R1/2024-01-31T00:00:00Z/P1M", 3, float("nan")):
+            self.assertRaises(TypeError, timeforms.recur, text)
+        for digits in ("4294967296", "9" * 1_000_000):
+            self.assertRaises(OverflowError, timeforms.recur, f"R{digits}/2024-01-31T00:00:00Z/P1M")
+        self.assertEqual(next(timeforms.recur("R4294967295/2024-01-31T00:00:00Z/P1M")).day, 31)
+
+
 class Moments(unittest.TestCase):
     def test_moments(self):
         utc = datetime.timezone.utc

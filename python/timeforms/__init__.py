@@ -27,6 +27,7 @@ from ._moments import (
     file_time_to_unix_time,
     parse_datetime,
 )
+from ._recurrence import recur
 from ._texts import convert, replies
 
 __all__ = [
@@ -47,6 +48,7 @@ __all__ = [
     "file_time_to_unix_time",
     "intervals",
     "parse_datetime",
+    "recur",
     "replies",
     "to_timedelta64",
     "total",

@@ -372,6 +372,45 @@ static void test_file_times(void) {
     CHECK(timeforms_file_time_from_unix_time(0, 1000000000, &ticks) == 0 && ticks == 116444736010000000u);
 }
 
+static void test_instants(void) {
+    int64_t seconds = 7, at = 7;
+    uint32_t nanos = 7, beyond = 7;
+    char out[TIMEFORMS_TEXT_MAX];
+    CHECK(timeforms_instant_from_text(TIMEFORMS_ISO_DATE_TIME, "2015-06-26", 10, &seconds, &nanos) == TIMEFORMS_SYNTAX);
+    CHECK(timeforms_instant_from_text(TIMEFORMS_TOML, "2015-06-26", 10, &seconds, &nanos) == TIMEFORMS_KIND);
+    CHECK(timeforms_instant_from_text(TIMEFORMS_TOML, "2015-09-31T00:00:00Z", 20, &seconds, &nanos) == TIMEFORMS_NO_SUCH_MOMENT);
+    CHECK(timeforms_instant_from_text(TIMEFORMS_TOML, "\xff", 1, &seconds, &nanos) == TIMEFORMS_NOT_UTF8);
+    CHECK(timeforms_instant_from_text(11, "\xff", 1, &seconds, &nanos) == TIMEFORMS_NO_SUCH_FORM && seconds == 7 && nanos == 7);
+    CHECK(timeforms_instant_from_text(TIMEFORMS_FILE_TIME, "116444735999999999", 18, &seconds, &nanos) == 0);
+    CHECK(seconds == -1 && nanos == 999999900);
+    CHECK(timeforms_instant_from_text(TIMEFORMS_TOML, "2024-01-31T12:00:00Z", 20, &seconds, &nanos) == 0);
+    CHECK(seconds == 1706702400 && nanos == 0);
+    CHECK(timeforms_instant_to_text(TIMEFORMS_FILE_TIME, -1, 999999900, out, 18) == 18 && !memcmp(out, "116444735999999999", 18));
+    CHECK(timeforms_instant_to_text(TIMEFORMS_FILE_TIME, -1, 999999900, out, 17) == TIMEFORMS_NO_ROOM);
+    CHECK(timeforms_instant_to_text(TIMEFORMS_FILE_TIME, 0, 1, out, 96) == TIMEFORMS_PRECISION);
+    CHECK(timeforms_instant_to_text(TIMEFORMS_FILE_TIME, 0, 1000000000, out, 96) == TIMEFORMS_RANGE);
+    CHECK(timeforms_instant_to_text(TIMEFORMS_TOML, INT64_MAX, 0, out, 96) == TIMEFORMS_RANGE);
+    CHECK(timeforms_instant_to_text(TIMEFORMS_TOML, INT64_MIN, 0, out, 96) == TIMEFORMS_RANGE);
+    CHECK(timeforms_instant_to_text(TIMEFORMS_PG_ISO, 0, 0, out, 96) == TIMEFORMS_KIND);
+    CHECK(timeforms_instant_to_text(-1, 0, 0, out, 96) == TIMEFORMS_NO_SUCH_FORM);
+    /* from January 31st, by months: February 29th, March 31st, and February 28th of the next year */
+    timeforms_interval month = {1, 0, 0}, least = {INT32_MIN, INT32_MIN, INT64_MIN}, day = {0, 1, 1};
+    CHECK(timeforms_recurrence_at(seconds, 5, month, 0, &at, &beyond) == 0 && at == seconds && beyond == 5);
+    CHECK(timeforms_recurrence_at(seconds, 0, month, 1, &at, &beyond) == 0 && at == 1709208000 && beyond == 0);
+    CHECK(timeforms_recurrence_at(seconds, 0, month, 2, &at, &beyond) == 0 && at == 1711886400 && beyond == 0);
+    CHECK(timeforms_recurrence_at(seconds, 0, month, 13, &at, &beyond) == 0 && at == 1740744000 && beyond == 0);
+    CHECK(timeforms_recurrence_at(-1, 999999999, day, 2, &at, &beyond) == 0 && at == 172800 && beyond == 1999);
+    at = 7, beyond = 8;
+    CHECK(timeforms_recurrence_at(seconds, 1000000000, month, 0, &at, &beyond) == TIMEFORMS_RANGE);
+    CHECK(timeforms_recurrence_at(seconds, 0, least, UINT32_MAX, &at, &beyond) == TIMEFORMS_RANGE);
+    CHECK(timeforms_recurrence_at(INT64_MIN, 0, month, 0, &at, &beyond) == TIMEFORMS_RANGE && at == 7 && beyond == 8);
+    /* the last second of 9999, and the first of -9999 */
+    CHECK(timeforms_recurrence_at(253402300799, 0, month, 0, &at, &beyond) == 0 && at == 253402300799);
+    CHECK(timeforms_recurrence_at(253402300799, 0, month, 1, &at, &beyond) == TIMEFORMS_RANGE);
+    CHECK(timeforms_recurrence_at(-377705116800, 0, month, 0, &at, &beyond) == 0 && at == -377705116800 && beyond == 0);
+    CHECK(timeforms_recurrence_at(-377705116801, 999999999, month, 1, &at, &beyond) == TIMEFORMS_RANGE);
+}
+
 static void test_durations(void) {
     uint64_t seconds = 7;
     uint32_t nanos = 7;
@@ -464,6 +503,7 @@ int main(int argc, char **argv) {
     test_rooms_of_columns();
     test_arithmetic();
     test_file_times();
+    test_instants();
     test_durations();
     test_version();
     for (int table = 1; table < argc; table++) test_table(argv[table]);

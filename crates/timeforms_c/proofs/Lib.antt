@@ -1,6 +1,7 @@
 -- Lemmas by subject.
 pub mod Answered
 pub mod Cells
+pub mod CivilInstants
 pub mod Columns
 pub mod Intervals
 pub mod Names

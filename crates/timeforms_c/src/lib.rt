@@ -13,6 +13,7 @@ pub mod column;
 pub mod duration;
 pub mod file_time;
 pub mod form;
+pub mod instants;
 pub mod interval;
 pub mod interval_cells;
 pub mod reply;
