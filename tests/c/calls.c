@@ -378,7 +378,7 @@ static void test_instants(void) {
     char out[TIMEFORMS_TEXT_MAX];
     CHECK(timeforms_instant_from_text(TIMEFORMS_ISO_DATE_TIME, "2015-06-26", 10, &seconds, &nanos) == TIMEFORMS_SYNTAX);
     CHECK(timeforms_instant_from_text(TIMEFORMS_TOML, "2015-06-26", 10, &seconds, &nanos) == TIMEFORMS_KIND);
-    CHECK(timeforms_instant_from_text(TIMEFORMS_TOML, "2015-09-31T00:00:00Z", 20, &seconds, &nanos) == TIMEFORMS_NO_SUCH_MOMENT);
+    CHECK(timeforms_instant_from_text(TIMEFORMS_ISO_DATE_TIME, "2015-09-31T00:00:00Z", 20, &seconds, &nanos) == TIMEFORMS_NO_SUCH_MOMENT);
     CHECK(timeforms_instant_from_text(TIMEFORMS_TOML, "\xff", 1, &seconds, &nanos) == TIMEFORMS_NOT_UTF8);
     CHECK(timeforms_instant_from_text(11, "\xff", 1, &seconds, &nanos) == TIMEFORMS_NO_SUCH_FORM && seconds == 7 && nanos == 7);
     CHECK(timeforms_instant_from_text(TIMEFORMS_FILE_TIME, "116444735999999999", 18, &seconds, &nanos) == 0);

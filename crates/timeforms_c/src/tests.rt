@@ -11,6 +11,9 @@ use crate::file_time::{
     timeforms_file_time_to_nanoseconds, timeforms_file_time_to_unix_time,
 };
 use crate::form::{timeforms_form_by_name, timeforms_form_name};
+use crate::instants::{
+    timeforms_instant_from_text, timeforms_instant_to_text, timeforms_recurrence_at,
+};
 use crate::interval::{
     TimeformsInterval, timeforms_interval_from_text, timeforms_interval_to_text,
 };
@@ -450,6 +453,75 @@ fn file_times_and_nanoseconds(rt: HostRuntime) -> Result<(), Fail> {
         let mut found = 7;
         assert_eq!(rt; timeforms_file_time_from_nanoseconds(nanos, &mut found), 0);
         assert_eq!(rt; found, ticks);
+    }
+    Ok(())
+}
+
+#[test]
+fn instants_of_texts(rt: HostRuntime) -> Result<(), Fail> {
+    for (form, text, answer, whole, beyond) in [
+        (0, "116444735999999999", 0, -1, 999_999_900),
+        (1, "2024-01-31T12:00:00Z", 0, 1_706_702_400, 0),
+        (4, "2015-06-26", -4, 7, 7),
+        (6, "P1D", -4, 7, 7),
+        (1, "2015-09-31T00:00:00Z", -2, 7, 7),
+        (1, "", -1, 7, 7),
+        (11, "", -101, 7, 7),
+    ] {
+        let (mut seconds, mut nanoseconds) = (7, 7);
+        let found = timeforms_instant_from_text(
+            form,
+            text.as_bytes(),
+            &mut seconds,
+            &mut nanoseconds,
+        );
+        assert_eq!(rt;
+            (found, seconds, nanoseconds),
+            (answer, whole, beyond),
+            "at {text}"
+        );
+    }
+    Ok(())
+}
+
+#[test]
+fn texts_of_instants(rt: HostRuntime) -> Result<(), Fail> {
+    for (form, seconds, nanoseconds, answer, left) in [
+        (0, -1, 999_999_900, 18, "116444735999999999"),
+        (0, 0, 1, -5, ""),
+        (0, 0, 1_000_000_000, -3, ""),
+        (1, i64::MAX, 0, -3, ""),
+        (6, 0, 0, -4, ""),
+        (11, 0, 0, -101, ""),
+    ] {
+        let mut room = [b'#'; 32];
+        let found = timeforms_instant_to_text(form, seconds, nanoseconds, &mut room);
+        assert_eq!(rt; found, answer);
+        assert!(rt; is_left(left, &room), "at {left}");
+    }
+    Ok(())
+}
+
+#[test]
+fn instants_of_a_recurrence(rt: HostRuntime) -> Result<(), Fail> {
+    // from 2024-01-31: February 29th, March 31st, and February 28th of the next year
+    for (steps, answer, whole) in [
+        (0, 0, 1_706_702_400),
+        (1, 0, 1_709_208_000),
+        (2, 0, 1_711_886_400),
+        (13, 0, 1_740_744_000),
+        (u32::MAX, -3, 7),
+    ] {
+        let (mut seconds, mut nanoseconds) = (7, 7);
+        let found = timeforms_recurrence_at(
+            1_706_702_400,
+            0,
+            interval(1, 0, 0),
+            steps,
+            &mut seconds,
+            &mut nanoseconds,
+        );
+        assert_eq!(rt; (found, seconds), (answer, whole));
     }
     Ok(())
 }
