@@ -59,7 +59,8 @@ enum timeforms_code {
     TIMEFORMS_AMBIGUOUS = -6,      /* the written text would be read as another value */
     TIMEFORMS_NO_SUCH_FORM = -101, /* a number or a name that is no form's, or no interval form's where one is asked for */
     TIMEFORMS_NOT_UTF8 = -102,     /* the text isn't UTF-8 */
-    TIMEFORMS_NO_ROOM = -103       /* the answer is longer than the buffer */
+    TIMEFORMS_NO_ROOM = -103,      /* the answer is longer than the buffer */
+    TIMEFORMS_BAD_OFFSETS = -104   /* the offsets of a cell fall, or leave the bytes of the column */
 };
 
 /* An interval as PostgreSQL keeps it: a month is no number of days, and a day no number of hours. */
@@ -127,6 +128,37 @@ int32_t timeforms_interval_compare(timeforms_interval a, timeforms_interval b);
  * exactly where a part leaves its type. */
 int32_t timeforms_interval_from_seconds(int64_t seconds, uint32_t nanoseconds, timeforms_interval *interval);
 
+/* ---- Columns ---- */
+
+/* A column is texts side by side in `data`, and offsets of 32 bits, one more than there are cells: cell n has the bytes from `offsets[n]`
+ * up to `offsets[n + 1]`. That is the layout of strings in Apache Arrow and pandas, whose offsets have these very bits. No byte stands
+ * between two cells, so a cell may hold any, a line feed too, and no cell can shift another one. A missing cell is none that these calls
+ * know of: they take it for the text that its offsets name.
+ *
+ * Each array crosses as a pointer and how many elements it has. A call goes over the cells from the first on, as far as each array has
+ * places: `*done` is how many cells it answered, and behind their places all is as it was. For the rest call it again with
+ * `offsets + *done`. The code of a cell is 0 or says why it has no answer. Offsets that fall or that lie behind the end of `data` cost the
+ * cells that they bound their answer, by BAD_OFFSETS; no byte beyond `data` is read, and other cells are answered as ever. */
+
+/* Answers the cells of a column by what `timeforms_reply` puts for their texts, as a column of the same layout: the answers side by side
+ * in `out`, and where they start and end, from 0 on, in `out_offsets`, which has one place more than there are cells. A cell whose code
+ * isn't 0 has an empty answer. Its code is the first of these that holds: BAD_OFFSETS, NOT_UTF8, the six causes.
+ *
+ * A call stops in front of the first answer that is longer than what is left of `out`, of which it fills 2,147,483,647 bytes at most, so
+ * that the offsets fit signed numbers too. 96 bytes a cell always suffice, and with 96 or more a call answers one cell at least, where
+ * there is one and the arrays have a place for it: 0. Else the first of these that holds, and all is as it was: NO_SUCH_FORM, NO_ROOM
+ * where `out_offsets` has no place at all. */
+int32_t timeforms_convert_column(int32_t from, int32_t to, const char *data, size_t data_len, const uint32_t *offsets, size_t offsets_len,
+                                 char *out, size_t out_len, uint32_t *out_offsets, size_t out_offsets_len, int32_t *codes,
+                                 size_t codes_len, size_t *done);
+
+/* Reads the cells of a column as intervals in an interval form: their months, days and microseconds, each into an array of its own. A cell
+ * whose code isn't 0 has three zeros. Its code is the first of these that holds: BAD_OFFSETS, NOT_UTF8, SYNTAX, RANGE. Answers 0, or
+ * NO_SUCH_FORM, and then all is as it was. */
+int32_t timeforms_intervals_from_column(int32_t form, const char *data, size_t data_len, const uint32_t *offsets, size_t offsets_len,
+                                        int32_t *months, size_t months_len, int32_t *days, size_t days_len, int64_t *microseconds,
+                                        size_t microseconds_len, int32_t *codes, size_t codes_len, size_t *done);
+
 /* ---- File times: ticks of 100 nanoseconds since 1601-01-01 00:00:00 UTC ---- */
 
 /* The nanoseconds since 1970 of so many ticks: 0. RANGE where 64 bits don't hold them, before 1677-09-21 and after 2262-04-11. */
@@ -141,6 +173,24 @@ int32_t timeforms_file_time_to_unix_time(uint64_t ticks, int64_t *seconds, uint3
 /* The latest tick that is not after so many seconds and nanoseconds since 1970, where the nanoseconds may be a second and more: 0.
  * RANGE where the seconds are before 1601, or the whole ticks of the sum are past the last one, in the year 60056. */
 int32_t timeforms_file_time_from_unix_time(int64_t seconds, uint32_t nanoseconds, uint64_t *ticks);
+
+/* ---- Instants: whole seconds since 1970 in UTC, rounded down, and the nanoseconds beyond them, below 1,000,000,000 ---- */
+
+/* The instant that a text of a form stands for: 0. Else the first of these that holds: NO_SUCH_FORM, NOT_UTF8, the cause why the text
+ * stands for nothing, KIND where it stands for no instant, as a date or a time of day alone. */
+int32_t timeforms_instant_from_text(int32_t form, const char *text, size_t text_len, int64_t *seconds, uint32_t *nanoseconds);
+
+/* Puts the text of an instant in a form into the buffer: how many bytes it has, 96 at most. Else the first of these that holds:
+ * NO_SUCH_FORM, RANGE at 1,000,000,000 nanoseconds and more and for an instant farther than 10^13 seconds from 1970, the cause why the form
+ * has no text for it, NO_ROOM. */
+int32_t timeforms_instant_to_text(int32_t form, int64_t seconds, uint32_t nanoseconds, char *out, size_t out_len);
+
+/* The instant of a recurrence that lies so many steps behind its start: 0. All months of the steps at once lead to a month, in which the day
+ * of the month is held, so that a step of a month leads from January 31st to February 29th and to March 31st; then the days, of 24 hours,
+ * and the microseconds are added. RANGE at 1,000,000,000 nanoseconds and more, and exactly where the start's own day, the year to which
+ * the months lead, or the day at the end isn't of the years -9999 to 9999. */
+int32_t timeforms_recurrence_at(int64_t seconds, uint32_t nanoseconds, timeforms_interval step, uint32_t steps, int64_t *at_seconds,
+                                uint32_t *at_nanoseconds);
 
 /* ---- Short durations, the form `Fancy` ---- */
 

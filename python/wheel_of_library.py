@@ -16,7 +16,7 @@ import zipfile
 
 TOP = os.path.dirname(os.path.abspath(__file__))
 LIBRARY = "timeforms/libtimeforms.so"
-PACKAGE = ["__init__.py", "_columns.py", "_errors.py", "_forms.py", "_interval.py", "_library.py", "_moments.py", "_texts.py", "py.typed"]
+PACKAGE = ["__init__.py", "_columns.py", "_errors.py", "_forms.py", "_interval.py", "_library.py", "_moments.py", "_recurrence.py", "_texts.py", "py.typed"]
 FILES = [f"timeforms/{name}" for name in PACKAGE] + [LIBRARY]
 
 

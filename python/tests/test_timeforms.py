@@ -342,6 +342,45 @@ class Columns(unittest.TestCase):
         self.assertRaises(ConversionError, timeforms.convert_all, "pgiso", "PgIso", [])
         self.assertRaises(ValueError, timeforms.convert_all, "PgIso", "PgIso", [], "ignore")
 
+    def test_buffers(self):
+        data, offsets = b"P1Y1YP1D\n\xc3P3W", array.array("I", [0, 5, 5, 9, 10, 13])
+        wanted = (b"2 years21 days", [0, 7, 7, 7, 7, 14], [0, -1, -1, -102, 0])
+        for given in (data, bytearray(data), memoryview(data)):
+            for places in (offsets, array.array("i", offsets), memoryview(offsets.tobytes()).cast("I")):
+                column = timeforms.convert_column("PgIso", "Postgres", given, places)
+                self.assertEqual((column.data, list(column.offsets), list(column.codes)), wanted)
+        # offsets that fall, leave the data or are negative, and good ones between them
+        column = timeforms.convert_column("PgIso", "PgIso", b"P1DP2", array.array("i", [3, 0, 3, 6, 0, 3, -1, 4, 5, 2**31 - 1, -(2**31)]))
+        self.assertEqual((column.data, list(column.codes)), (b"P1DP1D", [-104, 0, -104, -104, 0, -104, -104, -1, -104, -104]))
+        for places in (array.array("I"), array.array("I", [0]), array.array("I", [7])):
+            self.assertEqual(timeforms.convert_column("PgIso", "PgIso", b"", places), (b"", array.array("I", [0]), array.array("i")))
+        for places in (array.array("Q", [0, 3]), array.array("f", [0, 3]), b"\0\0\0\0", [0, 3], None):
+            self.assertRaises(TypeError, timeforms.convert_column, "PgIso", "PgIso", b"P1D", places)
+        for given in ("P1D", None, 3):
+            self.assertRaises(TypeError, timeforms.convert_column, "PgIso", "PgIso", given, offsets)
+        self.assertRaises(ConversionError, timeforms.convert_column, "PgIso", "pgiso", data, offsets)
+        # more answers than one call has room for: 30,000 of 52 bytes
+        text = b"P-178956970Y-8M-2147483648DT-2562047788H-54.775808S"
+        count = 30_000
+        column = timeforms.convert_column("PgIso", "PgIso", text * count, array.array("I", range(0, len(text) * (count + 1), len(text))))
+        self.assertEqual((column.data, list(column.offsets)), (text * count, list(range(0, len(text) * (count + 1), len(text)))))
+
+    def test_ends_and_sums(self):
+        column = timeforms.intervals(["P1M", None, "P30D", "PT1H", "-", "P1M"], errors="none")
+        order = [Interval(microseconds=3_600_000_000), Interval(days=30), Interval(1), Interval(1)]
+        self.assertEqual((column.sorted(), column.min(), column.max()), (order, order[0], order[-1]))
+        self.assertEqual((column.sum(), column.intervals()), (total(order), [Interval(1), Interval(days=30), order[0], Interval(1)]))
+        none = timeforms.intervals([None])
+        self.assertEqual((none.sorted(), none.sum()), ([], Interval()))
+        self.assertRaises(ValueError, none.min)
+        self.assertRaises(ValueError, none.max)
+        self.assertRaises(OverflowError, timeforms.intervals(["P2147483647D", "P1D"]).sum)
+        chance = random.Random(37)
+        some = [Interval(chance.randint(-3, 3), chance.randint(-90, 90), chance.randint(-3, 3) * 86_400_000_000) for _ in range(3000)]
+        column = timeforms.intervals([str(interval) for interval in some])
+        # the order of the library, which `Interval` asks for each pair
+        self.assertEqual((column.sorted(), column.min(), column.max(), column.sum()), (sorted(some), min(some), max(some), total(some)))
+
     def test_threads(self):
         def answers(number):
             cells = [f"{number}h", None, b"1m", "?"] * 5000
@@ -353,6 +392,8 @@ class Columns(unittest.TestCase):
                 self.assertEqual((whole, order), (Interval(5000 * number), [Interval(), Interval(number)]))
 
     def test_many_cells(self):
+        long = [f"P-178956970Y-8M-{number}DT-2562047788H-54.775808S" for number in range(1, 20_001)]
+        self.assertEqual(timeforms.convert_all("PgIso", "PgIso", long), long)
         cells = [f"P{number}D" for number in range(1, 100_001)]
         self.assertEqual(timeforms.convert_all("PgIso", "PgIso", cells), cells)
         cells[50_000] = None
@@ -362,7 +403,8 @@ class Columns(unittest.TestCase):
         months, days, microseconds, valid = timeforms.intervals(["P1Y2M", None, "-", "PT1H"], errors="none")
         self.assertEqual((list(months), list(days), list(microseconds), list(valid)), ([14, 0, 0, 0], [0] * 4, [0, 0, 0, 3_600_000_000], [1, 0, 0, 1]))
         self.assertRaises(ConversionError, timeforms.intervals, ["-"])
-        self.assertRaises(ConversionError, timeforms.intervals, ["1h"], "Fancy", "none")
+        for cells in (["1h"], []):
+            self.assertRaises(ConversionError, timeforms.intervals, cells, "Fancy", "none")
         for cells in ([3], [bytearray(b"P1D")], "P1D", b"P1D", None):
             self.assertRaises(TypeError, timeforms.intervals, cells)
         bad = [None, float("nan"), b"P2D", b"\xff", "P\ud800", "P1D\n", "", "\0", "P" + "0" * 1_000_000 + "3D", "P2147483648D"]
@@ -401,6 +443,46 @@ class Columns(unittest.TestCase):
         with self.assertRaises(OverflowError):
             timeforms.to_timedelta64(["P2147483647DT1H"])
         self.assertEqual((Interval(1) * numpy.int64(3), numpy.int64(3) * Interval(1)), (Interval(3), Interval(3)))
+
+
+class Recurrences(unittest.TestCase):
+    def test_instants(self):
+        utc = datetime.timezone.utc
+        days = [datetime.datetime(2024, 1, 31, tzinfo=utc), datetime.datetime(2024, 2, 29, tzinfo=utc), datetime.datetime(2024, 3, 31, tzinfo=utc)]
+        self.assertEqual(list(timeforms.recur("R2/2024-01-31T00:00:00Z/P1M")), days)
+        self.assertEqual(list(timeforms.recur("R000/2024-01-31T00:00:00Z/P1M")), days[:1])
+        half = list(timeforms.recur("R1/2024-01-31T02:30:00.5+02:30/PT0.000001S"))
+        self.assertEqual(half, [datetime.datetime(2024, 1, 31, 0, 0, 0, part, utc) for part in (500_000, 500_001)])
+        # the years of `datetime` begin with 1
+        eve = list(timeforms.recur("R1/0000-12-31T23:59:59Z/PT1S"))
+        self.assertEqual(eve, ["0000-12-31T23:59:59.000+00:00", datetime.datetime(1, 1, 1, tzinfo=utc)])
+        late = timeforms.recur("R9/9999-12-31T00:00:00Z/P1D")
+        self.assertEqual(next(late), datetime.datetime(9999, 12, 31, tzinfo=utc))
+        with self.assertRaises(ConversionError) as refused:
+            next(late)
+        self.assertEqual(refused.exception.cause, "Range")
+
+    def test_what_is_refused(self):
+        for text, cause in [
+            ("", "Syntax"),
+            ("R/2024-01-31T00:00:00Z/P1M", "Syntax"),
+            ("R-1/2024-01-31T00:00:00Z/P1M", "Syntax"),
+            ("R1/2024-01-31T00:00:00Z", "Syntax"),
+            ("R1/2024-02-30T00:00:00Z/P1M", "NoSuchMoment"),
+            ("R1/2024-01-31T00:00:00Z/", "Syntax"),
+            ("R1/2024-01-31T00:00:00Z/P2147483648D", "Range"),
+            ("R1/\ud800/P1M", "NotUtf8"),
+            ("R1/2024-01-31T00:00:00Z/\ud800", "NotUtf8"),
+            ("R1/2024-01-31T00:00:00Z/P1M\n", "Syntax"),
+        ]:
+            with self.assertRaises(ConversionError) as refused:
+                timeforms.recur(text)
+            self.assertEqual(refused.exception.cause, cause, text)
+        for text in (None, b"R1/2024-01-31T00:00:00Z/P1M", 3, float("nan")):
+            self.assertRaises(TypeError, timeforms.recur, text)
+        for digits in ("4294967296", "9" * 1_000_000):
+            self.assertRaises(OverflowError, timeforms.recur, f"R{digits}/2024-01-31T00:00:00Z/P1M")
+        self.assertEqual(next(timeforms.recur("R4294967295/2024-01-31T00:00:00Z/P1M")).day, 31)
 
 
 class Moments(unittest.TestCase):

@@ -14,7 +14,7 @@ The calls are those of the proved library `libtimeforms.so`, which lies beside t
 from __future__ import annotations
 
 from . import _library
-from ._columns import IntervalColumn, convert_all, intervals, to_timedelta64
+from ._columns import IntervalColumn, TextColumn, convert_all, convert_column, intervals, to_timedelta64
 from ._errors import ConversionError
 from ._forms import FORMS, Form
 from ._interval import Interval, total
@@ -27,6 +27,7 @@ from ._moments import (
     file_time_to_unix_time,
     parse_datetime,
 )
+from ._recurrence import recur
 from ._texts import convert, replies
 
 __all__ = [
@@ -35,8 +36,10 @@ __all__ = [
     "Form",
     "Interval",
     "IntervalColumn",
+    "TextColumn",
     "convert",
     "convert_all",
+    "convert_column",
     "duration_from_text",
     "duration_to_text",
     "file_time_from_nanoseconds",
@@ -45,6 +48,7 @@ __all__ = [
     "file_time_to_unix_time",
     "intervals",
     "parse_datetime",
+    "recur",
     "replies",
     "to_timedelta64",
     "total",
@@ -65,5 +69,5 @@ def version() -> str:
 
 __version__ = version()
 
-for _public in (ConversionError, Form, Interval, IntervalColumn):
+for _public in (ConversionError, Form, Interval, IntervalColumn, TextColumn):
     _public.__module__ = __name__

@@ -1,21 +1,38 @@
 """Columns of texts at once."""
 from __future__ import annotations
 
+import ctypes
 import sys
 from array import array
+from itertools import accumulate, islice
 from typing import Any, Iterable, NamedTuple
 
 from . import _library
 from ._errors import ConversionError
 from ._forms import NUMBERS, no_such_form
 from ._interval import Interval
-from ._texts import convert, whole_lines
 
-__all__ = ["IntervalColumn", "convert_all", "intervals", "to_timedelta64"]
+__all__ = ["IntervalColumn", "TextColumn", "convert_all", "convert_column", "intervals", "to_timedelta64"]
 
 # So many cells are answered at once, so that their texts stay near the processor.
 _CELLS = 16_384
-_REFUSED = "refused "
+_ROOM = 1 << 19
+_DAY = 86_400_000_000
+_VALID = object()
+
+
+class TextColumn(NamedTuple):
+    """Texts side by side: cell n has the bytes of `data` from `offsets[n]` up to `offsets[n + 1]`, and its code is `codes[n]`, 0 where it
+    was answered.
+
+    >>> from array import array
+    >>> convert_column("Fancy", "PgIso", b"5m", array("I", [0, 2])).data
+    b'PT5M'
+    """
+
+    data: bytes
+    offsets: Any
+    codes: Any
 
 
 def convert_all(from_: str, to: str, texts: Iterable[Any], errors: str = "raise") -> Any:
@@ -30,28 +47,75 @@ def convert_all(from_: str, to: str, texts: Iterable[Any], errors: str = "raise"
     >>> convert_all("Fancy", "Postgres", ["36h", None, "1 day", "5m"], errors="none")
     ['1 day 12:00:00', None, None, '00:05:00']
     """
-    if errors not in ("raise", "cause", "none"):
-        raise ValueError(f"errors is 'raise', 'cause' or 'none', not {errors!r}")
-    if not (isinstance(from_, str) and isinstance(to, str) and from_ in NUMBERS and to in NUMBERS):
-        raise no_such_form(from_, to)
+    _known_errors(errors, ("raise", "cause", "none"))
+    number, other = _numbers(from_, to)
     cells = _cells(texts)
     answers: list[Any] = []
     for start in range(0, len(cells), _CELLS):
-        answers += _answers(from_, to, cells[start : start + _CELLS], errors)
+        answers += _answers(number, other, cells[start : start + _CELLS], (from_, to), errors)
     return _like(texts, answers)
+
+
+def convert_column(from_: str, to: str, data: Any, offsets: Any) -> TextColumn:
+    """What each text of a column is in the form `to`, where the texts stand side by side in one buffer: the layout of Arrow's strings.
+
+    `data` is any bytes-like object, and `offsets` any buffer of whole numbers of 32 bits, one more than there are cells. A cell's code is 0,
+    or that of `timeforms.h`, and then its answer is empty: a text that can't be answered raises nothing, nor do offsets that fall or leave
+    the data. Raises `OverflowError` beyond 2,147,483,647 bytes of answers, which 32 bits don't hold, and `TypeError` for other buffers.
+
+    >>> from array import array
+    >>> convert_column("Fancy", "PgIso", b"36h5m-", array("I", [0, 3, 5, 6]))
+    TextColumn(data=b'P1DT12HPT5M', offsets=array('I', [0, 7, 11, 11]), codes=array('i', [0, 0, -1]))
+    """
+    number, other = _numbers(from_, to)
+    given, places = _bytes_of(data), _offsets_of(offsets)
+    return _converted(number, other, given, places)
 
 
 class IntervalColumn(NamedTuple):
     """Intervals as three arrays beside each other. `valid` is 1 where a cell has an interval, and else 0, as its three parts are.
 
-    >>> intervals(["P1Y2M", None]).months
-    array('i', [14, 0])
+    >>> column = intervals(["P1M", None, "P30D", "PT1H"])
+    >>> column.months, column.valid
+    (array('i', [1, 0, 0, 0]), array('B', [1, 0, 1, 1]))
+    >>> column.min(), column.max(), column.sum()
+    (Interval(microseconds=3600000000), Interval(months=1), Interval(months=1, days=30, microseconds=3600000000))
     """
 
     months: Any
     days: Any
     microseconds: Any
     valid: Any
+
+    def intervals(self) -> list[Interval]:
+        """The intervals of the cells that have one, in their order."""
+        return [Interval(*parts) for parts in self._parts()]
+
+    def sorted(self) -> list[Interval]:
+        """The intervals of the cells that have one, from the least to the greatest, as `Interval` orders them.
+
+        >>> [str(interval) for interval in intervals(["P1M", "P30D", None, "PT1H"]).sorted()]
+        ['PT1H', 'P30D', 'P1M']
+        """
+        return [Interval(*parts) for parts in sorted(self._parts(), key=_rank)]
+
+    def min(self) -> Interval:
+        """The least interval. Raises `ValueError` where no cell has one."""
+        return Interval(*min(self._parts(), key=_rank))
+
+    def max(self) -> Interval:
+        """The greatest interval. Raises `ValueError` where no cell has one."""
+        return Interval(*max(self._parts(), key=_rank))
+
+    def sum(self) -> Interval:
+        """The sum of all intervals, part by part. Raises `OverflowError` where a part of it leaves its bits."""
+        months, days, microseconds = (sum(map(int, part)) for part in self[:3])
+        return Interval(months, days, microseconds)
+
+    def _parts(self) -> list[tuple[int, int, int]]:
+        """The parts of the cells that have an interval."""
+        cells = zip(*(part.tolist() for part in self))
+        return [(months, days, microseconds) for months, days, microseconds, valid in cells if valid]
 
 
 def intervals(texts: Iterable[Any], form: str = "PgIso", errors: str = "raise") -> IntervalColumn:
@@ -63,17 +127,14 @@ def intervals(texts: Iterable[Any], form: str = "PgIso", errors: str = "raise") 
     >>> list(column.months), list(column.microseconds), list(column.valid)
     ([14, 0, 0], [0, 0, 3600000000], [1, 0, 1])
     """
-    if errors not in ("raise", "none"):
-        raise ValueError(f"errors is 'raise' or 'none', not {errors!r}")
-    months, days, microseconds, valid = array("i"), array("i"), array("q"), array("B")
-    for cell in _cells(texts):
-        read = None if _is_missing(cell) else _interval(cell, form, errors)
-        part = read or Interval()
-        months.append(part.months)
-        days.append(part.days)
-        microseconds.append(part.microseconds)
-        valid.append(read is not None)
-    column = IntervalColumn(months, days, microseconds, valid)
+    _known_errors(errors, ("raise", "none"))
+    number = _numbers(form)[0]
+    cells = _cells(texts)
+    column = IntervalColumn(array("i"), array("i"), array("q"), array("B"))
+    # a form that is none of intervals is refused of no cells too
+    for start in range(0, len(cells) or 1, _CELLS):
+        for whole, part in zip(column, _intervals(number, cells[start : start + _CELLS], form, errors)):
+            whole += part
     numpy = sys.modules.get("numpy")
     if numpy and hasattr(texts, "dtype"):
         kinds = zip(column, ("int32", "int32", "int64", "bool"))
@@ -91,15 +152,36 @@ def to_timedelta64(texts: Iterable[Any], form: str = "PgIso") -> Any:
     """
     import numpy
 
-    column = intervals(texts, form)
-    if any(column.months):
+    months, days, micros, valid = (numpy.asarray(part) for part in intervals(texts, form))
+    if months.any():
         raise ValueError("an interval of months is no timedelta")
-    lengths = [day * 86_400_000_000 + micros for day, micros in zip(map(int, column.days), map(int, column.microseconds))]
-    if any(not -(2**63) < length < 2**63 for length in lengths):
-        raise OverflowError("a length leaves 64 bits of microseconds")
-    spans = numpy.array(lengths, dtype="int64").view("timedelta64[us]")
-    spans[~numpy.array(column.valid, dtype=bool)] = numpy.timedelta64("NaT", "us")
+    days, micros = days.astype("int64"), micros.astype("int64")
+    # whole days, and what is below one: the sum of both is within 64 bits, or the days alone say that the whole isn't
+    whole, rest = days + micros // _DAY, micros % _DAY
+    least, most = -(2**63) // _DAY + 1, 2**63 // _DAY - 1
+    if ((whole < least) | (whole > most)).any():
+        _refuse_beyond(whole.tolist(), rest.tolist())
+    spans = (whole * _DAY + rest).view("timedelta64[us]")
+    spans[~valid.astype(bool)] = numpy.timedelta64("NaT", "us")
     return spans
+
+
+def _refuse_beyond(days: list[int], rest: list[int]) -> None:
+    """Raises where a length leaves 64 bits, or is the number of NaT."""
+    if any(not -(2**63) < day * _DAY + micros < 2**63 for day, micros in zip(days, rest)):
+        raise OverflowError("a length leaves 64 bits of microseconds")
+
+
+def _known_errors(errors: str, words: tuple[str, ...]) -> None:
+    if errors not in words:
+        raise ValueError(f"errors is {' or '.join(map(repr, words))}, not {errors!r}")
+
+
+def _numbers(*forms: str) -> list[int]:
+    """The numbers of the forms of these names."""
+    if all(isinstance(form, str) and form in NUMBERS for form in forms):
+        return [NUMBERS[form] for form in forms]
+    raise no_such_form(*forms)
 
 
 def _cells(texts: Iterable[Any]) -> list[Any]:
@@ -140,79 +222,141 @@ def _is_missing(cell: object) -> bool:
     return pandas is not None and (cell is pandas.NA or cell is pandas.NaT)
 
 
-def _answers(from_: str, to: str, cells: list[Any], errors: str) -> list[Any]:
-    """The answers to some cells, in order: texts of one line are asked at once, and the others one by one."""
-    at_once = _at_once(from_, to, cells)
-    if at_once is not None:
-        answers, refused = at_once
-        return [_judged(from_, to, *pair, errors) for pair in zip(cells, answers)] if refused else answers
-    at_once = _at_once(from_, to, [cell for cell in cells if _is_line(cell)])
-    if at_once is None:
-        return [_answer(from_, to, cell, errors) for cell in cells]
-    said = iter(at_once[0])
-    return [_judged(from_, to, cell, next(said), errors) if _is_line(cell) else _answer(from_, to, cell, errors) for cell in cells]
+def _rank(parts: tuple[int, int, int]) -> tuple[int, ...]:
+    """What intervals are ordered by."""
+    months, days, microseconds = parts
+    return ((30 * months + days) * _DAY + microseconds, months, days, microseconds)
 
 
-def _is_line(cell: object) -> bool:
-    """Whether a cell is a text without a line feed."""
-    return isinstance(cell, str) and "\n" not in cell
+class _Packed(NamedTuple):
+    """Cells side by side: their bytes, their offsets, the places of those that are missing, and the cell at which they end since it is of
+    another type."""
+
+    data: bytes
+    offsets: array[int]
+    missing: list[int]
+    wrong: Any
 
 
-def _at_once(from_: str, to: str, cells: list[Any]) -> tuple[list[Any], bool] | None:
-    """The replies to texts as lines, and whether one is refused. None where a cell is no `str`, or has a line feed or half a surrogate pair."""
-    if not cells:
-        return [], False
-    head = f"{from_} {to} "
+def _packed(cells: list[Any]) -> _Packed:
+    """Cells as a column, up to the first that is no text."""
     try:
-        lines = (head + f"\n{head}".join(cells) + "\n").encode()
-    except (TypeError, UnicodeEncodeError):
-        return None
-    if lines.count(b"\n") != len(cells):
-        return None
-    said = b"".join(whole_lines(lines)[0]).decode()
-    answers: list[Any] = said.split("\n")
-    answers.pop()
-    return answers, _REFUSED in said
+        text = "".join(cells)
+        if text.isascii():
+            return _Packed(text.encode(), array("I", accumulate(map(len, cells), initial=0)), [], None)
+    except TypeError:
+        pass
+    given, missing = [], []
+    for place, cell in enumerate(cells):
+        if isinstance(cell, str):
+            # half a surrogate pair is no UTF-8, which the library tells
+            given.append(cell.encode("utf-8", "surrogatepass"))
+        elif isinstance(cell, bytes):
+            given.append(cell)
+        elif _is_missing(cell):
+            given.append(b"")
+            missing.append(place)
+        else:
+            return _Packed(b"".join(given), array("I", accumulate(map(len, given), initial=0)), missing, cell)
+    return _Packed(b"".join(given), array("I", accumulate(map(len, given), initial=0)), missing, None)
 
 
-def _judged(from_: str, to: str, cell: str, answer: str, errors: str) -> str | None:
-    """What stands in the place of a reply."""
-    return _refused(from_, to, cell, answer[len(_REFUSED) :], errors) if answer.startswith(_REFUSED) else answer
+def _address(values: array[Any], place: int = 0) -> int:
+    """Where the elements of an array are from a place on."""
+    return values.buffer_info()[0] + place * values.itemsize
 
 
-def _answer(from_: str, to: str, cell: Any, errors: str) -> Any:
-    """The answer to one cell, which is a missing one itself."""
-    if _is_missing(cell):
-        return cell
-    if not isinstance(cell, (str, bytes)):
-        raise TypeError(f"a cell is a str, bytes or None, not {type(cell).__name__}")
-    try:
-        return convert(from_, to, cell if isinstance(cell, str) else cell.decode())
-    except UnicodeDecodeError:
-        return _refused(from_, to, cell, "NotUtf8", errors)
-    except ConversionError as error:
-        return _refused(from_, to, cell, error.cause, errors)
+def _converted(number: int, other: int, data: Any, offsets: array[int]) -> TextColumn:
+    """A column in another form, in as many calls as its room asks for."""
+    count = len(offsets) - 1
+    if count < 1:
+        return TextColumn(b"", array("I", [0]), array("i"))
+    ends, codes = array("I", bytes(4 * (count + 1))), array("i", bytes(4 * count))
+    # a call for a further part counts its offsets from 0 on, so the room is such that there is seldom one
+    room = ctypes.create_string_buffer(min(_library.TEXT_MAX * count, max(_ROOM, 2 * len(data)), 2**31 - 1))
+    start = ctypes.cast(ctypes.c_char_p(data), ctypes.c_void_p).value or 0
+    used, done, put, pieces = ctypes.c_size_t(), 0, 0, []
+    while done < count:
+        _library.convert_column(
+            number, other, start, len(data), _address(offsets, done), count + 1 - done, ctypes.addressof(room), len(room),
+            _address(ends, done), count + 1 - done, _address(codes, done), count - done, used,
+        )  # fmt: skip
+        answered = done + used.value
+        pieces.append(ctypes.string_at(room, ends[answered]))
+        if put:
+            _move(ends, done, answered, put)
+        put += len(pieces[-1])
+        done = answered
+    return TextColumn(b"".join(pieces), ends, codes)
 
 
-def _refused(from_: str, to: str, cell: str | bytes, cause: str, errors: str) -> str | None:
+def _move(ends: array[int], first: int, last: int, by: int) -> None:
+    """Adds to the offsets from one place to another."""
+    if ends[last] + by > 2**31 - 1:
+        raise OverflowError("the answers leave 2,147,483,647 bytes")
+    ends[first : last + 1] = array("I", [end + by for end in ends[first : last + 1]])
+
+
+def _bytes_of(data: Any) -> bytes:
+    """The bytes of a bytes-like object."""
+    return data if type(data) is bytes else bytes(memoryview(data))
+
+
+def _offsets_of(offsets: Any) -> array[int]:
+    """Offsets of 32 bits as an array."""
+    if isinstance(offsets, array) and offsets.typecode == "I":
+        # a copy, which no other thread lets grow while the library reads it
+        return offsets[:]
+    view = memoryview(offsets)
+    if view.itemsize != 4 or view.format not in ("i", "I", "l", "L", "=i", "=I", "<i", "<I"):
+        raise TypeError(f"offsets are whole numbers of 32 bits, not a buffer of the format {view.format!r}")
+    return array("I", view.tobytes())
+
+
+def _answers(number: int, other: int, cells: list[Any], forms: tuple[str, str], errors: str) -> list[Any]:
+    """The answers to some cells, in order."""
+    packed = _packed(cells)
+    column = _converted(number, other, packed.data, packed.offsets)
+    text, start = column.data.decode(), 0
+    answers: list[Any] = [text[start : (start := end)] for end in islice(column.offsets.tolist(), 1, None)]
+    _put_back(answers, cells, packed, column.codes, forms, errors)
+    return answers
+
+
+def _put_back(answers: list[Any], cells: list[Any], packed: _Packed, codes: array[int], forms: tuple[str, str | None], errors: str) -> None:
+    """Puts what stands in place of an answer: missing cells as they are, and what becomes of those that are refused."""
+    for place in packed.missing:
+        codes[place] = 0
+        answers[place] = cells[place]
+    if codes.tobytes() != bytes(4 * len(codes)):
+        for place, code in enumerate(codes):
+            if code:
+                answers[place] = _refused(cells[place], _library.CAUSES[code], forms, errors)
+    if packed.wrong is not None:
+        raise TypeError(f"a cell is a str, bytes or None, not {type(packed.wrong).__name__}")
+
+
+def _refused(cell: str | bytes, cause: str, forms: tuple[str, str | None], errors: str) -> str | None:
     """What stands in the place of an answer."""
     if errors == "raise":
-        raise ConversionError(cause, str(from_), str(to), cell) from None
+        raise ConversionError(cause, str(forms[0]), None if forms[1] is None else str(forms[1]), cell)
     return cause if errors == "cause" else None
 
 
-def _interval(cell: Any, form: str, errors: str) -> Interval | None:
-    """The interval of one cell."""
-    if not isinstance(cell, (str, bytes)):
-        raise TypeError(f"a cell is a str, bytes or None, not {type(cell).__name__}")
-    try:
-        return Interval.parse(cell if isinstance(cell, str) else cell.decode(), form)
-    except UnicodeDecodeError:
-        cause = "NotUtf8"
-    except ConversionError as error:
-        cause = error.cause
-    if cause == "NoSuchForm":
-        raise ConversionError(cause, str(form))
-    if errors == "raise":
-        raise ConversionError(cause, str(form), None, cell)
-    return None
+def _intervals(number: int, cells: list[Any], form: str, errors: str) -> IntervalColumn:
+    """The intervals of some cells, in order."""
+    packed = _packed(cells)
+    count = len(packed.offsets) - 1
+    months, days, codes, microseconds = *(array("i", bytes(4 * count)) for _ in range(3)), array("q", bytes(8 * count))
+    start = ctypes.cast(ctypes.c_char_p(packed.data), ctypes.c_void_p).value or 0
+    said = _library.intervals_from_column(
+        number, start, len(packed.data), _address(packed.offsets), count + 1, _address(months), count, _address(days), count,
+        _address(microseconds), count, _address(codes), count, ctypes.c_size_t(),
+    )  # fmt: skip
+    if said < 0:
+        raise ConversionError(_library.CAUSES[said], str(form))
+    valid: list[Any] = [_VALID] * count
+    for place in packed.missing:
+        months[place] = days[place] = microseconds[place] = 0
+    _put_back(valid, cells, packed, codes, (form, None), errors)
+    return IntervalColumn(months, days, microseconds, array("B", [mark is _VALID for mark in valid]))

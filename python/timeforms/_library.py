@@ -17,6 +17,7 @@ CAUSES = {
     -101: "NoSuchForm",
     -102: "NotUtf8",
     -103: "NoRoom",
+    -104: "BadOffsets",
 }
 
 Text = ctypes.c_char * TEXT_MAX
@@ -40,6 +41,16 @@ reply.restype = ctypes.c_int32
 replies = _free.timeforms_replies
 replies.argtypes = [ctypes.c_void_p, ctypes.c_size_t, ctypes.c_char_p, ctypes.c_size_t, ctypes.POINTER(ctypes.c_size_t)]
 replies.restype = ctypes.c_size_t
+
+_ARRAY = [ctypes.c_void_p, ctypes.c_size_t]
+
+convert_column = _free.timeforms_convert_column
+convert_column.argtypes = [ctypes.c_int32, ctypes.c_int32, *5 * _ARRAY, ctypes.POINTER(ctypes.c_size_t)]
+convert_column.restype = ctypes.c_int32
+
+intervals_from_column = _free.timeforms_intervals_from_column
+intervals_from_column.argtypes = [ctypes.c_int32, *6 * _ARRAY, ctypes.POINTER(ctypes.c_size_t)]
+intervals_from_column.restype = ctypes.c_int32
 
 interval_from_text = _held.timeforms_interval_from_text
 interval_from_text.argtypes = [ctypes.c_int32, ctypes.c_char_p, ctypes.c_size_t, ctypes.POINTER(Interval)]
@@ -84,6 +95,20 @@ file_time_to_unix_time.restype = ctypes.c_int32
 file_time_from_unix_time = _held.timeforms_file_time_from_unix_time
 file_time_from_unix_time.argtypes = [ctypes.c_int64, ctypes.c_uint32, ctypes.POINTER(ctypes.c_uint64)]
 file_time_from_unix_time.restype = ctypes.c_int32
+
+_SECONDS = [ctypes.POINTER(ctypes.c_int64), ctypes.POINTER(ctypes.c_uint32)]
+
+instant_from_text = _held.timeforms_instant_from_text
+instant_from_text.argtypes = [ctypes.c_int32, ctypes.c_char_p, ctypes.c_size_t, *_SECONDS]
+instant_from_text.restype = ctypes.c_int32
+
+instant_to_text = _held.timeforms_instant_to_text
+instant_to_text.argtypes = [ctypes.c_int32, ctypes.c_int64, ctypes.c_uint32, Text, ctypes.c_size_t]
+instant_to_text.restype = ctypes.c_int32
+
+recurrence_at = _held.timeforms_recurrence_at
+recurrence_at.argtypes = [ctypes.c_int64, ctypes.c_uint32, Interval, ctypes.c_uint32, *_SECONDS]
+recurrence_at.restype = ctypes.c_int32
 
 duration_from_text = _held.timeforms_duration_from_text
 duration_from_text.argtypes = [ctypes.c_char_p, ctypes.c_size_t, ctypes.POINTER(ctypes.c_uint64), ctypes.POINTER(ctypes.c_uint32)]

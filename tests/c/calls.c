@@ -193,6 +193,129 @@ static void test_intervals(void) {
     CHECK(timeforms_interval_to_text(TIMEFORMS_PG_SQL, &some, NULL, 0) == TIMEFORMS_NO_ROOM);
 }
 
+/* The arrays of a column of so many cells, each a block of just its size. */
+typedef struct rooms {
+    size_t cells, bytes, done;
+    char *out;
+    uint32_t *offsets;
+    int32_t *codes, *months, *days;
+    int64_t *microseconds;
+} rooms;
+
+static rooms rooms_of(size_t cells, size_t bytes) {
+    rooms r = {cells, bytes, 77, block(bytes), NULL, NULL, NULL, NULL, NULL};
+    r.offsets = (uint32_t *)(void *)block((cells + 1) * sizeof *r.offsets);
+    r.codes = (int32_t *)(void *)block(cells * sizeof *r.codes);
+    r.months = (int32_t *)(void *)block(cells * sizeof *r.months);
+    r.days = (int32_t *)(void *)block(cells * sizeof *r.days);
+    r.microseconds = (int64_t *)(void *)block(cells * sizeof *r.microseconds);
+    return r;
+}
+
+static void free_rooms(rooms *r) {
+    free(r->out);
+    free(r->offsets);
+    free(r->codes);
+    free(r->months);
+    free(r->days);
+    free(r->microseconds);
+}
+
+static int32_t convert_into(rooms *r, int32_t from, int32_t to, const char *data, size_t data_len, const uint32_t *offsets, size_t offsets_len) {
+    return timeforms_convert_column(from, to, data, data_len, offsets, offsets_len, r->out, r->bytes, r->offsets, r->cells + 1, r->codes,
+                                    r->cells, &r->done);
+}
+
+static int32_t read_into(rooms *r, int32_t form, const char *data, size_t data_len, const uint32_t *offsets, size_t offsets_len) {
+    return timeforms_intervals_from_column(form, data, data_len, offsets, offsets_len, r->months, r->cells, r->days, r->cells, r->microseconds,
+                                           r->cells, r->codes, r->cells, &r->done);
+}
+
+/* Whether a cell has this code and this answer. */
+static int cell_is(const rooms *r, size_t cell, int32_t code, const char *want) {
+    size_t len = r->offsets[cell + 1] - r->offsets[cell];
+    return r->codes[cell] == code && len == strlen(want) && !memcmp(r->out + r->offsets[cell], want, len);
+}
+
+/* Whether a cell has this code and these parts. */
+static int parts_are(const rooms *r, size_t cell, int32_t code, int32_t months, int32_t days, int64_t microseconds) {
+    return r->codes[cell] == code && r->months[cell] == months && r->days[cell] == days && r->microseconds[cell] == microseconds;
+}
+
+/* Whether so many bytes are those that `block` left. */
+static int is_untouched(const void *bytes, size_t len) {
+    const char *at = bytes;
+    while (len && *at == '#') at++, len--;
+    return !len;
+}
+
+static void test_columns(void) {
+    /* a text, no text, a line feed, half a letter, a moment of another form, a text with a zero byte */
+    static const char data[] = "P1Y1YP1D\nPgIso\xc3P\0P2147483648DP3W";
+    static const uint32_t offsets[] = {0, 5, 5, 14, 15, 17, 29, 32};
+    size_t len = sizeof data - 1;
+    rooms r = rooms_of(9, 96);
+    CHECK(convert_into(&r, TIMEFORMS_PG_ISO, TIMEFORMS_POSTGRES, data, len, offsets, 8) == 0 && r.done == 7);
+    CHECK(cell_is(&r, 0, 0, "2 years") && cell_is(&r, 1, TIMEFORMS_SYNTAX, "") && cell_is(&r, 2, TIMEFORMS_SYNTAX, ""));
+    CHECK(cell_is(&r, 3, TIMEFORMS_NOT_UTF8, "") && cell_is(&r, 4, TIMEFORMS_SYNTAX, "") && cell_is(&r, 5, TIMEFORMS_RANGE, ""));
+    CHECK(cell_is(&r, 6, 0, "21 days") && r.offsets[0] == 0 && r.offsets[7] == 14);
+    CHECK(is_untouched(r.out + 14, 82) && is_untouched(r.offsets + 8, 8) && is_untouched(r.codes + 7, 8));
+    CHECK(read_into(&r, TIMEFORMS_PG_ISO, data, len, offsets, 8) == 0 && r.done == 7);
+    CHECK(parts_are(&r, 0, 0, 24, 0, 0) && parts_are(&r, 1, TIMEFORMS_SYNTAX, 0, 0, 0) && parts_are(&r, 3, TIMEFORMS_NOT_UTF8, 0, 0, 0));
+    CHECK(parts_are(&r, 5, TIMEFORMS_RANGE, 0, 0, 0) && parts_are(&r, 6, 0, 0, 21, 0));
+    CHECK(is_untouched(r.months + 7, 8) && is_untouched(r.days + 7, 8) && is_untouched(r.microseconds + 7, 16));
+    free_rooms(&r);
+}
+
+static void test_bad_offsets(void) {
+    /* the data end behind 5 bytes: offsets that fall, that lie behind it by a byte, at the end of 32 bits, and good ones between them */
+    static const char data[] = "P1DP2";
+    static const uint32_t offsets[] = {3, 0, 3, 6, 0, 3, UINT32_MAX, 4, 5, UINT32_MAX, UINT32_MAX};
+    rooms r = rooms_of(10, 9);
+    CHECK(convert_into(&r, TIMEFORMS_PG_ISO, TIMEFORMS_PG_ISO, data, 5, offsets, 11) == 0 && r.done == 10);
+    CHECK(read_into(&r, TIMEFORMS_PG_ISO, data, 5, offsets, 11) == 0 && r.done == 10);
+    for (size_t cell = 0; cell < 10; cell++) {
+        int good = cell == 1 || cell == 4, one = cell == 7;
+        CHECK(cell_is(&r, cell, good ? 0 : one ? TIMEFORMS_SYNTAX : TIMEFORMS_BAD_OFFSETS, good ? "P1D" : ""));
+        CHECK(parts_are(&r, cell, good ? 0 : one ? TIMEFORMS_SYNTAX : TIMEFORMS_BAD_OFFSETS, 0, good, 0));
+    }
+    CHECK(is_untouched(r.out + 6, 3));
+    free_rooms(&r);
+}
+
+static void test_rooms_of_columns(void) {
+    static const char data[] = "P1DP2DP3D";
+    static const uint32_t offsets[] = {0, 3, 6, 9};
+    rooms r = rooms_of(3, 8);
+    /* the third answer is one byte too long; with one byte more it isn't */
+    CHECK(convert_into(&r, TIMEFORMS_PG_ISO, TIMEFORMS_PG_ISO, data, 9, offsets, 4) == 0 && r.done == 2);
+    CHECK(!memcmp(r.out, "P1DP2D##", 8) && r.offsets[2] == 6 && is_untouched(r.offsets + 3, 4) && is_untouched(r.codes + 2, 4));
+    CHECK(convert_into(&r, TIMEFORMS_PG_ISO, TIMEFORMS_PG_ISO, data, 9, offsets + 2, 2) == 0 && r.done == 1 && cell_is(&r, 0, 0, "P3D"));
+    free_rooms(&r);
+    /* an array that has fewer places, or none */
+    r = rooms_of(3, 9);
+    uint32_t first = 7;
+    CHECK(timeforms_convert_column(6, 6, data, 9, offsets, 4, r.out, 9, r.offsets, 3, r.codes, 3, &r.done) == 0 && r.done == 2);
+    CHECK(timeforms_convert_column(6, 6, data, 9, offsets, 4, r.out, 9, r.offsets, 4, r.codes, 1, &r.done) == 0 && r.done == 1);
+    CHECK(timeforms_convert_column(6, 6, data, 9, offsets, 4, NULL, 0, &first, 1, NULL, 0, &r.done) == 0 && r.done == 0 && first == 0);
+    CHECK(timeforms_convert_column(6, 6, data, 9, offsets, 4, NULL, 0, r.offsets, 4, r.codes, 3, &r.done) == 0 && r.done == 0);
+    r.done = 77;
+    CHECK(timeforms_convert_column(6, 6, data, 9, offsets, 4, r.out, 9, NULL, 0, r.codes, 3, &r.done) == TIMEFORMS_NO_ROOM && r.done == 77);
+    CHECK(timeforms_convert_column(11, 6, data, 9, offsets, 4, r.out, 9, NULL, 0, r.codes, 3, &r.done) == TIMEFORMS_NO_SUCH_FORM);
+    CHECK(timeforms_convert_column(6, -1, data, 9, offsets, 4, r.out, 9, r.offsets, 4, r.codes, 3, &r.done) == TIMEFORMS_NO_SUCH_FORM);
+    CHECK(r.done == 77);
+    /* no cells: no offsets, or one */
+    first = 7;
+    CHECK(timeforms_convert_column(6, 6, NULL, 0, NULL, 0, NULL, 0, &first, 1, NULL, 0, &r.done) == 0 && r.done == 0 && first == 0);
+    CHECK(timeforms_convert_column(6, 6, NULL, 0, offsets, 1, NULL, 0, &first, 1, NULL, 0, &r.done) == 0 && r.done == 0);
+    CHECK(timeforms_intervals_from_column(6, NULL, 0, NULL, 0, NULL, 0, NULL, 0, NULL, 0, NULL, 0, &r.done) == 0 && r.done == 0);
+    CHECK(timeforms_intervals_from_column(6, data, 9, offsets, 4, r.months, 3, r.days, 2, r.microseconds, 3, r.codes, 3, &r.done) == 0);
+    CHECK(r.done == 2 && is_untouched(r.months + 2, 4));
+    CHECK(timeforms_intervals_from_column(5, data, 9, offsets, 4, r.months, 3, r.days, 3, r.microseconds, 3, r.codes, 3, &r.done) ==
+          TIMEFORMS_NO_SUCH_FORM);
+    free_rooms(&r);
+}
+
 static int is_interval(timeforms_interval t, int32_t months, int32_t days, int64_t microseconds) {
     return t.months == months && t.days == days && t.microseconds == microseconds;
 }
@@ -247,6 +370,45 @@ static void test_file_times(void) {
     CHECK(timeforms_file_time_from_unix_time(-11644473601, UINT32_MAX, &ticks) == TIMEFORMS_RANGE && ticks == 7);
     CHECK(timeforms_file_time_from_unix_time(-11644473600, 0, &ticks) == 0 && ticks == 0);
     CHECK(timeforms_file_time_from_unix_time(0, 1000000000, &ticks) == 0 && ticks == 116444736010000000u);
+}
+
+static void test_instants(void) {
+    int64_t seconds = 7, at = 7;
+    uint32_t nanos = 7, beyond = 7;
+    char out[TIMEFORMS_TEXT_MAX];
+    CHECK(timeforms_instant_from_text(TIMEFORMS_ISO_DATE_TIME, "2015-06-26", 10, &seconds, &nanos) == TIMEFORMS_SYNTAX);
+    CHECK(timeforms_instant_from_text(TIMEFORMS_TOML, "2015-06-26", 10, &seconds, &nanos) == TIMEFORMS_KIND);
+    CHECK(timeforms_instant_from_text(TIMEFORMS_ISO_DATE_TIME, "2015-09-31T00:00:00Z", 20, &seconds, &nanos) == TIMEFORMS_NO_SUCH_MOMENT);
+    CHECK(timeforms_instant_from_text(TIMEFORMS_TOML, "\xff", 1, &seconds, &nanos) == TIMEFORMS_NOT_UTF8);
+    CHECK(timeforms_instant_from_text(11, "\xff", 1, &seconds, &nanos) == TIMEFORMS_NO_SUCH_FORM && seconds == 7 && nanos == 7);
+    CHECK(timeforms_instant_from_text(TIMEFORMS_FILE_TIME, "116444735999999999", 18, &seconds, &nanos) == 0);
+    CHECK(seconds == -1 && nanos == 999999900);
+    CHECK(timeforms_instant_from_text(TIMEFORMS_TOML, "2024-01-31T12:00:00Z", 20, &seconds, &nanos) == 0);
+    CHECK(seconds == 1706702400 && nanos == 0);
+    CHECK(timeforms_instant_to_text(TIMEFORMS_FILE_TIME, -1, 999999900, out, 18) == 18 && !memcmp(out, "116444735999999999", 18));
+    CHECK(timeforms_instant_to_text(TIMEFORMS_FILE_TIME, -1, 999999900, out, 17) == TIMEFORMS_NO_ROOM);
+    CHECK(timeforms_instant_to_text(TIMEFORMS_FILE_TIME, 0, 1, out, 96) == TIMEFORMS_PRECISION);
+    CHECK(timeforms_instant_to_text(TIMEFORMS_FILE_TIME, 0, 1000000000, out, 96) == TIMEFORMS_RANGE);
+    CHECK(timeforms_instant_to_text(TIMEFORMS_TOML, INT64_MAX, 0, out, 96) == TIMEFORMS_RANGE);
+    CHECK(timeforms_instant_to_text(TIMEFORMS_TOML, INT64_MIN, 0, out, 96) == TIMEFORMS_RANGE);
+    CHECK(timeforms_instant_to_text(TIMEFORMS_PG_ISO, 0, 0, out, 96) == TIMEFORMS_KIND);
+    CHECK(timeforms_instant_to_text(-1, 0, 0, out, 96) == TIMEFORMS_NO_SUCH_FORM);
+    /* from January 31st, by months: February 29th, March 31st, and February 28th of the next year */
+    timeforms_interval month = {1, 0, 0}, least = {INT32_MIN, INT32_MIN, INT64_MIN}, day = {0, 1, 1};
+    CHECK(timeforms_recurrence_at(seconds, 5, month, 0, &at, &beyond) == 0 && at == seconds && beyond == 5);
+    CHECK(timeforms_recurrence_at(seconds, 0, month, 1, &at, &beyond) == 0 && at == 1709208000 && beyond == 0);
+    CHECK(timeforms_recurrence_at(seconds, 0, month, 2, &at, &beyond) == 0 && at == 1711886400 && beyond == 0);
+    CHECK(timeforms_recurrence_at(seconds, 0, month, 13, &at, &beyond) == 0 && at == 1740744000 && beyond == 0);
+    CHECK(timeforms_recurrence_at(-1, 999999999, day, 2, &at, &beyond) == 0 && at == 172800 && beyond == 1999);
+    at = 7, beyond = 8;
+    CHECK(timeforms_recurrence_at(seconds, 1000000000, month, 0, &at, &beyond) == TIMEFORMS_RANGE);
+    CHECK(timeforms_recurrence_at(seconds, 0, least, UINT32_MAX, &at, &beyond) == TIMEFORMS_RANGE);
+    CHECK(timeforms_recurrence_at(INT64_MIN, 0, month, 0, &at, &beyond) == TIMEFORMS_RANGE && at == 7 && beyond == 8);
+    /* the last second of 9999, and the first of -9999 */
+    CHECK(timeforms_recurrence_at(253402300799, 0, month, 0, &at, &beyond) == 0 && at == 253402300799);
+    CHECK(timeforms_recurrence_at(253402300799, 0, month, 1, &at, &beyond) == TIMEFORMS_RANGE);
+    CHECK(timeforms_recurrence_at(-377705116800, 0, month, 0, &at, &beyond) == 0 && at == -377705116800 && beyond == 0);
+    CHECK(timeforms_recurrence_at(-377705116801, 999999999, month, 1, &at, &beyond) == TIMEFORMS_RANGE);
 }
 
 static void test_durations(void) {
@@ -336,8 +498,12 @@ int main(int argc, char **argv) {
     test_replies_to_lines();
     test_long_texts();
     test_intervals();
+    test_columns();
+    test_bad_offsets();
+    test_rooms_of_columns();
     test_arithmetic();
     test_file_times();
+    test_instants();
     test_durations();
     test_version();
     for (int table = 1; table < argc; table++) test_table(argv[table]);

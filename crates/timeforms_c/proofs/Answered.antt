@@ -4,6 +4,9 @@ use Rattle.std.proofs.Common.{◌≡◌, Option, None, Some, Result, Ok, Err}
 pub not_none : {T : Type 0} (a : T) → ◌≡◌ {A = Option T} None (Some a) → ⊥
 not_none a e = cc
 
+pub not_some : {T : Type 0} (a : T) → ◌≡◌ {A = Option T} (Some a) None → ⊥
+not_some a e = cc
+
 pub same_some : {T : Type 0} (a b : T) → ◌≡◌ {A = Option T} (Some a) (Some b) → a ≡ b
 same_some a b e = cc
 

@@ -24,3 +24,7 @@ not_utf8 = neg_ℤ (pos 102)
 -- an answer that is longer than the room for it
 abbrev pub no_room : ℤ
 no_room = neg_ℤ (pos 103)
+
+-- offsets of a cell that fall, or that leave the data
+abbrev pub bad_offsets : ℤ
+bad_offsets = neg_ℤ (pos 104)

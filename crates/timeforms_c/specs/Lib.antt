@@ -1,5 +1,7 @@
 -- What a caller must believe, by subject.
 pub mod Codes
+pub mod Columns
 pub mod Intervals
 pub mod Numbers
 pub mod Rooms
+pub mod inside

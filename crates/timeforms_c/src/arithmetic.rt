@@ -117,7 +117,7 @@ fn length(seconds: i64, nanoseconds: u32) -> SignedDuration
 }
 
 /// The same interval as the crates below have it.
-fn interval_of(a: TimeformsInterval) -> Interval
+pub(crate) fn interval_of(a: TimeformsInterval) -> Interval
     ensures { result ≡ seen a }
 {
     Interval::new(a.months, a.days, a.microseconds)

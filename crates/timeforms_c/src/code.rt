@@ -13,6 +13,9 @@ pub(crate) const NOT_UTF8: i32 = -102;
 /// An answer that is longer than the room for it.
 pub(crate) const NO_ROOM: i32 = -103;
 
+/// Offsets of a cell that fall, or that leave the data.
+pub(crate) const BAD_OFFSETS: i32 = -104;
+
 /// The code of a cause.
 pub(crate) fn code_of(cause: Cause) -> i32
     ensures { result ≡ code_of cause }

@@ -103,7 +103,7 @@ pub extern "C" fn timeforms_interval_to_text(
 }
 
 /// The style of the interval form of this number.
-fn style_numbered(form: i32) -> Option<Style>
+pub(crate) fn style_numbered(form: i32) -> Option<Style>
     ensures some { (f : AnyForm) (style : AnyStyle) → form ≡ number_of f → style_of f ≡ Some style
         → result ≡ Some style }
     ensures none { ((f : AnyForm) → form ≡ number_of f → style_of f ≡ None) → result ≡ None }

@@ -7,11 +7,15 @@
 #![tactic(auto)]
 
 pub mod arithmetic;
+mod cell;
 pub mod code;
+pub mod column;
 pub mod duration;
 pub mod file_time;
 pub mod form;
+pub mod instants;
 pub mod interval;
+pub mod interval_cells;
 pub mod reply;
 mod room;
 #[cfg(test)]

@@ -4,15 +4,20 @@ use crate::arithmetic::{
     timeforms_interval_add, timeforms_interval_compare, timeforms_interval_from_seconds,
     timeforms_interval_negate, timeforms_interval_subtract,
 };
+use crate::column::timeforms_convert_column;
 use crate::duration::{timeforms_duration_from_text, timeforms_duration_to_text};
 use crate::file_time::{
     timeforms_file_time_from_nanoseconds, timeforms_file_time_from_unix_time,
     timeforms_file_time_to_nanoseconds, timeforms_file_time_to_unix_time,
 };
 use crate::form::{timeforms_form_by_name, timeforms_form_name};
+use crate::instants::{
+    timeforms_instant_from_text, timeforms_instant_to_text, timeforms_recurrence_at,
+};
 use crate::interval::{
     TimeformsInterval, timeforms_interval_from_text, timeforms_interval_to_text,
 };
+use crate::interval_cells::timeforms_intervals_from_column;
 use crate::reply::{timeforms_replies, timeforms_reply, timeforms_reply_by_name};
 use crate::version::timeforms_version;
 use std::test::Fail;
@@ -223,6 +228,122 @@ fn texts_of_intervals(rt: HostRuntime) -> Result<(), Fail> {
 }
 
 #[test]
+fn columns_of_texts(rt: HostRuntime) -> Result<(), Fail> {
+    let (mut room, mut done) = ([b'#'; 16], 77);
+    let (mut offsets, mut codes) = ([7; 7], [7; 6]);
+    let status = timeforms_convert_column(
+        6,
+        7,
+        b"P1Y1YP1D\n\xFFP3W",
+        &[0, 5, 5, 9, 10, 13],
+        &mut room,
+        &mut offsets,
+        &mut codes,
+        &mut done,
+    );
+    assert_eq!(rt; (status, done), (0, 5));
+    assert!(rt; is_left("2 years21 days", &room));
+    assert_eq!(rt; offsets, [0, 7, 7, 7, 7, 14, 7]);
+    assert_eq!(rt; codes, [0, -1, -1, -102, 0, 7]);
+    Ok(())
+}
+
+#[test]
+fn columns_of_bad_offsets(rt: HostRuntime) -> Result<(), Fail> {
+    let (mut room, mut done) = ([b'#'; 5], 77);
+    let (mut offsets, mut codes) = ([7; 6], [7; 5]);
+    let given = [3, 0, 3, 4, u32::MAX, 3];
+    let status = timeforms_convert_column(
+        6,
+        6,
+        b"P1D",
+        &given,
+        &mut room,
+        &mut offsets,
+        &mut codes,
+        &mut done,
+    );
+    assert_eq!(rt; (status, done), (0, 5));
+    assert!(rt; is_left("P1D", &room));
+    assert_eq!(rt; offsets, [0, 0, 3, 3, 3, 3]);
+    assert_eq!(rt; codes, [-104, 0, -104, -104, -104]);
+    Ok(())
+}
+
+#[test]
+fn columns_in_rooms_of_their_size(rt: HostRuntime) -> Result<(), Fail> {
+    let (mut room, mut done) = ([b'#'; 5], 77);
+    let (mut offsets, mut codes) = ([7; 3], [7; 2]);
+    let cells = [0, 3, 6];
+    assert_eq!(rt;
+        timeforms_convert_column(
+            6,
+            6,
+            b"P1DP2D",
+            &cells,
+            &mut room,
+            &mut offsets,
+            &mut codes,
+            &mut done
+        ),
+        0
+    );
+    assert_eq!(rt; done, 1);
+    assert!(rt; is_left("P1D", &room));
+    assert_eq!(rt; offsets, [0, 3, 7]);
+    assert_eq!(rt;
+        timeforms_convert_column(
+            6,
+            6,
+            b"P1D",
+            &cells,
+            &mut room,
+            &mut [],
+            &mut codes,
+            &mut done
+        ),
+        -103
+    );
+    assert_eq!(rt;
+        timeforms_convert_column(
+            6,
+            11,
+            b"P1D",
+            &cells,
+            &mut room,
+            &mut [],
+            &mut codes,
+            &mut done
+        ),
+        -101
+    );
+    assert_eq!(rt; done, 1);
+    Ok(())
+}
+
+#[test]
+fn intervals_of_columns(rt: HostRuntime) -> Result<(), Fail> {
+    let (mut months, mut days, mut micros) = ([7; 4], [7; 4], [7; 5]);
+    let (mut codes, mut done) = ([7; 4], 77);
+    let status = timeforms_intervals_from_column(
+        6,
+        b"P1Y2M-3DT4HP1",
+        &[0, 11, 13, 12, 12],
+        &mut months,
+        &mut days,
+        &mut micros,
+        &mut codes,
+        &mut done,
+    );
+    assert_eq!(rt; (status, done), (0, 4));
+    assert_eq!(rt; months, [14, 0, 0, 0]);
+    assert_eq!(rt; days, [-3, 0, 0, 0]);
+    assert_eq!(rt; micros, [14_400_000_000, 0, 0, 0, 7]);
+    assert_eq!(rt; codes, [0, -1, -104, -1]);
+    Ok(())
+}
+
+#[test]
 fn sums_and_differences(rt: HostRuntime) -> Result<(), Fail> {
     let mut found = interval(7, 8, 9);
     let most = interval(i32::MAX, i32::MAX, i64::MAX);
@@ -332,6 +453,75 @@ fn file_times_and_nanoseconds(rt: HostRuntime) -> Result<(), Fail> {
         let mut found = 7;
         assert_eq!(rt; timeforms_file_time_from_nanoseconds(nanos, &mut found), 0);
         assert_eq!(rt; found, ticks);
+    }
+    Ok(())
+}
+
+#[test]
+fn instants_of_texts(rt: HostRuntime) -> Result<(), Fail> {
+    for (form, text, answer, whole, beyond) in [
+        (0, "116444735999999999", 0, -1, 999_999_900),
+        (1, "2024-01-31T12:00:00Z", 0, 1_706_702_400, 0),
+        (4, "2015-06-26", -4, 7, 7),
+        (6, "P1D", -4, 7, 7),
+        (1, "2015-09-31T00:00:00Z", -2, 7, 7),
+        (1, "", -1, 7, 7),
+        (11, "", -101, 7, 7),
+    ] {
+        let (mut seconds, mut nanoseconds) = (7, 7);
+        let found = timeforms_instant_from_text(
+            form,
+            text.as_bytes(),
+            &mut seconds,
+            &mut nanoseconds,
+        );
+        assert_eq!(rt;
+            (found, seconds, nanoseconds),
+            (answer, whole, beyond),
+            "at {text}"
+        );
+    }
+    Ok(())
+}
+
+#[test]
+fn texts_of_instants(rt: HostRuntime) -> Result<(), Fail> {
+    for (form, seconds, nanoseconds, answer, left) in [
+        (0, -1, 999_999_900, 18, "116444735999999999"),
+        (0, 0, 1, -5, ""),
+        (0, 0, 1_000_000_000, -3, ""),
+        (1, i64::MAX, 0, -3, ""),
+        (6, 0, 0, -4, ""),
+        (11, 0, 0, -101, ""),
+    ] {
+        let mut room = [b'#'; 32];
+        let found = timeforms_instant_to_text(form, seconds, nanoseconds, &mut room);
+        assert_eq!(rt; found, answer);
+        assert!(rt; is_left(left, &room), "at {left}");
+    }
+    Ok(())
+}
+
+#[test]
+fn instants_of_a_recurrence(rt: HostRuntime) -> Result<(), Fail> {
+    // from 2024-01-31: February 29th, March 31st, and February 28th of the next year
+    for (steps, answer, whole) in [
+        (0, 0, 1_706_702_400),
+        (1, 0, 1_709_208_000),
+        (2, 0, 1_711_886_400),
+        (13, 0, 1_740_744_000),
+        (u32::MAX, -3, 7),
+    ] {
+        let (mut seconds, mut nanoseconds) = (7, 7);
+        let found = timeforms_recurrence_at(
+            1_706_702_400,
+            0,
+            interval(1, 0, 0),
+            steps,
+            &mut seconds,
+            &mut nanoseconds,
+        );
+        assert_eq!(rt; (found, seconds), (answer, whole));
     }
     Ok(())
 }
