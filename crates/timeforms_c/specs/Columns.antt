@@ -1,6 +1,7 @@
 -- Columns of texts: they stand side by side in some bytes, each from one offset to the next, as in the layout "variable-size binary" of
 -- Apache Arrow's columnar format. The answers to them are a column too, beside which each cell has a code.
-use Rattle.std.specs.Prelude.{◌≡◌, ◌⊎◌, ℕ, ◌+◌, ◌-◌, ◌<◌, ◌≤◌, min, ℤ, pos, List, [], ◌∷◌, ◌++◌, map, length, take, drop, Result, Ok, Err, IsUtf8, ⊤}
+use Rattle.std.specs.Prelude.{◌≡◌, ◌⊎◌, ℕ, ◌+◌, ◌-◌, ◌<◌, ◌≤◌, min, ℤ, pos, List, [], ◌∷◌, ◌++◌, map, length, take, drop, Result, Ok, Err}
+use Rattle.std.specs.Prelude.{IsUtf8, ⊤}
 use Rattle.scan_core.specs.declared.share.Part.{Part}
 use Rattle.pg_interval_2.specs.Denotes.{Denotes, HasNoShape, Misfits}
 use Rattle.pg_interval_2.specs.Styles.{Shape}
@@ -108,7 +109,8 @@ part_of part (Err code) = pos 0
 
 -- Cells at the front of a column are read: the parts of their intervals stand at the front of three arrays, and each cell has its code.
 -- They are all cells, or an array has no place for a further one.
-pub record ReadsColumn (style : Style) (bytes offsets : List ℕ) (months_old months_new days_old days_new micros_old micros_new codes_old codes_new : List ℤ)
+pub record ReadsColumn (style : Style) (bytes offsets : List ℕ)
+    (months_old months_new days_old days_new micros_old micros_new codes_old codes_new : List ℤ)
     (done : ℕ) : Type 0 where
   pub answers : List (Result Interval ℤ)
   pub each : AreBetween (IsCellAnswer (FindsInterval style) bytes) offsets answers

@@ -7,7 +7,8 @@ use Rattle.timeforms_c.proofs.column.answer_cells.Goals as goal
 
 pub loop-done-init : goal.loop-done-init
 loop-done-init c = record {
-  answered = answered_none c.args.from c.args.to c.args.bytes.now c.args.offsets.now c.args.out.now c.args.ends.now _ c.args.codes.now c.requires refl;
+  answered = answered_none c.args.from c.args.to c.args.bytes.now c.args.offsets.now c.args.out.now c.args.ends.now _ c.args.codes.now
+      c.requires refl;
   within = omega arith;
 }
 
@@ -20,8 +21,11 @@ loop-done-preserved c =
     let room = c.min-room.ensures in
     let test = c.loop-done-test.true in record {
       answered =
-          answered_push c.args.from c.args.to c.args.bytes.now c.args.offsets.now c.args.out.now c.loop-done.out c.put_answer.new.out c.args.ends.now c.loop-done.ends _ c.args.codes.now c.loop-done.codes _ c.loop-done.done c.loop-done.written
-          c.in-Some.len c.min-room.result c.in-Some.code (shown c.cell_answer-answer.result) before.answered (omega (arith, count, test)) (omega (arith, count, test)) (omega (arith, count, test))
-          (omega (arith, room)) (omega (arith, room)) c.cell_answer-answer.ensures.answer puts (ap (set c.loop-done.codes c.loop-done.done) (to_z-of_z fits)) refl;
+          answered_push c.args.from c.args.to c.args.bytes.now c.args.offsets.now c.args.out.now c.loop-done.out c.put_answer.new.out
+              c.args.ends.now c.loop-done.ends _ c.args.codes.now c.loop-done.codes _ c.loop-done.done c.loop-done.written
+          c.in-Some.len c.min-room.result c.in-Some.code (shown c.cell_answer-answer.result) before.answered (omega (arith, count, test))
+              (omega (arith, count, test)) (omega (arith, count, test))
+          (omega (arith, room)) (omega (arith, room)) c.cell_answer-answer.ensures.answer puts
+              (ap (set c.loop-done.codes c.loop-done.done) (to_z-of_z fits)) refl;
       within = omega (arith, puts.within, puts.count);
     }

@@ -7,10 +7,12 @@ use Rattle.timeforms_c.proofs.CivilInstants.{reads_again}
 use Rattle.timeforms_c.proofs.instants.timeforms_instant_from_text.Goals as goal
 
 pub returns-in_default-from_utf8-clause-form : goal.returns-in_default-from_utf8-clause-form
-returns-in_default-from_utf8-clause-form c none = absurd (none c.in-Some.form (sym (to_z-of_z c.ranges.form) ∙ (c.in-Some.ensures c.in-Some.form).0 refl))
+returns-in_default-from_utf8-clause-form c none = absurd (none c.in-Some.form
+    (sym (to_z-of_z c.ranges.form) ∙ (c.in-Some.ensures c.in-Some.form).0 refl))
 
 pub returns-in-Ok-read_instant-clause-form : goal.returns-in-Ok-read_instant-clause-form
-returns-in-Ok-read_instant-clause-form c none = absurd (none c.in-Some.form (sym (to_z-of_z c.ranges.form) ∙ (c.in-Some.ensures c.in-Some.form).0 refl))
+returns-in-Ok-read_instant-clause-form c none = absurd (none c.in-Some.form
+    (sym (to_z-of_z c.ranges.form) ∙ (c.in-Some.ensures c.in-Some.form).0 refl))
 
 pub returns-in-Err-clause-form : goal.returns-in-Err-clause-form
 returns-in-Err-clause-form c none = absurd (none c.in-Some.form (sym (to_z-of_z c.ranges.form) ∙ (c.in-Some.ensures c.in-Some.form).0 refl))
