@@ -9,4 +9,4 @@ unfolding padded_integral char_count
 padded_two n =
     let bare : 2 - length (decimal n) - 0 - 0 ≡ 2 - length (decimal n) = omega arith in
     ap (λ (zeros : ℕ). replicate zeros 48 ++ (decimal n ++ [])) bare
-        ∙ ap (λ (digits : List ℕ). replicate (2 - length (decimal n)) 48 ++ digits) (append-nil (decimal n))
+    ∙ ap (λ (digits : List ℕ). replicate (2 - length (decimal n)) 48 ++ digits) (append-nil (decimal n))

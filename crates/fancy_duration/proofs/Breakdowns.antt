@@ -23,12 +23,12 @@ quotient_part n d = omega (arith, div-add-mod' n d)
 
 pub kept_in-cons : (kept : List DurationPart) (part : DurationPart) (parts : List DurationPart) (left : ℕ)
     → kept_in kept (part ∷ parts) left ≡ (if list_any (λ p. is_part p part) kept then left - left % weight_of part else 0)
-        + kept_in kept parts (left % weight_of part)
+    + kept_in kept parts (left % weight_of part)
 unfolding kept_in
 kept_in-cons kept part parts left =
     elim (list_any (λ p. is_part p part) kept) as (λ t. list_any (λ p. is_part p part) kept ≡ t
-        → kept_in kept (part ∷ parts) left ≡ (if list_any (λ p. is_part p part) kept then left - left % weight_of part else 0)
-        + kept_in kept parts (left % weight_of part)) [
+    → kept_in kept (part ∷ parts) left ≡ (if list_any (λ p. is_part p part) kept then left - left % weight_of part else 0)
+    + kept_in kept parts (left % weight_of part)) [
       | true ↦ λ e. simp (e, quotient_part left (weight_of part))
       | false ↦ λ e. simp e (omega arith)
     ] refl
@@ -84,8 +84,8 @@ truncated_by limit nanos end parts left begin e l =
     let stays = take limit parts in
     let same : left ≡ left_after stays nanos = l ∙ ap (λ ps. left_after ps nanos) (ap (λ n. take n parts) e ∙ take_min limit parts) in
     let cut : nanos_in (take limit (from_first (counts_of all_parts nanos)))
-        ≡ nanos_in (counts_of stays nanos) = ap (λ counts. nanos_in (take limit counts)) (sym begin)
-        ∙ ap nanos_in (take-counts_of limit parts nanos) in
+    ≡ nanos_in (counts_of stays nanos) = ap (λ counts. nanos_in (take limit counts)) (sym begin)
+    ∙ ap nanos_in (take-counts_of limit parts nanos) in
     let whole : nanos_in (counts_of stays nanos) + left_after stays nanos ≡ nanos = nanos_in-counts_of stays nanos in
     let difference : nanos - left ≡ nanos_in (counts_of stays nanos) = omega arith in
     difference ∙ sym cut

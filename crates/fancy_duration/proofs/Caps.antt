@@ -9,7 +9,7 @@ pub min_digits : (ds : List ℕ) (n m : ℕ)
 min_digits [] n m = omega arith
 min_digits (d ∷ ds) n m =
     sym (min_digits ds (min n m * 10 + digit_value d) m) ∙ ap (λ k. min (digits_value_after 10 k ds) m) (same_push n m (digit_value d))
-        ∙ min_digits ds (n * 10 + digit_value d) m
+    ∙ min_digits ds (n * 10 + digit_value d) m
   where
     same_push : (n m d : ℕ) → min (min n m * 10 + d) m ≡ min (n * 10 + d) m
     same_push n m d = omega arith

@@ -54,7 +54,7 @@ counts_begin (part ∷ parts) text h =
     let tail = (unit_of part ++ h.2.blanks) ++ h.1 in
     let begin = digits_begin h.2.digits tail h.2.some_digits h.2.are_digits in
     let split : text ≡ h.2.digits ++ tail = h.4 ∙ ap (λ xs. xs ++ h.1) h.2.joined
-        ∙ append_assoc h.2.digits (unit_of part ++ h.2.blanks) h.1 in
+    ∙ append_assoc h.2.digits (unit_of part ++ h.2.blanks) h.1 in
     (ap (begins_by is_letter) split ∙ begin.0, ap (begins_by is_blank) split ∙ begin.1)
 
 pub is_unit-unit_of : (part : DurationPart) (rest : List ℕ) → begins_by is_letter rest ≡ false
@@ -97,7 +97,7 @@ count_splits parts text rest piece part c h joined =
     let tail : behind is_digit text ≡ unit ++ (c.blanks ++ rest) = ap (behind is_digit) whole ∙ fronts.1 in
     let units = unit_splits unit (c.blanks ++ rest) is in
     let blanks : behind is_blank (c.blanks ++ rest) ≡ rest = behind_of is_blank c.blanks rest c.are_blanks
-        (begins_without is_blank rest begin.1) in
+    (begins_without is_blank rest begin.1) in
     record {
       shorter = omega (arith, ap length tail, ap length whole, length-append c.digits (unit ++ (c.blanks ++ rest)), c.some_digits);
       unit = ap unit_front tail ∙ units.0;
@@ -134,7 +134,7 @@ count_added text tail unit after rest part t some u a r named (parts, h) =
     let letters : unit_front tail ≡ unit_of part = sym u ∙ named in
     let text_split : digits ++ tail ≡ text = ap (λ xs. digits ++ xs) t ∙ leading_and_behind is_digit text in
     let tail_split : tail ≡ unit_of part ++ after = sym (unit_joins tail (unit_letter part tail letters)).1
-        ∙ ap (λ xs. xs ++ unit_behind tail) letters ∙ ap (λ xs. unit_of part ++ xs) (sym a) in
+    ∙ ap (λ xs. xs ++ unit_behind tail) letters ∙ ap (λ xs. unit_of part ++ xs) (sym a) in
     let after_split : after ≡ blanks ++ rest = sym (leading_and_behind is_blank after) ∙ ap (λ xs. blanks ++ xs) (sym r) in
     let lengths : length digits + length tail ≡ length text = sym (length-append digits tail) ∙ ap length text_split in
     let whole : text ≡ (digits ++ (unit_of part ++ blanks)) ++ rest =

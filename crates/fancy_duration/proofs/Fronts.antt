@@ -23,7 +23,7 @@ pub items_behind_digits : (bs : List ℕ) → items_behind true bs ≡ items_beh
 items_behind_digits [] = refl
 items_behind_digits (b ∷ bs) =
     elim (is_digit b) as (λ t. is_digit b ≡ t → items_behind true (b ∷ bs) ≡ items_behind false (behind is_digit (b ∷ bs)))
-        [ true ↦ λ e. simp e (items_behind_digits bs) | false ↦ λ e. simp e ] refl
+    [ true ↦ λ e. simp e (items_behind_digits bs) | false ↦ λ e. simp e ] refl
 
 -- a byte that is no digit
 pub items_of-other : (b : ℕ) (bs : List ℕ) → is_digit b ≡ false → items_of (b ∷ bs) ≡ items_of bs
@@ -53,10 +53,10 @@ pub items_of-unit : (bs : List ℕ) → items_of bs ≡ items_of (unit_behind bs
 items_of-unit [] = refl
 items_of-unit (a ∷ []) =
     elim (is_letter a) as (λ t. is_letter a ≡ t → items_of (a ∷ []) ≡ items_of (unit_behind (a ∷ [])))
-        [ true ↦ λ e. simp e (items_of-other a [] (letter_not_digit a e)) | false ↦ λ e. simp e ] refl
+    [ true ↦ λ e. simp e (items_of-other a [] (letter_not_digit a e)) | false ↦ λ e. simp e ] refl
 items_of-unit (a ∷ b ∷ bs) =
     elim (is_letter a) as (λ t. is_letter a ≡ t → items_of (a ∷ b ∷ bs) ≡ items_of (unit_behind (a ∷ b ∷ bs)))
-        [ true ↦ λ e. after_first e | false ↦ λ e. simp e ] refl
+    [ true ↦ λ e. after_first e | false ↦ λ e. simp e ] refl
   where
     after_first : is_letter a ≡ true → items_of (a ∷ b ∷ bs) ≡ items_of (unit_behind (a ∷ b ∷ bs))
     after_first e =
@@ -73,13 +73,13 @@ pub unit_front_none : (bs : List ℕ) → length (unit_front bs) ≡ 0 → begin
 unit_front_none [] = λ _. refl
 unit_front_none (b ∷ bs) =
     elim (is_letter b) as (λ t. is_letter b ≡ t → length (unit_front (b ∷ bs)) ≡ 0 → is_letter b ≡ false)
-        [ true ↦ λ e. simp e (λ h. absurd (omega arith)) | false ↦ λ e h. e ] refl
+    [ true ↦ λ e. simp e (λ h. absurd (omega arith)) | false ↦ λ e h. e ] refl
 
 pub unit_front_some : (bs : List ℕ) → length (unit_front bs) ≢ 0 → begins_by is_letter bs ≡ true
 unit_front_some [] = λ e. absurd (e refl)
 unit_front_some (b ∷ bs) =
     elim (is_letter b) as (λ t. is_letter b ≡ t → length (unit_front (b ∷ bs)) ≢ 0 → is_letter b ≡ true)
-        [ true ↦ λ e h. e | false ↦ λ e. simp e (λ h. absurd (h refl)) ] refl
+    [ true ↦ λ e h. e | false ↦ λ e. simp e (λ h. absurd (h refl)) ] refl
 
 -- the steps of a search for the first item
 pub passes_other : (b : ℕ) (rest tail : List ℕ) → rest ≡ b ∷ tail → is_digit b ≡ false
@@ -99,7 +99,7 @@ pub finds_item : (b : ℕ) (rest tail after unit end : List ℕ) → rest ≡ b 
 finds_item b rest tail after unit end e digit f g h some =
     let followed : begins_by is_letter (behind is_digit (b ∷ tail)) ≡ true = rw e at (rw f at (unit_front_some after (rw g at some))) in
     rw (h, f, e) (items_of-digits b tail digit followed ∙ ap (λ items. item_at (b ∷ tail) ∷ items)
-        (items_of-unit (behind is_digit (b ∷ tail))))
+    (items_of-unit (behind is_digit (b ∷ tail))))
 
 -- what follows a digit run is shorter
 pub length-after_digits : (b : ℕ) (rest tail after : List ℕ) → rest ≡ b ∷ tail → is_digit b ≡ true

@@ -30,7 +30,7 @@ skips : (digit : Bool) (b : ℕ) (bs : List ℕ)
 skips true b bs h = refl
 skips false b bs h =
     elim (is_digit b) as (λ t. is_digit b ≡ t → items_behind false (b ∷ bs) ≡ items_behind (is_digit b) bs)
-        [ true ↦ λ e. simp (e, h e) | false ↦ λ e. simp e ] refl
+    [ true ↦ λ e. simp (e, h e) | false ↦ λ e. simp e ] refl
 
 items_none : (text : List ℕ) (digit : Bool) → has_no_item text ≡ true → items_behind digit text ≡ []
 items_none [] digit none = refl
@@ -57,7 +57,7 @@ items_within b [] rest digit none maximal =
 items_within b (c ∷ cs) rest digit none maximal =
     let parts = and_parts (not (is_digit b && begins_by is_letter (c ∷ cs))) (has_no_item (c ∷ cs)) none in
     skips digit b ((c ∷ cs) ++ rest) (λ e. no_letter_within b (c ∷ cs) rest e none maximal)
-        ∙ items_within c cs rest (is_digit b) parts.1 maximal
+    ∙ items_within c cs rest (is_digit b) parts.1 maximal
 
 items_of-before : (before rest : List ℕ) → has_no_item before ≡ true
     → ends_by is_digit before ≡ false → items_of (before ++ rest) ≡ items_of rest
@@ -121,7 +121,7 @@ items_of-first (d ∷ ds) unit rest some h u =
     let make : List ℕ → List ℕ → List Item → List Item = λ ds u items. record { digits = ds; unit = u } ∷ items in
     items_of-digits d (ds ++ (unit ++ rest)) digit followed
     ∙ ap (λ xs. make xs (unit_front (behind is_digit ((d ∷ ds) ++ (unit ++ rest))))
-        (items_of (behind is_digit ((d ∷ ds) ++ (unit ++ rest))))) fronts.0
+    (items_of (behind is_digit ((d ∷ ds) ++ (unit ++ rest))))) fronts.0
     ∙ ap (λ xs. make (d ∷ ds) xs (items_of (behind is_digit ((d ∷ ds) ++ (unit ++ rest))))) unit_is
     ∙ ap (λ xs. make (d ∷ ds) unit (items_of xs)) fronts.1
     ∙ ap (λ xs. make (d ∷ ds) unit xs) (items_of-unit (unit ++ rest) ∙ ap items_of units.1)
@@ -142,7 +142,7 @@ pub begins-behind : (test : ℕ → Bool) (bs : List ℕ) → begins_by test (be
 begins-behind test [] = refl
 begins-behind test (b ∷ bs) =
     elim (test b) as (λ t. test b ≡ t → begins_by test (behind test (b ∷ bs)) ≡ false)
-        [ true ↦ λ e. simp e (begins-behind test bs) | false ↦ λ e. simp e ] refl
+    [ true ↦ λ e. simp e (begins-behind test bs) | false ↦ λ e. simp e ] refl
 
 digit_not_letter : (b : ℕ) → digit_value b < 10 → is_letter b ≡ false
 digit_not_letter b h = grind (arith, nat_tests)
@@ -225,7 +225,7 @@ unit_joins [] h = absurd (true≢false (sym h))
 unit_joins (a ∷ []) h = (simp h, simp h)
 unit_joins (a ∷ b ∷ bs) h =
     elim (is_letter b) as (λ t. is_letter b ≡ t → is_unit (unit_front (a ∷ b ∷ bs)) (unit_behind (a ∷ b ∷ bs)) ≡ true
-        × (unit_front (a ∷ b ∷ bs) ++ unit_behind (a ∷ b ∷ bs) ≡ a ∷ b ∷ bs)) [
+    × (unit_front (a ∷ b ∷ bs) ++ unit_behind (a ∷ b ∷ bs) ≡ a ∷ b ∷ bs)) [
       | true ↦ λ e. (simp (h, e), simp (h, e))
       | false ↦ λ e. (simp (h, e), simp (h, e))
     ] refl
@@ -239,7 +239,7 @@ items_at_digit b bs e shorter =
       | true ↦ λ f.
           let units = unit_joins rest f in
           let found : items_of text ≡ item_at text ∷ items_of (unit_behind rest) = items_of-digits b bs e f
-              ∙ ap (λ items. item_at text ∷ items) (items_of-unit rest) in
+          ∙ ap (λ items. item_at text ∷ items) (items_of-unit rest) in
           subst H (sym found) (
             unit_behind rest,
             record {
@@ -255,9 +255,9 @@ items_at_digit b bs e shorter =
           )
       | false ↦ λ f.
           let whole : HasItems (leading is_digit text ++ rest) (items_of rest) = add_digits (leading is_digit text) rest (items_of rest)
-              (front_are_digits text) f (begins-behind is_digit text) (shorter rest within) in
+          (front_are_digits text) f (begins-behind is_digit text) (shorter rest within) in
           let at_text : HasItems text (items_of rest) = let P : List ℕ → Type 0 = λ xs. HasItems xs (items_of rest) in
-              subst P (leading_and_behind is_digit text) whole in
+          subst P (leading_and_behind is_digit text) whole in
           subst H (sym (items_of-digits_alone b bs e f)) at_text
     ] refl
   where

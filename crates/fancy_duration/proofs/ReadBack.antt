@@ -43,7 +43,7 @@ long-long : (c : PartCount) (counts : List PartCount) → is_long (unit_of c.par
     → long_follows (items_in (c ∷ counts)) ≡ (nat_lt 0 c.count || long_follows (items_in counts))
 long-long c counts e =
     long-cons c counts ∙ ap (λ b. (nat_lt 0 c.count && b) || long_follows (items_in counts)) e
-        ∙ ap (λ b. b || long_follows (items_in counts)) (and-true (nat_lt 0 c.count))
+    ∙ ap (λ b. b || long_follows (items_in counts)) (and-true (nat_lt 0 c.count))
 
 -- no part below minutes is long
 none_long : (s ms us ns : ℕ) → long_follows (items_in (below_minutes s ms us ns)) ≡ false
@@ -93,7 +93,7 @@ total_below_months : (w d h mi s ms us ns : ℕ) → w < 2 ^ 64 → d < 2 ^ 64 �
 total_below_months w d h mi s ms us ns fw fd fh fmi fs fms fus fns =
     weighs Weeks w (weight_of Weeks) (of Days d ∷ of Hours h ∷ of Minutes mi ∷ below_minutes s ms us ns) fw (λ b. refl)
     ∙ ap (λ n. w * weight_of Weeks + n) (weighs Days d (weight_of Days) (of Hours h ∷ of Minutes mi ∷ below_minutes s ms us ns) fd
-        (λ b. refl)
+    (λ b. refl)
     ∙ ap (λ n. d * weight_of Days + n) (weighs Hours h (weight_of Hours) (of Minutes mi ∷ below_minutes s ms us ns) fh (λ b. refl)
     ∙ ap (λ n. h * weight_of Hours + n) (total_minutes mi s ms us ns fmi
     ∙ ap (λ n. mi * weight_of Minutes + n) (total_below_minutes s ms us ns fs fms fus fns))))
@@ -112,17 +112,17 @@ total_ten : (y mo w d h mi s ms us ns : ℕ) (b : Bool) → y < 2 ^ 64 → mo < 
     → some_long w d h mi ≡ b
     → total (items_in (below_months w d h mi s ms us ns)) ≡ nanos_in (below_months w d h mi s ms us ns)
     → total (items_in (ten y mo w d h mi s ms us ns)) ≡ y * weight_of Years
-        + (mo * weight_in (codes "m") b + nanos_in (below_months w d h mi s ms us ns))
+    + (mo * weight_in (codes "m") b + nanos_in (below_months w d h mi s ms us ns))
 total_ten y mo w d h mi s ms us ns b fy fmo e below =
     weighs Years y (weight_of Years) (of Months mo ∷ below_months w d h mi s ms us ns) fy (λ b. refl)
     ∙ ap (λ n. y * weight_of Years + n) (total_with_months mo (below_months w d h mi s ms us ns) b fmo
-        (long_below_months w d h mi s ms us ns ∙ e)
+    (long_below_months w d h mi s ms us ns ∙ e)
     ∙ ap (λ n. mo * weight_in (codes "m") b + n) below)
 
 -- the ten counts of a length
 pub breakdown_ten : (n : ℕ)
     → breakdown n ≡ ten (count_of Years n) (count_of Months n) (count_of Weeks n) (count_of Days n) (count_of Hours n) (count_of Minutes n)
-        (count_of Seconds n) (count_of Milliseconds n) (count_of Microseconds n) (count_of Nanoseconds n)
+    (count_of Seconds n) (count_of Milliseconds n) (count_of Microseconds n) (count_of Nanoseconds n)
 unfolding breakdown count_of
 breakdown_ten n = refl
 
@@ -154,7 +154,7 @@ fits_below : (parts : List DurationPart) (left : ℕ) → left < 2 ^ 64 → coun
 fits_below [] left h = refl
 fits_below (part ∷ parts) left h =
     and_from (nat_lt (left / weight_of part) (2 ^ 64)) _ (lt-ltb (left / weight_of part) (2 ^ 64)
-        (omega (arith, div-le_self left (weight_of part))))
+    (omega (arith, div-le_self left (weight_of part))))
     (fits_below parts (left % weight_of part) (omega (arith, mod-le left (weight_of part))))
 
 pub breakdown_fits : (n : ℕ) → n < 2 ^ 64 * 1_000_000_000 → counts_fit (breakdown n) ≡ true
@@ -175,7 +175,7 @@ reads n h =
     let fits : counts_fit (breakdown n) ≡ true = breakdown_fits n h in
     let ten_fit = fits_ten y mo w d ho mi s ms us ns (ap counts_fit (sym (breakdown_ten n)) ∙ fits) in
     let items = ap total (items_unique (items_in (breakdown n)) (length_text n) (written_items n fits))
-        ∙ ap (λ counts. total (items_in counts)) (breakdown_ten n) in
+    ∙ ap (λ counts. total (items_in counts)) (breakdown_ten n) in
     let sum : nanos_in (ten y mo w d ho mi s ms us ns) ≡ n = ap nanos_in (sym (breakdown_ten n)) ∙ breakdown_sum n in
     record {
       long = λ e. omega (arith, items, sum, total_ten y mo w d ho mi s ms us ns true ten_fit.0 ten_fit.1 e ten_fit.2);
@@ -220,9 +220,12 @@ longer_none w d h mi e =
     let pw = or_parts (nat_lt 0 w) (nat_lt 0 d || (nat_lt 0 h || (nat_lt 0 mi || false))) e in
     let pd = or_parts (nat_lt 0 d) (nat_lt 0 h || (nat_lt 0 mi || false)) pw.1 in
     let ph = or_parts (nat_lt 0 h) (nat_lt 0 mi || false) pd.1 in
-    let pmi = or_parts (nat_lt 0 mi) false ph.1 in
-    (omega (arith, ltb-false 0 w pw.0), omega (arith, ltb-false 0 d pd.0), omega (arith, ltb-false 0 h ph.0),
-        omega (arith, ltb-false 0 mi pmi.0))
+    let pmi = or_parts (nat_lt 0 mi) false ph.1 in (
+      omega (arith, ltb-false 0 w pw.0),
+      omega (arith, ltb-false 0 d pd.0),
+      omega (arith, ltb-false 0 h ph.0),
+      omega (arith, ltb-false 0 mi pmi.0),
+    )
 
 -- where months stand alone, they are read as minutes
 pub read_alone : (n : ℕ) → n < 2 ^ 64 * 1_000_000_000 → MonthsStandAlone n
@@ -261,7 +264,7 @@ read_back times fits below = (apart, whole)
     apart : Denotes (length_text (nanos_of times)) times → MonthsStandAlone (nanos_of times) → ⊥
     apart denoted alone =
         let same : nanos_of times ≡ total (items_of (length_text (nanos_of times))) = sum_unique (length_text (nanos_of times))
-            (nanos_of times) denoted.sums in
+        (nanos_of times) denoted.sums in
         absurd (omega (arith, same, read_alone (nanos_of times) bound alone, alone.months))
 
     whole : ¬ (MonthsStandAlone (nanos_of times)) → Denotes (length_text (nanos_of times)) times
@@ -269,6 +272,6 @@ read_back times fits below = (apart, whole)
         let P : ℕ → Type 0 = SumsTo (length_text (nanos_of times)) in
         ⊎_elim
         (λ (same : total (items_of (length_text (nanos_of times))) ≡ nanos_of times).
-            record { sums = subst P same (sum_exists (length_text (nanos_of times))); seconds = fits; nanoseconds = below })
+        record { sums = subst P same (sum_exists (length_text (nanos_of times))); seconds = fits; nanoseconds = below })
         (λ (alone : MonthsStandAlone (nanos_of times)). absurd (apart alone))
         (read_whole (nanos_of times) bound)

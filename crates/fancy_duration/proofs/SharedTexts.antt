@@ -29,9 +29,10 @@ Reduced (c ∷ counts) = (nanos_in counts < weight_of c.part) × Reduced counts
 
 reduced-counts_of : (parts : List DurationPart) (n : ℕ) → Reduced (counts_of parts n)
 reduced-counts_of [] n = tt
-reduced-counts_of (part ∷ parts) n =
-    (omega (arith, nanos_in-counts_of parts (n % weight_of part), mod-lt n (weight_some part)),
-        reduced-counts_of parts (n % weight_of part))
+reduced-counts_of (part ∷ parts) n = (
+  omega (arith, nanos_in-counts_of parts (n % weight_of part), mod-lt n (weight_some part)),
+  reduced-counts_of parts (n % weight_of part),
+)
 
 -- such counts are the counts of the length that they make
 counts_back : (counts : List PartCount) → Reduced counts
@@ -40,7 +41,7 @@ counts_back [] h = refl
 counts_back (c ∷ counts) h =
     let w = weight_of c.part in
     rw (div-mul-add c.count w (nanos_in counts) h.0, mod-mul-add c.count w (nanos_in counts) h.0)
-        (ap (λ cs. c ∷ cs) (counts_back counts h.1))
+    (ap (λ cs. c ∷ cs) (counts_back counts h.1))
 
 -- the counts of a length with months and nothing between, and of the one with minutes in their place
 abbrev with_months : ℕ → ℕ → ℕ → ℕ → ℕ → ℕ → List PartCount
@@ -57,7 +58,7 @@ reduced_minutes : (y k s ms us ns : ℕ) → Reduced (with_months y k s ms us ns
     → Reduced (with_minutes y k s ms us ns)
 reduced_minutes y k s ms us ns h =
     let below : nanos_in (of Seconds s ∷ of Milliseconds ms ∷ of Microseconds us ∷ of Nanoseconds ns ∷ [])
-        < weight_of Minutes = h.1.1.1.1.1.0 in (
+    < weight_of Minutes = h.1.1.1.1.1.0 in (
       omega (arith, h.0, below),
       (
         omega (arith, h.0, below),
@@ -87,10 +88,10 @@ count_in-breakdown part n = refl
 -- the counts of a length whose months stand alone
 alone_counts : (n : ℕ) → MonthsStandAlone n
     → breakdown n ≡ with_months (count_of Years n) (count_of Months n) (count_of Seconds n) (count_of Milliseconds n)
-        (count_of Microseconds n) (count_of Nanoseconds n)
+    (count_of Microseconds n) (count_of Nanoseconds n)
 alone_counts n alone =
     breakdown_ten n ∙ (λ i. ten (count_of Years n) (count_of Months n) (alone.weeks i) (alone.days i) (alone.hours i) (alone.minutes i)
-        (count_of Seconds n) (count_of Milliseconds n) (count_of Microseconds n) (count_of Nanoseconds n))
+    (count_of Seconds n) (count_of Milliseconds n) (count_of Microseconds n) (count_of Nanoseconds n))
 
 -- a length whose months stand alone, and the one that its text is read as
 swaps : (s t y k sec ms us ns : ℕ) → 0 < k → breakdown s ≡ with_months y k sec ms us ns
@@ -99,7 +100,7 @@ swaps s t y k sec ms us ns some bs e =
     let reduced : Reduced (with_months y k sec ms us ns) = subst Reduced bs (breakdown_reduced s) in
     let sum : nanos_in (with_months y k sec ms us ns) ≡ s = ap nanos_in (sym bs) ∙ breakdown_sum s in
     let bt : breakdown t ≡ with_minutes y k sec ms us ns = breakdown_from (with_minutes y k sec ms us ns) t refl
-        (reduced_minutes y k sec ms us ns reduced) (omega (arith, sum, e)) in
+    (reduced_minutes y k sec ms us ns reduced) (omega (arith, sum, e)) in
     let in_s = λ (part : DurationPart). count_in-breakdown part s ∙ ap (count_in part) bs in
     let in_t = λ (part : DurationPart). count_in-breakdown part t ∙ ap (count_in part) bt in
     record {
@@ -143,15 +144,20 @@ shared s t hs ht e differ =
     (λ (whole_s : total (items_of (length_text s)) ≡ s).
     ⊎_elim
     (λ (whole_t : total (items_of (length_text t)) ≡ t). absurd (differ (sym whole_s ∙ same ∙ whole_t)))
-    (λ (alone_t : MonthsStandAlone t). (count_of Months t, inr (alone_swaps t s alone_t
-        (omega (arith, whole_s, same, read_alone t ht alone_t)))))
+    (λ (alone_t : MonthsStandAlone t). (
+      count_of Months t,
+      inr (alone_swaps t s alone_t
+          (omega (arith, whole_s, same, read_alone t ht alone_t))),
+    ))
     (read_whole t ht))
     (λ (alone_s : MonthsStandAlone s).
     ⊎_elim
-    (λ (whole_t : total (items_of (length_text t)) ≡ t). (count_of Months s,
-        inl (alone_swaps s t alone_s (omega (arith, whole_t, same, read_alone s hs alone_s)))))
+    (λ (whole_t : total (items_of (length_text t)) ≡ t). (
+      count_of Months s,
+      inl (alone_swaps s t alone_s (omega (arith, whole_t, same, read_alone s hs alone_s))),
+    ))
     (λ (alone_t : MonthsStandAlone t). absurd (differ (both_alone s t (total (items_of (length_text s))) alone_s alone_t
-        (read_alone s hs alone_s) (omega (arith, same, read_alone t ht alone_t)))))
+    (read_alone s hs alone_s) (omega (arith, same, read_alone t ht alone_t)))))
     (read_whole t ht))
     (read_whole s hs)
 
@@ -173,7 +179,7 @@ same_pieces : (y k s ms us ns : ℕ) → 0 < k
 same_pieces y k s ms us ns some =
     let e : nat_lt 0 k ≡ true = lt-ltb 0 k some in
     elim (nat_lt 0 y) as (λ t. nat_lt 0 y ≡ t → map piece (above_zero (with_months y k s ms us ns))
-        ≡ map piece (above_zero (with_minutes y k s ms us ns))) [
+    ≡ map piece (above_zero (with_minutes y k s ms us ns))) [
       | true ↦ λ f. simp (e, f)
       | false ↦ λ f. simp (e, f)
     ] refl
@@ -190,11 +196,11 @@ swapped k a b h =
     breakdown_ten a ∙ (λ i. ten y (h.first_months i) (h.weeks.0 i) (h.days.0 i) (h.hours.0 i) (h.first_minutes i) s ms us ns) in
     let second : breakdown b ≡ with_minutes y k s ms us ns =
     breakdown_ten b ∙ (λ i. ten (sym h.years i) (h.second_months i) (h.weeks.1 i) (h.days.1 i) (h.hours.1 i) (h.second_minutes i)
-        (sym h.seconds i) (sym h.milliseconds i) (sym h.microseconds i) (sym h.nanoseconds i)) in
+    (sym h.seconds i) (sym h.milliseconds i) (sym h.microseconds i) (sym h.nanoseconds i)) in
     let some_a : a ≢ 0 = λ e. absurd (omega (arith, h.some, h.first_months, ap (count_of Months) e ∙ no_months)) in
     let some_b : b ≢ 0 = λ e. absurd (omega (arith, h.some, h.second_minutes, ap (count_of Minutes) e ∙ no_minutes)) in
     written_counts a some_a ∙ ap text first ∙ ap (join_with_byte 32) (same_pieces y k s ms us ns h.some)
-        ∙ sym (written_counts b some_b ∙ ap text second)
+    ∙ sym (written_counts b some_b ∙ ap text second)
 
 pub collided : (s t : ℕ) → Collide s t → length_text s ≡ length_text t
 collided s t (k, inl h) = swapped k s t h

@@ -17,7 +17,7 @@ pub concat-slice_split : (bs : List ℕ)
 concat-slice_split [] = refl
 concat-slice_split (b ∷ bs) =
     elim (nat_eq b 32) as (λ t. nat_eq b 32 ≡ t → concat (slice_split (λ b. nat_eq b 32) (b ∷ bs))
-        ≡ filter (λ b. not (nat_eq b 32)) (b ∷ bs)) [
+    ≡ filter (λ b. not (nat_eq b 32)) (b ∷ bs)) [
       | true ↦ λ e. simp e (concat-slice_split bs)
       | false ↦ λ e. simp e (concat-onto_first b (slice_split (λ b. nat_eq b 32) bs) ∙ ap (λ xs. b ∷ xs) (concat-slice_split bs))
     ] refl

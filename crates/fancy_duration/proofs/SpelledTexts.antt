@@ -45,7 +45,7 @@ counted_items text (c ∷ cs) (piece, rest, is, more, split) =
     let letter = begins_letter-blanks is.blanks rest is.are_blanks below.1 in
     let whole : text ≡ c.digits ++ (unit_of c.part ++ (is.blanks ++ rest)) =
     split ∙ ap (λ (l : List ℕ). l ++ rest) is.joined ∙ append_assoc c.digits (unit_of c.part ++ is.blanks) rest
-        ∙ ap (λ (l : List ℕ). c.digits ++ l) (append_assoc (unit_of c.part) is.blanks rest) in
+    ∙ ap (λ (l : List ℕ). c.digits ++ l) (append_assoc (unit_of c.part) is.blanks rest) in
     let begin = digits_begin c.digits (unit_of c.part ++ (is.blanks ++ rest)) is.some_digits is.are_digits in (
       (
         is.blanks ++ rest,
@@ -112,16 +112,27 @@ same_sum (c ∷ cs) meant =
     let weight : weight_in (unit_of c.part) (long_follows (map item_of cs)) ≡ weight_of c.part =
     ap (weight_in (unit_of c.part)) (long_later cs) ∙ weight_meant c.part (is_long_behind cs) meant.0 in
     ap (λ (n : ℕ). number_of c.digits * n + total (map item_of cs)) weight
-        ∙ ap (λ (n : ℕ). number_of c.digits * weight_of c.part + n) (same_sum cs meant.1)
+    ∙ ap (λ (n : ℕ). number_of c.digits * weight_of c.part + n) (same_sum cs meant.1)
 
 -- ---- a spelled text is strict, and has this sum
 
 parts_joined : (text : List ℕ) (counts : List LengthCount) → IsJoin IsLengthCount text counts
     → IsJoin IsCount text (map (λ c. c.part) counts)
 parts_joined text [] none = none
-parts_joined text (c ∷ cs) (piece, rest, is, more, split) =
-    (piece, rest, record { digits = c.digits; blanks = is.blanks; some_digits = is.some_digits; are_digits = is.are_digits;
-        are_blanks = is.are_blanks; joined = is.joined }, parts_joined rest cs more, split)
+parts_joined text (c ∷ cs) (piece, rest, is, more, split) = (
+  piece,
+  rest,
+  record {
+    digits = c.digits;
+    blanks = is.blanks;
+    some_digits = is.some_digits;
+    are_digits = is.are_digits;
+    are_blanks = is.are_blanks;
+    joined = is.joined;
+  },
+  parts_joined rest cs more,
+  split,
+)
 
 some_parts : (counts : List LengthCount) → 0 < length counts → 0 < length (map (λ c. c.part) counts)
 some_parts [] some = some
@@ -195,8 +206,12 @@ counts_meant text (part ∷ parts) (piece, rest, is, more, split) =
       are_blanks = is.are_blanks;
       joined = is.joined ∙ ap (λ (l : List ℕ). is.digits ++ (l ++ is.blanks)) (sym (right_unit part long));
     } in
-    record { counts = c ∷ below.counts; join = (piece, rest, first, below.join, split); meant = (right_meant part long, below.meant);
-        same = ap suc below.same }
+    record {
+      counts = c ∷ below.counts;
+      join = (piece, rest, first, below.join, split);
+      meant = (right_meant part long, below.meant);
+      same = ap suc below.same;
+    }
 
 spelled_some : (text : List ℕ) → IsStrict text → (nanos : ℕ) × SpellsLength text nanos
 spelled_some text (inl zero) = (0, inl (zero, refl))

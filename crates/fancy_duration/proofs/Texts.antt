@@ -43,9 +43,12 @@ items_joined (c ∷ []) fits =
     ([], subst P (append-nil (piece c)) first, refl)
 items_joined (c ∷ d ∷ counts) fits =
     let parts = and_parts (nat_lt c.count (2 ^ 64)) (counts_fit (d ∷ counts)) fits in
-    let rest = 32 ∷ join_with_byte 32 (map piece (d ∷ counts)) in
-    (rest, first_piece c rest (ltb-true _ _ parts.0) refl, add_other 32 (join_with_byte 32 (map piece (d ∷ counts)))
-        (map item_of (d ∷ counts)) refl (items_joined (d ∷ counts) parts.1))
+    let rest = 32 ∷ join_with_byte 32 (map piece (d ∷ counts)) in (
+      rest,
+      first_piece c rest (ltb-true _ _ parts.0) refl,
+      add_other 32 (join_with_byte 32 (map piece (d ∷ counts)))
+          (map item_of (d ∷ counts)) refl (items_joined (d ∷ counts) parts.1),
+    )
 
 pub above_fits : (counts : List PartCount) → counts_fit counts ≡ true → counts_fit (above_zero counts) ≡ true
 above_fits [] fits = refl
@@ -78,7 +81,7 @@ pub total-cons : (c : PartCount) (counts : List PartCount) → c.count < 2 ^ 64
     → total (items_in (c ∷ counts)) ≡ c.count * weight_in (unit_of c.part) (long_follows (items_in counts)) + total (items_in counts)
 total-cons c counts fits =
     elim (nat_lt 0 c.count) as (λ t. nat_lt 0 c.count ≡ t → total (items_in (c ∷ counts))
-        ≡ c.count * weight_in (unit_of c.part) (long_follows (items_in counts)) + total (items_in counts)) [
+    ≡ c.count * weight_in (unit_of c.part) (long_follows (items_in counts)) + total (items_in counts)) [
       | true ↦ λ e. simp e (ap (λ n. n * weight_in (unit_of c.part) (long_follows (items_in counts)) + total (items_in counts))
           (decimal_is_IsNumeral c.count fits).1)
       | false ↦ λ e. let z : c.count ≡ 0 = omega (arith, ltb-false 0 c.count e) in simp e (rw z (omega arith))
@@ -88,7 +91,7 @@ pub long-cons : (c : PartCount) (counts : List PartCount)
     → long_follows (items_in (c ∷ counts)) ≡ ((nat_lt 0 c.count && is_long (unit_of c.part)) || long_follows (items_in counts))
 long-cons c counts =
     elim (nat_lt 0 c.count) as (λ t. nat_lt 0 c.count ≡ t → long_follows (items_in (c ∷ counts))
-        ≡ ((nat_lt 0 c.count && is_long (unit_of c.part)) || long_follows (items_in counts))) [
+    ≡ ((nat_lt 0 c.count && is_long (unit_of c.part)) || long_follows (items_in counts))) [
       | true ↦ λ e. simp e
       | false ↦ λ e. simp e
     ] refl

@@ -49,20 +49,25 @@ kept_within : (kept parts : List DurationPart) (n : ℕ) → kept_in kept parts 
 kept_within kept [] n = omega (arith, kept_in-none kept n)
 kept_within kept (part ∷ parts) n =
     let w = weight_of part in
-    omega (arith, kept_in-cons kept part parts n, at_most (list_any (λ p. is_part p part) kept) (n - n % w), kept_within kept parts (n % w),
-        div-add-mod' n w)
+    omega (
+      arith,
+      kept_in-cons kept part parts n,
+      at_most (list_any (λ p. is_part p part) kept) (n - n % w),
+      kept_within kept parts (n % w),
+      div-add-mod' n w,
+    )
 
 kept_twice : (kept parts : List DurationPart) (n : ℕ)
     → kept_in kept parts (kept_in kept parts n) ≡ kept_in kept parts n
 kept_twice kept [] n = kept_in-none kept (kept_in kept [] n) ∙ sym (kept_in-none kept n)
 kept_twice kept (part ∷ parts) n =
     elim (list_any (λ p. is_part p part) kept) as (λ t. list_any (λ p. is_part p part) kept ≡ t
-        → kept_in kept (part ∷ parts) (kept_in kept (part ∷ parts) n) ≡ kept_in kept (part ∷ parts) n) [
+    → kept_in kept (part ∷ parts) (kept_in kept (part ∷ parts) n) ≡ kept_in kept (part ∷ parts) n) [
       | true ↦ λ e.
           let once : kept_in kept (part ∷ parts) n ≡ n - n % w + r = rw e at (kept_in-cons kept part parts n) in
           let rest : (n - n % w + r) % w ≡ r = whole_mod n r w (weight_some part) low in
           let again : kept_in kept (part ∷ parts) (n - n % w + r) ≡ (n - n % w + r - (n - n % w + r) % w)
-              + kept_in kept parts ((n - n % w + r) % w) = rw e at (kept_in-cons kept part parts (n - n % w + r)) in
+          + kept_in kept parts ((n - n % w + r) % w) = rw e at (kept_in-cons kept part parts (n - n % w + r)) in
           let same : kept_in kept parts ((n - n % w + r) % w) ≡ r = ap (kept_in kept parts) rest ∙ kept_twice kept parts (n % w) in
           ap (kept_in kept (part ∷ parts)) once ∙ (omega (arith, again, same, rest, once))
       | false ↦ λ e.
@@ -129,7 +134,7 @@ leading_again : (limit : ℕ) (part : DurationPart) (parts : List DurationPart) 
 leading_again zero part parts n high = refl
 leading_again (suc limit) part parts n high =
     let still : weight_of part ≤ first_in (suc limit) (part ∷ parts) n = omega
-        (arith, quotient_whole n (weight_of part) (weight_some part) high) in
+    (arith, quotient_whole n (weight_of part) (weight_some part) high) in
     leading-high (suc limit) part parts (first_in (suc limit) (part ∷ parts) n) still ∙ first_twice (suc limit) (part ∷ parts) n
 
 leading_twice : (limit : ℕ) (parts : List DurationPart) (n : ℕ)
@@ -142,7 +147,7 @@ leading_twice limit (part ∷ parts) n =
     let once = leading-low limit part parts n low in
     let below : leading_in limit parts n < weight_of part = omega (arith, leading_within limit parts n) in
     ap (leading_in limit (part ∷ parts)) once ∙ leading-low limit part parts (leading_in limit parts n) below ∙ leading_twice limit parts n
-        ∙ sym once)
+    ∙ sym once)
     (λ (high : weight_of part ≤ n).
     let once = leading-high limit part parts n high in
     ap (leading_in limit (part ∷ parts)) once ∙ leading_again limit part parts n high ∙ sym once)
@@ -156,7 +161,7 @@ pub filter_twice : (kept : List DurationPart) (n : ℕ)
 filter_twice kept n =
     ap (λ m. times_of (kept_length kept m)) (times_back (kept_length kept n))
     ∙ ap times_of (sym (filtered_all kept (kept_length kept n)) ∙ ap (kept_in kept all_parts) (sym (filtered_all kept n))
-        ∙ kept_twice kept all_parts n ∙ filtered_all kept n)
+    ∙ kept_twice kept all_parts n ∙ filtered_all kept n)
 
 pub truncate_twice : (limit n : ℕ)
     → times_of (front_length limit (nanos_of (times_of (front_length limit n)))) ≡ times_of (front_length limit n)

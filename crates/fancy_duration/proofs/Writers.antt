@@ -51,7 +51,7 @@ one_more : (begun : Bool) (n : ℕ) (part : DurationPart) (words : List (List �
 unfolding count_behind
 one_more begun n part words =
     elim (nat_eq n 0) as (λ t. nat_eq n 0 ≡ t → count_behind begun n part ++ behind (begun || not (n == 0)) words
-        ≡ behind begun ((if n == 0 then [] else ((decimal n ++ unit_of part) ∷ [])) ++ words)) [
+    ≡ behind begun ((if n == 0 then [] else ((decimal n ++ unit_of part) ∷ [])) ++ words)) [
       | true ↦ λ e. simp e (none_more begun words)
       | false ↦ λ e. simp e (some_more begun (decimal n ++ unit_of part) words)
     ] refl
@@ -69,7 +69,7 @@ counts_are begun (part ∷ parts) left =
 -- a length of whole seconds and nanoseconds below a second, by a part of whole seconds
 cut : (part : DurationPart) (secs ns : ℕ) → weight_of part ≡ seconds_of part * 1_000_000_000 → ns < 1_000_000_000
     → ((secs * 1_000_000_000 + ns) / weight_of part ≡ secs / seconds_of part)
-        × ((secs * 1_000_000_000 + ns) % weight_of part ≡ secs % seconds_of part * 1_000_000_000 + ns)
+    × ((secs * 1_000_000_000 + ns) % weight_of part ≡ secs % seconds_of part * 1_000_000_000 + ns)
 cut Years secs ns whole h = (omega arith, omega arith)
 cut Months secs ns whole h = (omega arith, omega arith)
 cut Weeks secs ns whole h = (omega arith, omega arith)
@@ -97,7 +97,7 @@ AreWhole (part ∷ parts) = (weight_of part ≡ seconds_of part * 1_000_000_000)
 in_seconds : (begun : Bool) (parts : List DurationPart) (secs ns : ℕ) → AreWhole parts → ns < 1_000_000_000
     → counts_behind weight_of begun (parts ++ short_parts) (secs * 1_000_000_000 + ns)
     ≡ counts_behind seconds_of begun parts secs ++ counts_behind weight_of (begun_after begun parts secs) short_parts
-        (seconds_after parts secs * 1_000_000_000 + ns)
+    (seconds_after parts secs * 1_000_000_000 + ns)
 in_seconds begun [] secs ns whole h = refl
 in_seconds begun (part ∷ parts) secs ns whole h =
     let n = secs / seconds_of part in
@@ -109,8 +109,8 @@ in_seconds begun (part ∷ parts) secs ns whole h =
     first
     ∙ ap (λ (more : List ℕ). count_behind begun n part ++ more) (in_seconds (begun || not (n == 0)) parts rest ns whole.1 h)
     ∙ sym (append_assoc (count_behind begun n part) (counts_behind seconds_of (begun || not (n == 0)) parts rest)
-        (counts_behind weight_of (begun_after begun (part ∷ parts) secs) short_parts
-        (seconds_after (part ∷ parts) secs * 1_000_000_000 + ns)))
+    (counts_behind weight_of (begun_after begun (part ∷ parts) secs) short_parts
+    (seconds_after (part ∷ parts) secs * 1_000_000_000 + ns)))
 
 not_none : (n : ℕ) → nat_eq (suc n) 0 ≡ false
 not_none n = ne_eqb (suc n) 0 (λ e. omega (arith, e))
@@ -146,19 +146,19 @@ begun_by_seconds (suc secs) false e =
 -- the counts of whole seconds, then those below a second
 pub pushed : (secs ns : ℕ) → ns < 1_000_000_000 → (nanos_of (secs, ns) ≢ 0)
     → counts_behind seconds_of false long_parts secs ++ counts_behind weight_of (not (secs == 0)) short_parts ns
-        ≡ length_text (nanos_of (secs, ns))
+    ≡ length_text (nanos_of (secs, ns))
 unfolding length_text
 pushed secs ns h some =
     let none_left : seconds_after long_parts secs * 1_000_000_000 + ns ≡ ns = omega arith in
     let e : nat_eq (nanos_of (secs, ns)) 0 ≡ false = ne_eqb (nanos_of (secs, ns)) 0 some in
     let whole : counts_behind weight_of false all_parts (secs * 1_000_000_000 + ns)
-        ≡ join_with_byte 32 (length_words all_parts (secs * 1_000_000_000 + ns)) = counts_are false all_parts (secs * 1_000_000_000 + ns) in
+    ≡ join_with_byte 32 (length_words all_parts (secs * 1_000_000_000 + ns)) = counts_are false all_parts (secs * 1_000_000_000 + ns) in
     let split = in_seconds false long_parts secs ns (refl, (refl, (refl, (refl, (refl, (refl, (refl, tt))))))) h in
     let same = ap (λ (t : Bool). counts_behind seconds_of false long_parts secs
-        ++ counts_behind weight_of t short_parts (seconds_after long_parts secs * 1_000_000_000 + ns))
-        (begun_by_seconds secs (begun_after false long_parts secs) refl) in
+    ++ counts_behind weight_of t short_parts (seconds_after long_parts secs * 1_000_000_000 + ns))
+    (begun_by_seconds secs (begun_after false long_parts secs) refl) in
     simp e (ap (λ (n : ℕ). counts_behind seconds_of false long_parts secs ++ counts_behind weight_of (not (secs == 0)) short_parts n)
-        (sym none_left) ∙ sym same ∙ sym split ∙ whole)
+    (sym none_left) ∙ sym same ∙ sym split ∙ whole)
 
 pub pushed_nothing : (secs ns : ℕ) → secs ≡ 0 → ns ≡ 0 → codes "0" ≡ length_text (nanos_of (secs, ns))
 unfolding length_text

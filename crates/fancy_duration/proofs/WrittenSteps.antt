@@ -16,10 +16,10 @@ above (suc n) e = omega arith
 -- one count goes on in front where it isn't 0
 one_more : (n : ℕ) (part : DurationPart) (counts : List PartCount) (words : List (List ℕ)) → words ≡ map piece (above_zero counts)
     → (if n == 0 then [] else ((decimal n ++ unit_of part) ∷ [])) ++ words
-        ≡ map piece (above_zero (record { part = part; count = n } ∷ counts))
+    ≡ map piece (above_zero (record { part = part; count = n } ∷ counts))
 one_more n part counts words more =
     elim (nat_eq n 0) as (λ t. nat_eq n 0 ≡ t → (if n == 0 then [] else ((decimal n ++ unit_of part) ∷ [])) ++ words
-        ≡ map piece (above_zero (record { part = part; count = n } ∷ counts))) [
+    ≡ map piece (above_zero (record { part = part; count = n } ∷ counts))) [
       | true ↦ λ e. rw (eqb-true n 0 e) more
       | false ↦ λ e. simp (e, lt-ltb 0 n (above n e)) (ap (λ (ws : List (List ℕ)). (decimal n ++ unit_of part) ∷ ws) more)
     ] refl

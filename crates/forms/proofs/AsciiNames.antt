@@ -68,7 +68,7 @@ line_utf8 : (line : List ℕ) (from to : Form) (text : List ℕ) → HasNames li
 line_utf8 line from to text h utf8 =
     let rest : IsUtf8 (name_of to ++ h.tail) = utf8_with (name_of to) h.tail (small_name to) (tail_utf8 text h.tail h.rest utf8) in
     subst IsUtf8 (sym h.joined) (utf8_with (name_of from) (codes " " ++ (name_of to ++ h.tail)) (small_name from)
-        (utf8_with (codes " ") (name_of to ++ h.tail) refl rest))
+    (utf8_with (codes " ") (name_of to ++ h.tail) refl rest))
 
 utf8_of_line : (line : List ℕ) (from to : Form) (text : List ℕ) → HasNames line from to text → IsUtf8 line → IsUtf8 text
 utf8_of_line line from to text h utf8 =
@@ -81,8 +81,12 @@ pub reply_of_names : (line : List ℕ) (from to : Form) (text reply : List ℕ) 
 reply_of_names line from to text reply refused h (inl (bad, told, is)) =
     inl (λ f t other asked. bad (utf8_of_line line from to text h asked.0), told)
 reply_of_names line from to text reply refused h (inr (answer, utf8, is, told, refuses)) =
-    let parts : HasRequest line from to text = record { tail = h.tail; utf8 = line_utf8 line from to text h utf8; rest = h.rest;
-        joined = h.joined } in
+    let parts : HasRequest line from to text = record {
+      tail = h.tail;
+      utf8 = line_utf8 line from to text h utf8;
+      rest = h.rest;
+      joined = h.joined;
+    } in
     inr (from, to, text, answer, whole line from to text parts, is, told)
 
 -- ---- a line of two names and a text
@@ -95,9 +99,9 @@ pub asks_text : (from to : Form) (text : List ℕ) → IsUtf8 text → IsRequest
     ((name_of from ++ (codes " " ++ name_of to)) ++ (codes " " ++ text)) from to text
 asks_text from to text utf8 =
     let rest : IsUtf8 (name_of to ++ (codes " " ++ text)) = utf8_with (name_of to) (codes " " ++ text) (small_name to)
-        (utf8_with (codes " ") text refl utf8) in
+    (utf8_with (codes " ") text refl utf8) in
     let all = utf8_with (name_of from) (codes " " ++ (name_of to ++ (codes " " ++ text))) (small_name from)
-        (utf8_with (codes " ") (name_of to ++ (codes " " ++ text)) refl rest) in
+    (utf8_with (codes " ") (name_of to ++ (codes " " ++ text)) refl rest) in
     (subst IsUtf8 (sym (spelled from to text)) all, inr refl)
 
 pub asks_nothing : (from to : Form) (text : List ℕ) → (IsUtf8 text → ⊥) → (f t : Form) (other : List ℕ)
@@ -105,5 +109,5 @@ pub asks_nothing : (from to : Form) (text : List ℕ) → (IsUtf8 text → ⊥) 
 asks_nothing from to text bad f t other asked =
     let all = subst IsUtf8 (spelled from to text) asked.0 in
     let rest = utf8_past (codes " ") (name_of to ++ (codes " " ++ text)) refl
-        (utf8_past (name_of from) (codes " " ++ (name_of to ++ (codes " " ++ text))) (small_name from) all) in
+    (utf8_past (name_of from) (codes " " ++ (name_of to ++ (codes " " ++ text))) (small_name from) all) in
     bad (utf8_past (codes " ") text refl (utf8_past (name_of to) (codes " " ++ text) (small_name to) rest))

@@ -32,9 +32,20 @@ IsGoing Says most s t old new first piece kept rest waiting =
 
 pub going_none : {A : Type 0} (Says : A → List ℕ → List ℕ → A → Type 0) (most : ℕ) (s : A) (old : Option (List ℕ))
     (first piece waiting : List ℕ) → waiting ≡ [] → IsGoing Says most s s old old first piece first piece waiting
-going_none Says most s old first piece waiting none part no_feed kept =
-    (part, no_feed, kept, record { answered = []; front = []; written = []; whole = refl; split = refl; outputs = (none, refl);
-        gained = Appends-nil old })
+going_none Says most s old first piece waiting none part no_feed kept = (
+  part,
+  no_feed,
+  kept,
+  record {
+    answered = [];
+    front = [];
+    written = [];
+    whole = refl;
+    split = refl;
+    outputs = (none, refl);
+    gained = Appends-nil old;
+  },
+)
 
 -- the next line was answered
 pub going_put : {A : Type 0} (Says : A → List ℕ → List ℕ → A → Type 0) (most : ℕ) (s t u : A) (a b c : Option (List ℕ))
@@ -53,7 +64,7 @@ going_put Says most s t u a b c first piece kept rest line after before waiting 
     let says : cut most Says t whole text u = subst (λ (l : List ℕ). Says t l text u) cuts puts.1 in
     let behind : now ++ rest ≡ ended ++ after =
     ap (λ (l : List ℕ). now ++ l) split ∙ (sym (append_assoc now line (codes "\n" ++ after)) ∙ sym (append_assoc whole (codes "\n") after))
-        in (
+    in (
       [],
       tt,
       sym (take_nil most),
@@ -78,9 +89,9 @@ going_front Says most s t a b c first piece kept rest waiting going f part no_fe
     let g = going part no_feed was in
     let h = g.3 in
     let split : whole_lines (part ++ piece) ≡ h.answered ++ whole_lines (g.0 ++ rest) = ap whole_lines h.split
-        ∙ whole_lines_behind h.answered h.front (g.0 ++ rest) h.whole in
+    ∙ whole_lines_behind h.answered h.front (g.0 ++ rest) h.whole in
     front_at (cut most Says) s t (whole_lines (part ++ piece)) h.answered
-        (whole_lines (g.0 ++ rest)) h.written waiting a b c h.outputs split h.gained f
+    (whole_lines (g.0 ++ rest)) h.written waiting a b c h.outputs split h.gained f
 
 -- the same with the output for the next line
 going_next : {A : Type 0} (Says : A → List ℕ → List ℕ → A → Type 0) (most : ℕ) (s t u : A) (a b c : Option (List ℕ))
@@ -95,16 +106,16 @@ going_next Says most s t u a b c first piece kept rest line after before text go
     let cuts : take most (kept ++ line) ≡ take most whole = ap (λ (l : List ℕ). take most (l ++ line)) g.2 ∙ take_front most now line in
     let says : cut most Says t whole text u = subst (λ (l : List ℕ). Says t l text u) cuts next in
     let behind : now ++ rest ≡ whole ++ (codes "\n" ++ after) = ap (λ (l : List ℕ). now ++ l) split
-        ∙ sym (append_assoc now line (codes "\n" ++ after)) in
+    ∙ sym (append_assoc now line (codes "\n" ++ after)) in
     let lines_here : whole_lines (now ++ rest) ≡ whole ∷ whole_lines after = ap whole_lines behind
-        ∙ feed_whole whole after (no_feed-append now line g.1 no_feed) in
+    ∙ feed_whole whole after (no_feed-append now line g.1 no_feed) in
     let all : whole_lines (part ++ piece) ≡ (h.answered ++ whole ∷ []) ++ whole_lines after =
     ap whole_lines h.split ∙ (whole_lines_behind h.answered h.front (now ++ rest) h.whole
-        ∙ (ap (λ (l : List (List ℕ)). h.answered ++ l) lines_here ∙ sym (append_assoc h.answered (whole ∷ []) (whole_lines after)))) in
+    ∙ (ap (λ (l : List (List ℕ)). h.answered ++ l) lines_here ∙ sym (append_assoc h.answered (whole ∷ []) (whole_lines after)))) in
     front_at (cut most Says) s u (whole_lines (part ++ piece)) (h.answered ++ whole ∷ []) (whole_lines after) h.written
-        (before ++ text) a b c
+    (before ++ text) a b c
     (subst (λ (l : List ℕ). AreOutputs (cut most Says) s (h.answered ++ whole ∷ []) l u) (append_assoc h.written before text)
-        (outputs_push (cut most Says) s t u h.answered whole (h.written ++ before) text h.outputs says))
+    (outputs_push (cut most Says) s t u h.answered whole (h.written ++ before) text h.outputs says))
     all h.gained f
 
 pub going_fails : {A : Type 0} (Says : A → List ℕ → List ℕ → A → Type 0) (most : ℕ) (s t : A) (a b c : Option (List ℕ))
@@ -114,7 +125,7 @@ pub going_fails : {A : Type 0} (Says : A → List ℕ → List ℕ → A → Typ
 going_fails Says most s t a b c first piece kept rest line after before going no_feed split fails part part_no_feed was =
     ⊎_elim (λ f. going_front Says most s t a b c first piece kept rest before going f part part_no_feed was)
     (λ n. going_next Says most s t n.1 a b c first piece kept rest line after before n.0 going no_feed split n.2 n.3 part part_no_feed was)
-        fails
+    fails
 
 -- where all that waits was written, the whole lines were answered
 pub going_all : {A : Type 0} (Says : A → List ℕ → List ℕ → A → Type 0) (most : ℕ) (s t : A) (a b c : Option (List ℕ))
@@ -155,9 +166,11 @@ last_answered Says s t a b c kept before waiting none some puts written most par
     let same : text ≡ m.front ++ waiting = ap (λ (l : List ℕ). l ++ text) (sym none) ∙ m.split in
     let says : cut most Says s part text t = subst (λ (l : List ℕ). Says s l text t) was puts.1 in
     subst (λ (l : List (List ℕ)). GainsOutputs (cut most Says) s l t a c)
-        (sym (part_alone part no_feed (some_kept most kept part was some)))
-    (m.front ++ waiting, (text, [], t, says, (refl, refl), sym same ∙ sym (append-nil text)),
-        Appends-trans a b c m.front waiting m.gained written)
+    (sym (part_alone part no_feed (some_kept most kept part was some))) (
+      m.front ++ waiting,
+      (text, [], t, says, (refl, refl), sym same ∙ sym (append-nil text)),
+      Appends-trans a b c m.front waiting m.gained written,
+    )
 
 -- so many first bytes of the only output were written
 last_front : {A : Type 0} (Says : A → List ℕ → List ℕ → A → Type 0) (s t : A) (a c : Option (List ℕ)) (kept before text : List ℕ)
@@ -167,8 +180,8 @@ last_front Says s t a c kept before text none some next f most part most_some no
     let says : cut most Says s part text t = subst (λ (l : List ℕ). Says s l text t) was next in
     let same : before ++ text ≡ text = ap (λ (l : List ℕ). l ++ text) none in
     front_at (cut most Says) s t (lines part) (part ∷ []) [] [] (before ++ text) a a c
-        (text, [], t, says, (refl, refl), same ∙ sym (append-nil text)) (part_alone part no_feed (some_kept most kept part was some))
-        (Appends-nil a) f
+    (text, [], t, says, (refl, refl), same ∙ sym (append-nil text)) (part_alone part no_feed (some_kept most kept part was some))
+    (Appends-nil a) f
 
 last_no_front : {A : Type 0} (Says : A → List ℕ → List ℕ → A → Type 0) (s : A) (a c : Option (List ℕ)) (kept before : List ℕ) → before ≡ []
     → AppendsFront a c before → FailsLast Says s kept a c
@@ -191,5 +204,5 @@ last_unwritten Says s t a b c kept before waiting none some puts f most part mos
     let same : m.front ++ waiting ≡ text = sym m.split ∙ ap (λ (l : List ℕ). l ++ text) none in
     let says : cut most Says s part text t = subst (λ (l : List ℕ). Says s l text t) was puts.1 in
     front_at (cut most Says) s t (lines part) (part ∷ []) [] m.front waiting a b c
-        (text, [], t, says, (refl, refl), same ∙ sym (append-nil text))
-        (part_alone part no_feed (some_kept most kept part was some)) m.gained f
+    (text, [], t, says, (refl, refl), same ∙ sym (append-nil text))
+    (part_alone part no_feed (some_kept most kept part was some)) m.gained f

@@ -26,8 +26,17 @@ pub record IsFilled (bytes rest old new : List ℕ) (written : ℕ) : Type 0 whe
 
 pub filled_none : (bytes old : List ℕ) → IsFilled bytes bytes old old 0
 filled_none bytes old =
-    record { answered = []; front = []; replies = []; whole = refl; split = refl; joined = refl; buffer = refl; within = omega arith;
-        count = refl }
+    record {
+      answered = [];
+      front = [];
+      replies = [];
+      whole = refl;
+      split = refl;
+      joined = refl;
+      buffer = refl;
+      within = omega arith;
+      count = refl;
+    }
 
 -- a buffer is as long as it was
 pub filled_length : (bytes rest old new : List ℕ) (written : ℕ) → IsFilled bytes rest old new written → length new ≡ length old
@@ -48,10 +57,10 @@ filled_put bytes rest old new newer after written len h puts =
     let same = filled_length bytes rest old new written h in
     let sum : length (h.replies ++ reply) ≡ end = let a = length-append h.replies reply in omega (arith, h.count) in
     let before : take written new ≡ h.replies = ap (take written) h.buffer
-        ∙ take_at h.replies (drop (length h.replies) old) written (sym h.count) in
+    ∙ take_at h.replies (drop (length h.replies) old) written (sym h.count) in
     let behind : drop end new ≡ drop (length (h.replies ++ reply)) old =
     ap (drop end) h.buffer ∙ (drop-append-drop (length h.replies) old h.replies end (omega (arith, h.count)) refl
-        ∙ ap (λ n. drop n old) (sym sum)) in
+    ∙ ap (λ n. drop n old) (sym sum)) in
     record {
       answered = h.answered ++ next.line ∷ [];
       front = h.front ++ ended;
@@ -75,7 +84,7 @@ filled_all bytes rest old new used written room h left stops count =
     let same = filled_length bytes rest old new written h in
     let front : lines h.front ≡ h.answered ++ [] = ap lines (sym (append-nil h.front)) ∙ lines_behind h.answered h.front [] h.whole in
     let whole : whole_lines h.front ≡ h.answered ++ [] = ap whole_lines (sym (append-nil h.front))
-        ∙ whole_lines_behind h.answered h.front [] h.whole in
+    ∙ whole_lines_behind h.answered h.front [] h.whole in
     let room_left : room ≡ length old - length h.replies = omega (arith, h.count) in
     record {
       front = h.front;
@@ -99,5 +108,11 @@ stops_at_part bytes room part = inl (part_not_whole bytes part)
 pub stops_at_long : (bytes line reply after : List ℕ) (room : ℕ) → NoFeed line → bytes ≡ line ++ (codes "\n" ++ after)
     → IsReplyLine reply line → room < length reply → Stops bytes room
 stops_at_long bytes line reply after room part split answered long =
-    inr (record { line = line; more = whole_lines after; reply = reply; first = ap whole_lines split ∙ feed_whole line after part;
-        answered = answered; longer = long })
+    inr (record {
+      line = line;
+      more = whole_lines after;
+      reply = reply;
+      first = ap whole_lines split ∙ feed_whole line after part;
+      answered = answered;
+      longer = long;
+    })

@@ -34,8 +34,17 @@ if_taken (Some x) (Some y) given P bytes h = subst P (sym bytes) (h y)
 -- ---- a front of all replies
 
 all_front : (xs : List (List ℕ)) (a b : Option (List ℕ)) → GainsReplies xs a b → GainsFront xs a b
-all_front xs a b h = (h.0, record { answered = xs; others = []; back = []; split = sym (append-nil xs);
-    replies = subst (AreReplies xs) (sym (append-nil h.0)) h.1 }, h.2)
+all_front xs a b h = (
+  h.0,
+  record {
+    answered = xs;
+    others = [];
+    back = [];
+    split = sym (append-nil xs);
+    replies = subst (AreReplies xs) (sym (append-nil h.0)) h.1;
+  },
+  h.2,
+)
 
 longer_front : (xs ys all : List (List ℕ)) (a b : Option (List ℕ)) → all ≡ xs ++ ys → GainsFront xs a b → GainsFront all a b
 longer_front xs ys all a b same h =
@@ -72,7 +81,7 @@ pub each_end_leaves_a_front : (limit : ℕ) (old new : Streams) (end : RunEnd) �
     → IfSome old.left (λ bytes. GainsFront (lines bytes) old.held new.held)
 each_end_leaves_a_front limit old new Done h =
     Consumes-whole old.left new.left h.gave.given (λ bytes. GainsFront (lines bytes) old.held new.held) h.gave.bytes h.stands.0
-        (all_front (lines h.gave.given) old.held new.held h.stands.2)
+    (all_front (lines h.gave.given) old.held new.held h.stands.2)
 each_end_leaves_a_front limit old new ReadFault h =
     if_taken old.left new.left h.gave.given (λ bytes. GainsFront (lines bytes) old.held new.held) h.gave.bytes
     (λ rest. whole_front h.gave.given rest old.held new.held (all_front (whole_lines h.gave.given) old.held new.held h.stands.2))
@@ -85,11 +94,11 @@ each_end_leaves_a_front limit old new WriteFault h =
 each_end_leaves_a_front limit old new TooLong h =
     if_taken old.left new.left h.gave.given (λ bytes. GainsFront (lines bytes) old.held new.held) h.gave.bytes
     (λ rest. cut_front limit h.gave.given rest old.held new.held
-        (all_front (whole_lines (take limit h.gave.given)) old.held new.held h.stands.1))
+    (all_front (whole_lines (take limit h.gave.given)) old.held new.held h.stands.1))
 each_end_leaves_a_front limit old new NoMemory h =
     if_taken old.left new.left h.gave.given (λ bytes. GainsFront (lines bytes) old.held new.held) h.gave.bytes
     (λ rest. subst (λ (s : Streams). GainsFront (lines (h.gave.given ++ rest)) old.held s.held) (sym h.stands.1)
-        (no_front (lines (h.gave.given ++ rest)) old.held))
+    (no_front (lines (h.gave.given ++ rest)) old.held))
 
 -- ---- what decides the end
 
@@ -107,16 +116,27 @@ length_decides_the_end limit old new NoMemory h read write =
 
 pub too_long_is_past_the_limit : (limit : ℕ) (old new : Streams) (end : RunEnd) → Ended limit old new end → old.taken < 2 ^ 63
     → (end ≡ TooLong → old.taken + limit < new.taken) × (old.taken + limit < new.taken → (end ≡ TooLong)
-        ⊎ ((end ≡ WriteFault) × Rose old.write_faults new.write_faults))
-too_long_is_past_the_limit limit old new Done h below = (λ is. absurd cc, λ more. absurd
-    (let count = h.gave.count below in omega (arith, h.stands.1)))
-too_long_is_past_the_limit limit old new ReadFault h below = (λ is. absurd cc, λ more. absurd
-    (let count = h.gave.count below in omega (arith, h.stands.1)))
+    ⊎ ((end ≡ WriteFault) × Rose old.write_faults new.write_faults))
+too_long_is_past_the_limit limit old new Done h below = (
+  λ is. absurd cc,
+  λ more. absurd
+      (let count = h.gave.count below in omega (arith, h.stands.1)),
+)
+too_long_is_past_the_limit limit old new ReadFault h below = (
+  λ is. absurd cc,
+  λ more. absurd
+      (let count = h.gave.count below in omega (arith, h.stands.1)),
+)
 too_long_is_past_the_limit limit old new WriteFault h below = (λ is. absurd cc, λ more. inr (refl, h.stands.0))
-too_long_is_past_the_limit limit old new TooLong h below = (λ is. let count = h.gave.count below in omega (arith, h.stands.0),
-    λ more. inl refl)
-too_long_is_past_the_limit limit old new NoMemory h below = (λ is. absurd cc, λ more. absurd
-    (let none = ap length h.stands.0 in let count = h.gave.count below in omega arith))
+too_long_is_past_the_limit limit old new TooLong h below = (
+  λ is. let count = h.gave.count below in omega (arith, h.stands.0),
+  λ more. inl refl,
+)
+too_long_is_past_the_limit limit old new NoMemory h below = (
+  λ is. absurd cc,
+  λ more. absurd
+      (let none = ap length h.stands.0 in let count = h.gave.count below in omega arith),
+)
 
 -- ---- the same by the status
 

@@ -106,7 +106,7 @@ pub between : (nanos : ℤ) (ticks : ℕ) → IsFromUnixNanos nanos (Ok ticks) �
 between nanos ticks from not =
     let floor = from.ok in
     let next : nanos <ℤ unix_nanos (ticks + 1) = less (unix_nanos (ticks + 1)) nanos
-        (λ h. let more = floor.1 (ticks + 1) h in omega arith) in
+    (λ h. let more = floor.1 (ticks + 1) h in omega arith) in
     let last : nanos ≤ℤ unix_nanos (2 ^ 64 - 1) = no_more (unix_nanos (2 ^ 64 - 1)) nanos (λ h. let e = from.overflow.1 h in cc) in
     let least : pos (100 * ticks) ≤ℤ (nanos -ℤ unix_nanos 0) = let l = floor.0 in omega (arith, ints) in
     not_whole (nanos -ℤ unix_nanos 0) ticks least (omega (arith, ints)) (λ e. not (omega (arith, ints))) (omega (arith, ints))
@@ -143,15 +143,30 @@ held_back : ((ticks : ℕ) → IsFileTime ticks → IsTextOf (decimal ticks) tic
 held_back digits (Instant nanos) ticks w h =
     let count = ticks_held (nanos -ℤ unix_nanos 0) ticks h in
     let same : unix_nanos ticks ≡ nanos = let e = count.0 in omega (arith, ints) in
-    record { meaning = ticks; back = Instant nanos; spelled = digits ticks count.1;
-        valued = sym (worth_within ticks count.1 ∙ ap (λ (z : ℤ). Ok (Instant z)) same); same = refl; again = sym h }
+    record {
+      meaning = ticks;
+      back = Instant nanos;
+      spelled = digits ticks count.1;
+      valued = sym (worth_within ticks count.1 ∙ ap (λ (z : ℤ). Ok (Instant z)) same);
+      same = refl;
+      again = sym h;
+    }
 held_back digits _ ticks w h = absurd (let e : Err Kind ≡ Ok ticks = h in cc)
 
 pub file_times : ((text : List ℕ) (m n : ℕ) → IsTextOf text m → IsTextOf text n → m ≡ n)
     → ((ticks : ℕ) → IsFileTime ticks → IsTextOf (decimal ticks) ticks) → Lawful FileTime
 file_times one digits =
-    lawful_by FileTime IsTextOf (Is worth) (Is held) decimal (record { reads = λ text a h. h; read = λ text a h. h; writes = λ value a h. h;
-        written = λ value a h. h })
-    (record { one = one; one_worth = one_image worth; one_held = one_image held;
-        within = λ text ticks value spelled h. within text ticks value spelled (sym h); back =
-        λ value ticks w h. held_back digits value ticks w (sym h) })
+    lawful_by FileTime IsTextOf (Is worth) (Is held) decimal (record {
+      reads = λ text a h. h;
+      read = λ text a h. h;
+      writes = λ value a h. h;
+      written = λ value a h. h;
+    })
+    (record {
+      one = one;
+      one_worth = one_image worth;
+      one_held = one_image held;
+      within = λ text ticks value spelled h. within text ticks value spelled (sym h);
+      back =
+          λ value ticks w h. held_back digits value ticks w (sym h);
+    })

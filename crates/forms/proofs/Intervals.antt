@@ -174,7 +174,7 @@ interval_held months days micros t h =
     let made : Interval = record { months = months; days = days; microseconds = micros } in
     let same : made ≡ t = same_ok made t parts.1 in
     let range : IsInRange made = record { months = within_32 _ first.0; days = within_32 _ second.0; microseconds = within_64 _ second.1 }
-        in
+    in
     (subst IsInRange same range, ap triple same)
 
 length_held : (nanos : ℕ) (t : Interval) → interval_of_length nanos ≡ Ok t
@@ -185,10 +185,13 @@ length_held nanos t h =
     let second = then_ok (nanos % 1000 == 0) (Ok (length_in_days nanos)) t Precision first.1 in
     let same = same_ok (length_in_days nanos) t second.1 in
     let whole : nanos % 1000 ≡ 0 = let e = second.0 in grind (arith, nat_tests) in
-    let made : IsInRange (length_in_days nanos) = record { months = record { sfits = omega arith }; days = within_32 _ first.0;
-        microseconds = record { sfits = omega arith } } in
+    let made : IsInRange (length_in_days nanos) = record {
+      months = record { sfits = omega arith };
+      days = within_32 _ first.0;
+      microseconds = record { sfits = omega arith };
+    } in
     let long : IsLength nanos (pos 0) (pos (nanos / 86_400_000_000_000))
-        (pos (nanos % 86_400_000_000_000 / 1000)) = (refl, omega (arith, ints)) in
+    (pos (nanos % 86_400_000_000_000 / 1000)) = (refl, omega (arith, ints)) in
     (subst IsInRange same made, subst (λ (u : Interval). IsLength nanos u.months u.days u.microseconds) same long)
 
 abbrev pub IsHeld : Style → Value → Interval → Type 0

@@ -56,13 +56,16 @@ moment_value t m h =
     let clock = h.1 in
     let offset = h.2 in
     let times : time_nanos m.local.time ≡ clock_of t.time = rw (clock.0, clock.1, clock.2)
-        (sym (clock_same t.time.hour t.time.minute t.time.second t.time.millisecond m.local.time.subsec_nanosecond clock.3)) in
+    (sym (clock_same t.time.hour t.time.minute t.time.second t.time.millisecond m.local.time.subsec_nanosecond clock.3)) in
     omega (arith, ints)
 
 pub is_worth : (t : DateTime) (m : FixedMoment) → IsMoment t → IsMomentOf t m
     → Worth t (Ok (Instant (civil_nanos m.local -ℤ m.offset_seconds *ℤ pos 1_000_000_000)))
-is_worth t m real of = inl (record { day = real.0; clock = real.2; offset = real.3 }, real.1,
-    ap (λ (z : ℤ). Ok (Instant z)) (moment_value t m of))
+is_worth t m real of = inl (
+  record { day = real.0; clock = real.2; offset = real.3 },
+  real.1,
+  ap (λ (z : ℤ). Ok (Instant z)) (moment_value t m of),
+)
 
 pub is_out : (t : DateTime) → IsReal t → (IsMoment t → ⊥) → Worth t (Err Range)
 is_out t real isnt = inr (inr (real, (λ day. isnt (real.day, day, real.clock, real.offset)), refl))
@@ -89,8 +92,8 @@ date_short : (year : ℤ) (month day : ℕ) → unsigned_abs year ≤ 9999 → m
 unfolding date_text
 date_short year month day y m d =
     joined (year_text year) _ 5 10 (year_short year y) (joined (codes "-") _ 1 9 (omega arith)
-        (joined (padded_digits 2 month) _ 4 5 (small 2 month (omega arith) m)
-        (joined (codes "-") (padded_digits 2 day) 1 4 (omega arith) (small 2 day (omega arith) d))))
+    (joined (padded_digits 2 month) _ 4 5 (small 2 month (omega arith) m)
+    (joined (codes "-") (padded_digits 2 day) 1 4 (omega arith) (small 2 day (omega arith) d))))
 
 pub short_date : (c : CivilDate) → length (date_text (date_of c)) ≤ 28
 short_date c =
@@ -142,7 +145,7 @@ at_civil laws c nanos same =
     let parts = civil_nanos-parts c in
     let day = laws.day c.date in
     let times : clock_of (utc c).time + c.time.subsec_nanosecond % 1_000_000
-        ≡ time_nanos c.time = clock_within c.time.hour c.time.minute c.time.second c.time.subsec_nanosecond in
+    ≡ time_nanos c.time = clock_within c.time.hour c.time.minute c.time.second c.time.subsec_nanosecond in
     record {
       year = c.date.year;
       month = c.date.month;
@@ -277,7 +280,7 @@ utc_value laws c whole =
     let day = laws.day c.date in
     let millis : c.time.subsec_nanosecond ≡ 1_000_000 * (c.time.subsec_nanosecond / 1_000_000) = omega arith in
     let times : clock_of (utc c).time ≡ time_nanos c.time = clock_same c.time.hour c.time.minute c.time.second
-        (c.time.subsec_nanosecond / 1_000_000) c.time.subsec_nanosecond millis in
+    (c.time.subsec_nanosecond / 1_000_000) c.time.subsec_nanosecond millis in
     omega (arith, ints)
 
 held_back : AreCalendarDates → ((t : DateTime) → IsDateTimeInRange t → IsDateTime (date_time_text t) t) → (value : Value) (t : DateTime)
@@ -319,7 +322,7 @@ pub iso_date_times : ((text : List ℕ) (a b : DateTime) → IsDateTime text a �
     → ((t : DateTime) → IsDateTimeInRange t → IsDateTime (date_time_text t) t) → AreCalendarDates → Lawful IsoDateTime
 iso_date_times one spelled laws =
     lawful_by IsoDateTime IsDateTime Worth Holds date_time_text
-        (record { reads = λ text a h. h; read = λ text a h. h; writes = λ value a h. h; written = λ value a h. h })
+    (record { reads = λ text a h. h; read = λ text a h. h; writes = λ value a h. h; written = λ value a h. h })
     (record {
       one = one;
       one_worth = λ t a b h k. one_judged (IsReal t) (IsCivilDay (day_of t.date)) (Instant (instant_of t)) a b h k;

@@ -105,8 +105,12 @@ held_back laws spelled _ date w h = absurd (let e : Ok date ≡ Err Kind = h in 
 pub iso_dates : ((text : List ℕ) (a b : Date) → IsDate text a → IsDate text b → a ≡ b)
     → ((date : Date) → IsDateInRange date → IsDate (date_text date) date) → AreCalendarDates → Lawful IsoDate
 iso_dates one spelled laws =
-    lawful_by IsoDate IsDate Worth Holds date_text (record { reads = λ text a h. h; read = λ text a h. h; writes = λ value a h. h;
-        written = λ value a h. h })
+    lawful_by IsoDate IsDate Worth Holds date_text (record {
+      reads = λ text a h. h;
+      read = λ text a h. h;
+      writes = λ value a h. h;
+      written = λ value a h. h;
+    })
     (record {
       one = one;
       one_worth = λ date a b h k. one_judged (Exists date) (IsCivilDay (day_of date)) (Day (day_of date)) a b h k;

@@ -40,7 +40,7 @@ triple_within months days micros m d value h =
     let parts = then_ok (nat_lt micros (2 ^ 63)) (Ok (Triple (pos months) (pos days) (pos micros))) value Range h in
     let fits = ltb-true micros (2 ^ 63) parts.0 in
     subst IsWithinBounds (same_ok (Triple (pos months) (pos days) (pos micros)) value parts.1)
-        (record { sfits = m }, (record { sfits = d }, record { sfits = fits }))
+    (record { sfits = m }, (record { sfits = d }, record { sfits = fits }))
 
 -- ---- what a text spells has counts of 32 bits
 
@@ -80,8 +80,12 @@ all_three a b c h = let one = and_parts a (b && c) h in (one.0, and_parts b c on
 pub counts_fit : (months days micros : ℕ) → months / 12 < 2 ^ 32 → days < 2 ^ 32 → micros / 3_600_000_000 < 2 ^ 32
     → micros % 1000 ≡ 0 → counts_of months days micros ≡ Ok (duration_of months days (micros / 1000))
 unfolding counts_of
-counts_fit months days micros y d h whole = rw (lt-ltb (months / 12) (2 ^ 32) y, lt-ltb days (2 ^ 32) d,
-    lt-ltb (micros / 3_600_000_000) (2 ^ 32) h, whole) refl
+counts_fit months days micros y d h whole = rw (
+  lt-ltb (months / 12) (2 ^ 32) y,
+  lt-ltb days (2 ^ 32) d,
+  lt-ltb (micros / 3_600_000_000) (2 ^ 32) h,
+  whole,
+) refl
 
 pub counts_part : (months days micros : ℕ) → months / 12 < 2 ^ 32 → days < 2 ^ 32 → micros / 3_600_000_000 < 2 ^ 32
     → (micros % 1000 ≡ 0 → ⊥) → counts_of months days micros ≡ Err Precision
@@ -154,7 +158,7 @@ counted_worth : (months days millis : ℕ) → millis * 1000 < 2 ^ 63
 counted_worth months days millis h =
     let m : 12 * (months / 12) + months % 12 ≡ months = omega arith in
     let same : micros_of (millis / 3_600_000) (millis / 60_000 % 60) (millis / 1000 % 60) (millis % 1000)
-        ≡ millis * 1000 = parts_back millis in
+    ≡ millis * 1000 = parts_back millis in
     rw (m, same) (triple_fits months days (millis * 1000) h)
 
 abbrev pub AreSpelled : Type 0
@@ -172,9 +176,9 @@ back_of spelled value months days micros d fits h same =
     let back : micros / 1000 * 1000 ≡ micros = omega arith in
     let made : Duration = duration_of months days (micros / 1000) in
     let valued : worth made ≡ Ok (Triple (pos months) (pos days) (pos micros)) = counted_worth months days (micros / 1000) (omega arith)
-        ∙ ap (λ (n : ℕ). Ok (Triple (pos months) (pos days) (pos n))) back in
+    ∙ ap (λ (n : ℕ). Ok (Triple (pos months) (pos days) (pos n))) back in
     let again : held (Triple (pos months) (pos days) (pos micros))
-        ≡ Ok made = counts_fit months days micros h.years h.days_fit h.hours h.whole in
+    ≡ Ok made = counts_fit months days micros h.years h.days_fit h.hours h.whole in
     let whole_back : IsBack value made = record {
       meaning = made;
       back = Triple (pos months) (pos days) (pos micros);
@@ -187,22 +191,26 @@ back_of spelled value months days micros d fits h same =
 
 length_held : (nanos : ℕ) (d : Duration) → held_length nanos ≡ Ok d
     → (nanos / 86_400_000_000_000 < 2 ^ 32) × ((nanos % 1_000_000 ≡ 0)
-        × (duration_of 0 (nanos / 86_400_000_000_000) (nanos % 86_400_000_000_000 / 1_000_000) ≡ d))
+    × (duration_of 0 (nanos / 86_400_000_000_000) (nanos % 86_400_000_000_000 / 1_000_000) ≡ d))
 unfolding held_length
 length_held nanos d h =
     let first = then_ok (nat_lt (nanos / 86_400_000_000_000) (2 ^ 32)) _ d Range h in
     let second = then_ok (nanos % 1_000_000 == 0) (Ok (duration_of 0 (nanos / 86_400_000_000_000) (nanos % 86_400_000_000_000 / 1_000_000)))
-        d Precision first.1 in
-    let whole : nanos % 1_000_000 ≡ 0 = let e = second.0 in grind (arith, nat_tests) in
-    (ltb-true (nanos / 86_400_000_000_000) (2 ^ 32) first.0, (whole,
-        same_ok (duration_of 0 (nanos / 86_400_000_000_000) (nanos % 86_400_000_000_000 / 1_000_000)) d second.1))
+    d Precision first.1 in
+    let whole : nanos % 1_000_000 ≡ 0 = let e = second.0 in grind (arith, nat_tests) in (
+      ltb-true (nanos / 86_400_000_000_000) (2 ^ 32) first.0,
+      (
+        whole,
+        same_ok (duration_of 0 (nanos / 86_400_000_000_000) (nanos % 86_400_000_000_000 / 1_000_000)) d second.1,
+      ),
+    )
 
 thousandth : (n : ℕ) → n * 1000 / 1000 ≡ n
 thousandth n = omega arith
 
 length_parts : (nanos : ℕ) → nanos % 1_000_000 ≡ 0
     → (pos (nanos / 86_400_000_000_000) *ℤ pos 86_400_000_000 +ℤ pos (nanos % 86_400_000_000_000 / 1_000_000 * 1000)) *ℤ pos 1000
-        ≡ pos nanos
+    ≡ pos nanos
 length_parts nanos whole = omega (arith, ints)
 
 held_back : AreSpelled → (value : Value) (d : Duration) → IsWithinBounds value → held value ≡ Ok d → IsBack value d
@@ -231,7 +239,7 @@ pub iso_durations : ((text : List ℕ) (a b : Duration) → IsDuration text a �
     → Lawful IsoDuration
 iso_durations one spelled =
     lawful_by IsoDuration IsDuration (Is worth) (Is held) duration_text
-        (record { reads = λ text a h. h; read = λ text a h. h; writes = λ value a h. h; written = λ value a h. h })
+    (record { reads = λ text a h. h; read = λ text a h. h; writes = λ value a h. h; written = λ value a h. h })
     (record {
       one = one;
       one_worth = one_image worth;

@@ -128,8 +128,10 @@ exactly_read form lawful text result read answer = (λ e. subst (Reads form text
 -- what a form answers of a value is what its writer answers, and no other
 pub exactly_written : (form : Form) → Lawful form → (value : Value) (result : Result (List ℕ) Cause) → Writes form value result
     → (answer : Result (List ℕ) Cause) → (result ≡ answer → Writes form value answer) × (Writes form value answer → result ≡ answer)
-exactly_written form lawful value result written answer = (λ e. subst (Writes form value) e written,
-    λ other. lawful.one_written value result answer written other)
+exactly_written form lawful value result written answer = (
+  λ e. subst (Writes form value) e written,
+  λ other. lawful.one_written value result answer written other,
+)
 
 one_then : (to : Form) → Lawful to → (value : Result Value Cause) (a b : Result (List ℕ) Cause) → Then (Writes to) value a
     → Then (Writes to) value b → a ≡ b
@@ -155,8 +157,10 @@ answer_back from to lf lt text out h = then_back from to lf lt text out h.0 h.1 
 pub exactly_turned : (from to : Form) → Lawful from → Lawful to → (text : List ℕ) (result : Result (List ℕ) Cause)
     → Turns from to text result → (answer : Result (List ℕ) Cause) → (result ≡ answer → Turns from to text answer)
     × (Turns from to text answer → result ≡ answer)
-exactly_turned from to lf lt text result turned answer = (λ e. subst (Turns from to text) e turned,
-    λ other. one_turn from to lf lt text result answer turned other)
+exactly_turned from to lf lt text result turned answer = (
+  λ e. subst (Turns from to text) e turned,
+  λ other. one_turn from to lf lt text result answer turned other,
+)
 
 -- a text is written of what was read alone
 pub only_read : (P : Type 0) (to : Form) (read : Result Value Cause) (written : Result ArrayString Cause)

@@ -9,7 +9,7 @@ copied_front : (rest before after : List ℕ) (n : ℕ) → n ≤ length rest �
 copied_front rest before after n fits copied =
     let same : take n after ≡ take n rest =
     ap (take n) copied ∙ (ap (λ k. take k (take n rest ++ drop n before)) (sym (length-take-le n rest fits))
-        ∙ take-append_seam (take n rest) (drop n before)) in
+    ∙ take-append_seam (take n rest) (drop n before)) in
     sym (ap (λ front. front ++ drop n rest) same ∙ take-append-drop n rest)
 
 -- nothing is copied only where there is nothing or no room
@@ -25,6 +25,7 @@ pub read_moves : (left given items before after : List ℕ) (at n most : ℕ) �
     → (left ≡ take n after ++ drop (at + n) items) × (n ≡ 0 → 0 < length after → drop (at + n) items ≡ [])
 read_moves left given items before after at n most place shown count some copied len =
     let onward : drop n given ≡ drop (at + n) items = ap (drop n) shown ∙ drop-drop n at items in
-    let fits : n ≤ length given = omega arith in
-    (place ∙ (sym shown ∙ (copied_front given before after n fits copied ∙ ap (λ rest. take n after ++ rest) onward)),
-        λ none room. sym onward ∙ copies_some given before n most count some none (omega arith))
+    let fits : n ≤ length given = omega arith in (
+      place ∙ (sym shown ∙ (copied_front given before after n fits copied ∙ ap (λ rest. take n after ++ rest) onward)),
+      λ none room. sym onward ∙ copies_some given before n most count some none (omega arith),
+    )

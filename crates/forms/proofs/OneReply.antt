@@ -24,8 +24,11 @@ asked : (line : List ℕ) (from to : Form) (text : List ℕ) → IsRequest line 
 asked line from to text h =
     let parts = by_tail line from to text h in
     let tail = tail_behind text parts.tail parts.rest in
-    record { rest = tail.0; first = parts.joined ∙ ap (λ (l : List ℕ). name_of from ++ (codes " " ++ (name_of to ++ l))) tail.1;
-        end = tail.2 }
+    record {
+      rest = tail.0;
+      first = parts.joined ∙ ap (λ (l : List ℕ). name_of from ++ (codes " " ++ (name_of to ++ l))) tail.1;
+      end = tail.2;
+    }
 
 one_request : (line : List ℕ) (f g : Form) (s : List ℕ) (h k : Form) (t : List ℕ) → IsRequest line f g s → IsRequest line h k t → (f ≡ h)
     × (g ≡ k) × (s ≡ t)

@@ -23,10 +23,10 @@ outputs_push Says s t u xs line a text h k =
 pub front_at : {A : Type 0} (Says : A → List ℕ → List ℕ → A → Type 0) (s t : A) (all xs others : List (List ℕ)) (written waits : List ℕ)
     (a b c : Option (List ℕ))
     → AreOutputs Says s xs (written ++ waits) t → all ≡ xs ++ others → Appends a b written → AppendsFront b c waits
-        → GainsOutputsFront Says s all a c
+    → GainsOutputsFront Says s all a c
 front_at Says s t all xs others written waits a b c h split gained f =
     let same : written ++ waits ≡ (written ++ f.front) ++ f.back = ap (λ (l : List ℕ). written ++ l) f.split
-        ∙ sym (append_assoc written f.front f.back) in (
+    ∙ sym (append_assoc written f.front f.back) in (
       written ++ f.front,
       record {
         answered = xs;

@@ -57,7 +57,7 @@ by_fit from to in_range text counts spelled true all value h answer turned =
     let P : Result Value Cause → Type 0 = λ v. Then (WritesBy (Is held) (style_text to)) v answer in
     let w : WritesBy (Is held) (style_text to) (triple (sum_of counts)) answer = subst P (h ∙ worth_fits counts (sym all)) turned in
     let is : answer ≡ Ok (style_text to (sum_of counts)) = w.2 ∙ ap (result_map (style_text to))
-        (w.1 ∙ sym (held_triple from in_range text (sum_of counts) denoted)) in
+    (w.1 ∙ sym (held_triple from in_range text (sum_of counts) denoted)) in
     subst (IsIntervalAnswer from to text) (sym is) (sum_of counts, denoted, refl)
 by_fit from to in_range text counts spelled false all value h answer turned =
     let P : Result Value Cause → Type 0 = λ v. Then (WritesBy (Is held) (style_text to)) v answer in
@@ -92,15 +92,18 @@ of_style _ s h = absurd (let e : None ≡ Some s = h in cc)
 
 then_writes : (to : Form) (t : Style) → HasStyle to t → (value : Result Value Cause) (answer : Result (List ℕ) Cause)
     → (Then (WritesBy (Is held) (style_text t)) value answer → Then (Writes to) value answer)
-        × (Then (Writes to) value answer → Then (WritesBy (Is held) (style_text t)) value answer)
+    × (Then (Writes to) value answer → Then (WritesBy (Is held) (style_text t)) value answer)
 then_writes to t rows (Ok value) answer = (rows.written value answer, rows.writes value answer)
 then_writes to t rows (Err cause) answer = (λ h. h, λ h. h)
 
 same_turns : (from to : Form) (s t : Style) → HasStyle from s → HasStyle to t
     → (text : List ℕ) (answer : Result (List ℕ) Cause)
     → (TurnsBy s t text answer → Turns from to text answer) × (Turns from to text answer → TurnsBy s t text answer)
-same_turns from to s t f g text answer = (λ h. (h.0, f.read text h.0 h.1, (then_writes to t g h.0 answer).0 h.2), λ h.
-    (h.0, f.reads text h.0 h.1, (then_writes to t g h.0 answer).1 h.2))
+same_turns from to s t f g text answer = (
+  λ h. (h.0, f.read text h.0 h.1, (then_writes to t g h.0 answer).0 h.2),
+  λ h.
+      (h.0, f.reads text h.0 h.1, (then_writes to t g h.0 answer).1 h.2),
+)
 
 answer_turned : ((s : Style) → IsDenotedInRange s) → (from to : Form) (text : List ℕ) (answer : Result (List ℕ) Cause)
     → IsAnswer from to text answer → Turns from to text answer
@@ -114,8 +117,14 @@ by_styles : ((s : Style) → IsDenotedInRange s) → (from to : Form) (a b : Opt
     → IsAnswer from to text answer
 unfolding IsAnswer
 by_styles in_range from to (Some s) (Some t) f g text answer h =
-    inl (s, t, f, g, onto_answer s t (in_range s) text answer ((same_turns from to s t (of_style from s f) (of_style to t g) text answer).1
-        h))
+    inl (
+      s,
+      t,
+      f,
+      g,
+      onto_answer s t (in_range s) text answer ((same_turns from to s t (of_style from s f) (of_style to t g) text answer).1
+          h),
+    )
 by_styles in_range from to (Some s) None f g text answer h = inr (inr g, h)
 by_styles in_range from to None b f g text answer h = inr (inl f, h)
 

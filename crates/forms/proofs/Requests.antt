@@ -22,8 +22,17 @@ by_tail line from to text (utf8, inr more) = record {
 pub whole : (line : List ℕ) (from to : Form) (text : List ℕ) → HasRequest line from to text → IsRequest line from to text
 whole line from to text h =
     ⊎_elim
-    (λ none. (h.utf8, inl (h.joined ∙ ap (λ (l : List ℕ). name_of from ++ (codes " " ++ l))
-        (ap (λ (l : List ℕ). name_of to ++ l) none.1 ∙ append-nil (name_of to)), none.0)))
-    (λ more. (h.utf8, inr (h.joined ∙ (ap (λ (l : List ℕ). name_of from ++ (codes " " ++ (name_of to ++ l))) more
-        ∙ sym (append_assoc (name_of from) (codes " " ++ name_of to) (codes " " ++ text))))))
+    (λ none. (
+      h.utf8,
+      inl (
+        h.joined ∙ ap (λ (l : List ℕ). name_of from ++ (codes " " ++ l))
+            (ap (λ (l : List ℕ). name_of to ++ l) none.1 ∙ append-nil (name_of to)),
+        none.0,
+      ),
+    ))
+    (λ more. (
+      h.utf8,
+      inr (h.joined ∙ (ap (λ (l : List ℕ). name_of from ++ (codes " " ++ (name_of to ++ l))) more
+          ∙ sym (append_assoc (name_of from) (codes " " ++ name_of to) (codes " " ++ text)))),
+    ))
     h.rest

@@ -41,7 +41,7 @@ pub answers-whole : {A : Type 0} (Says : A → List ℕ → List ℕ → A → T
 answers-whole Says s t bytes part a b h =
     let whole : whole_lines bytes ≡ h.answered =
     ap whole_lines h.split ∙ (whole_lines_behind h.answered h.front part h.whole
-        ∙ (ap (λ (l : List (List ℕ)). h.answered ++ l) (part_not_whole part h.left) ∙ append-nil h.answered)) in
+    ∙ (ap (λ (l : List (List ℕ)). h.answered ++ l) (part_not_whole part h.left) ∙ append-nil h.answered)) in
     subst (λ (l : List (List ℕ)). GainsOutputs Says s l t a b) (sym whole) h.gained
 
 -- with the outputs for what was kept all lines are answered
@@ -56,7 +56,7 @@ pub answers-last_front : {A : Type 0} (Says : A → List ℕ → List ℕ → A 
 answers-last_front Says s t bytes part a b c h last =
     let all : lines bytes ≡ h.answered ++ lines part = ap lines h.split ∙ lines_behind h.answered h.front part h.whole in
     subst (λ (l : List (List ℕ)). GainsOutputsFront Says s l a c) (sym all)
-        (gains-front Says s t h.answered (lines part) a b c h.gained last)
+    (gains-front Says s t h.answered (lines part) a b c h.gained last)
 
 pub answers-front : {A : Type 0} (Says : A → List ℕ → List ℕ → A → Type 0) (s t : A) (bytes part piece : List ℕ) (a b c : Option (List ℕ))
     → Answers Says s t bytes part a b → GainsOutputsFront Says t (whole_lines (part ++ piece)) b c
@@ -64,9 +64,9 @@ pub answers-front : {A : Type 0} (Says : A → List ℕ → List ℕ → A → T
 answers-front Says s t bytes part piece a b c h more =
     let split : bytes ++ piece ≡ h.front ++ (part ++ piece) = ap (λ (l : List ℕ). l ++ piece) h.split ∙ append_assoc h.front part piece in
     let all : whole_lines (bytes ++ piece) ≡ h.answered ++ whole_lines (part ++ piece) = ap whole_lines split
-        ∙ whole_lines_behind h.answered h.front (part ++ piece) h.whole in
+    ∙ whole_lines_behind h.answered h.front (part ++ piece) h.whole in
     subst (λ (l : List (List ℕ)). GainsOutputsFront Says s l a c) (sym all)
-        (gains-front Says s t h.answered (whole_lines (part ++ piece)) a b c h.gained more)
+    (gains-front Says s t h.answered (whole_lines (part ++ piece)) a b c h.gained more)
 
 -- ---- a run on its way
 
@@ -101,7 +101,7 @@ running-start Says s limit now = record {
 pub running-none : {A : Type 0} (Says : A → List ℕ → List ℕ → A → Type 0) (s t : A) (limit room want : ℕ) (old new : Streams)
     (left : Option (List ℕ)) (taken read_faults : ℕ) (part : List ℕ) → IsRunning Says s t limit room old new part []
     → limit ≤ 2 ^ 62 → want ≤ room → Consumes new.left left [] → (new.taken + want < 2 ^ 64 → taken ≡ new.taken)
-        → new.read_faults ≤ read_faults
+    → new.read_faults ≤ read_faults
     → IsRunning Says s t limit room old (record new { left = left; taken = taken; read_faults = read_faults }) part []
 running-none Says s t limit room want old new left taken read_faults part h small asked none same later = record {
   given = h.given;
@@ -128,23 +128,23 @@ next_within limit room m given seen got len some same count =
     let place : limit ≡ length given + (room - 1) = omega arith in
     let cut : take (room - 1) got ≡ take m got = sym (ap (λ k. take k got) count ∙ take_min (room - 1) got) in
     ap (λ k. take k (given ++ got)) place ∙ (take-append-add given got (room - 1)
-        ∙ (ap (λ (l : List ℕ). given ++ l) cut ∙ ap (λ (l : List ℕ). l ++ take m got) same))
+    ∙ (ap (λ (l : List ℕ). given ++ l) cut ∙ ap (λ (l : List ℕ). l ++ take m got) same))
 
 -- a read that gave some bytes into the front of a buffer
 pub running-read : {A : Type 0} (Says : A → List ℕ → List ℕ → A → Type 0) (s t : A) (limit room want m count : ℕ) (old new : Streams)
     (left : Option (List ℕ)) (taken read_faults : ℕ) (part buf behind : List ℕ) → IsRunning Says s t limit room old new part []
     → limit ≤ 2 ^ 62 → 1 ≤ room → want ≤ room → length buf ≡ want → count ≤ want → m ≡ min count (room - 1)
-        → Consumes new.left left (take count buf)
+    → Consumes new.left left (take count buf)
     → (new.taken + want < 2 ^ 64 → taken ≡ new.taken + count) → new.read_faults ≤ read_faults
     → IsRunning Says s t limit (room - count) old (record new { left = left; taken = taken; read_faults = read_faults }) part
-        (take m (buf ++ behind))
+    (take m (buf ++ behind))
 running-read Says s t limit room want m count old new left taken read_faults part buf behind h small some asked size gave cut bytes counted
     later =
     let got : List ℕ = take count buf in
     let length_got : length got ≡ count = length-take-le count buf (omega arith) in
     let sum = length-append h.given got in
     let piece : take m got ≡ take m (buf ++ behind) = take-take m count buf (omega arith)
-        ∙ sym (take-append-le m buf behind (omega arith)) in
+    ∙ sym (take-append-le m buf behind (omega arith)) in
     record {
       given = h.given ++ got;
       seen = h.seen;
@@ -162,7 +162,7 @@ running-read Says s t limit room want m count old new left taken read_faults par
 pub running-answered : {A : Type 0} (Says : A → List ℕ → List ℕ → A → Type 0) (s t u : A) (limit room : ℕ) (old new : Streams)
     (held : Option (List ℕ)) (write_faults : ℕ) (part piece after : List ℕ) → IsRunning Says s t limit room old new part piece
     → Answers Says t u (part ++ piece) after new.held held → new.write_faults ≤ write_faults
-        → IsRunning Says s u limit room old (record new { held = held; write_faults = write_faults }) after []
+    → IsRunning Says s u limit room old (record new { held = held; write_faults = write_faults }) after []
 running-answered Says s t u limit room old new held write_faults part piece after h answers later = record {
   given = h.given;
   seen = h.seen ++ piece;
@@ -180,8 +180,12 @@ running-answered Says s t u limit room old new held write_faults part piece afte
 -- what a run took
 abbrev taken_so : {A : Type 0} (Says : A → List ℕ → List ℕ → A → Type 0) (s t : A) (limit room : ℕ) (old new : Streams)
     (part piece : List ℕ) → IsRunning Says s t limit room old new part piece → Gives old.left new.left old.taken new.taken (limit + 1)
-taken_so Says s t limit room old new part piece h = record { given = h.given; bytes = h.bytes; count = h.count;
-    bound = omega (arith, h.len) }
+taken_so Says s t limit room old new part piece h = record {
+  given = h.given;
+  bytes = h.bytes;
+  count = h.count;
+  bound = omega (arith, h.len);
+}
 
 -- a read failed
 pub ends-unread : {A : Type 0} (Says : A → List ℕ → List ℕ → A → Type 0) (s t : A) (limit room : ℕ) (old new : Streams) (part : List ℕ)
@@ -192,8 +196,12 @@ ends-unread Says s t limit room old new part h some rose =
     let all = all_seen Says s t limit room old new part h some in
     record {
       gave = taken_so Says s t limit room old new part [] h;
-      stands = (rose, omega (arith, h.len), subst (λ (l : List ℕ). GainsOutputs Says s (whole_lines l) t old.held new.held)
-          (sym all) whole);
+      stands = (
+        rose,
+        omega (arith, h.len),
+        subst (λ (l : List ℕ). GainsOutputs Says s (whole_lines l) t old.held new.held)
+            (sym all) whole,
+      );
       reads_later = h.reads_later;
       writes_later = h.writes_later;
     }
@@ -203,7 +211,7 @@ pub ends-done : {A : Type 0} (Says : A → List ℕ → List ℕ → A → Type 
     (held : Option (List ℕ)) (write_faults : ℕ) (part : List ℕ) → IsRunning Says s t limit room old new part [] → 1 ≤ room
     → IsAtEnd new.left
     → GainsOutputs Says t (lines part) u new.held held → new.write_faults ≤ write_faults
-        → EndedBy Says limit s u old (record new { held = held; write_faults = write_faults }) Done
+    → EndedBy Says limit s u old (record new { held = held; write_faults = write_faults }) Done
 ends-done Says s t u limit room old new held write_faults part h some end last later =
     let whole = answers-last Says s t u h.seen part old.held new.held held h.answers last in
     let all = all_seen Says s t limit room old new part h some in
@@ -219,14 +227,20 @@ pub ends-last_unwritten : {A : Type 0} (Says : A → List ℕ → List ℕ → A
     (held : Option (List ℕ)) (write_faults : ℕ) (part : List ℕ) → IsRunning Says s t limit room old new part [] → 1 ≤ room
     → IsAtEnd new.left
     → GainsOutputsFront Says t (lines part) new.held held → Rose new.write_faults write_faults → new.write_faults ≤ write_faults
-        → EndedBy Says limit s u old (record new { held = held; write_faults = write_faults }) WriteFault
+    → EndedBy Says limit s u old (record new { held = held; write_faults = write_faults }) WriteFault
 ends-last_unwritten Says s t u limit room old new held write_faults part h some end last rose later =
     let front = answers-last_front Says s t h.seen part old.held new.held held h.answers last in
     let all = all_seen Says s t limit room old new part h some in
     record {
       gave = taken_so Says s t limit room old new part [] h;
-      stands = (omega (arith, h.writes_later), inr (end, omega (arith, h.len),
-          subst (λ (l : List ℕ). GainsOutputsFront Says s (lines l) old.held held) (sym all) front));
+      stands = (
+        omega (arith, h.writes_later),
+        inr (
+          end,
+          omega (arith, h.len),
+          subst (λ (l : List ℕ). GainsOutputsFront Says s (lines l) old.held held) (sym all) front,
+        ),
+      );
       reads_later = h.reads_later;
       writes_later = omega (arith, h.writes_later);
     }
@@ -235,13 +249,16 @@ ends-last_unwritten Says s t u limit room old new held write_faults part h some 
 pub ends-unwritten : {A : Type 0} (Says : A → List ℕ → List ℕ → A → Type 0) (s t u : A) (limit room : ℕ) (old new : Streams)
     (held : Option (List ℕ)) (write_faults : ℕ) (part piece : List ℕ) → IsRunning Says s t limit room old new part piece
     → GainsOutputsFront Says t (whole_lines (part ++ piece)) new.held held → Rose new.write_faults write_faults
-        → new.write_faults ≤ write_faults → EndedBy Says limit s u old (record new { held = held; write_faults = write_faults }) WriteFault
+    → new.write_faults ≤ write_faults → EndedBy Says limit s u old (record new { held = held; write_faults = write_faults }) WriteFault
 ends-unwritten Says s t u limit room old new held write_faults part piece h more rose later =
     let front = answers-front Says s t h.seen part piece old.held new.held held h.answers more in
     record {
       gave = taken_so Says s t limit room old new part piece h;
-      stands = (omega (arith, h.writes_later), inl (subst (λ (l : List ℕ). GainsOutputsFront Says s (whole_lines l) old.held held)
-          (sym h.within) front));
+      stands = (
+        omega (arith, h.writes_later),
+        inl (subst (λ (l : List ℕ). GainsOutputsFront Says s (whole_lines l) old.held held)
+            (sym h.within) front),
+      );
       reads_later = h.reads_later;
       writes_later = omega (arith, h.writes_later);
     }

@@ -96,9 +96,9 @@ each_of_line p names space mark index t text =
     let end : List ℕ = if index % 10 == 9 then codes "x" else [] in
     let marked : list_all p end ≡ true = each_mark p mark (index % 10 == 9) in
     let body = each p (codes " ") (style_text (style_from index) t ++ end) space
-        (each p (style_text (style_from index) t) end text marked) in
+    (each p (style_text (style_from index) t) end text marked) in
     let second = each p (name_of (form_of (style_to index))) (codes " " ++ (style_text (style_from index) t ++ end))
-        (names (style_to index)) body in
+    (names (style_to index)) body in
     let rest : List ℕ = name_of (form_of (style_to index)) ++ (codes " " ++ (style_text (style_from index) t ++ end)) in
     each p (name_of (form_of (style_from index))) (codes " " ++ rest) (names (style_from index)) (each p (codes " ") rest space second)
 
@@ -127,18 +127,18 @@ line_no_feed : OneLineEach → (index : ℕ) → NoFeed (line_of index (sample_i
 line_no_feed one_line index =
     let t : Interval = sample_interval index in
     no_feed_each (line_of index t) (each_of_line is_no_feed names_no_feed refl refl index t
-        (one_line (style_from index) t (sample_in_range index)))
+    (one_line (style_from index) t (sample_in_range index)))
 
 -- one more line
 pub whole_more : OneLineEach → (index : ℕ) (bytes line : List ℕ) (t : Interval) → AreWhole (sample_lines index) bytes
     → t ≡ sample_interval index → line ≡ line_of index t ++ codes "\n" → AreWhole (sample_lines (index + 1)) (bytes ++ line)
 whole_more one_line index bytes line t whole is ended =
     let next : sample_lines (index + 1) ≡ sample_lines index ++ line_of index (sample_interval index) ∷ [] = ap sample_lines
-        (add-one index) in
+    (add-one index) in
     let piece : IsEnded line (line_of index (sample_interval index))
-        = (line_no_feed one_line index, ended ∙ ap (λ (u : Interval). line_of index u ++ codes "\n") is) in
+    = (line_no_feed one_line index, ended ∙ ap (λ (u : Interval). line_of index u ++ codes "\n") is) in
     subst (λ (lines : List (List ℕ)). AreWhole lines (bytes ++ line)) (sym next)
-        (join_push IsEnded bytes line (sample_lines index) (line_of index (sample_interval index)) whole piece)
+    (join_push IsEnded bytes line (sample_lines index) (line_of index (sample_interval index)) whole piece)
 
 -- ---- what is pushed
 
@@ -158,7 +158,7 @@ made_of_draws made m d u a b c is me de ue = is ∙ rw (me, de, ue) refl
 pub line_pushed : (index : ℕ) (t : Interval) (from to : Style) (text a b c d e f : List ℕ) → from ≡ style_from index → to ≡ style_to index
     → a ≡ [] → b ≡ a ++ (name_of (form_of from) ++ codes " ")
     → c ≡ b ++ (name_of (form_of to) ++ codes " ") → text ≡ style_text from t → d ≡ c ++ text → e ≡ d ++ mark_of index → f ≡ e ++ codes "\n"
-        → f ≡ line_of index t ++ codes "\n"
+    → f ≡ line_of index t ++ codes "\n"
 unfolding line_of
 line_pushed index t from to text a b c d e f hs hu ha hb hc ht hd he hf =
     let first : List ℕ = name_of (form_of from) in
@@ -168,20 +168,20 @@ line_pushed index t from to text a b c d e f hs hu ha hb hc ht hd he hf =
     let texted : d ++ end ≡ c ++ (text ++ end) = ap (λ (l : List ℕ). l ++ end) hd ∙ append_assoc c text end in
     let named : c ++ (text ++ end) ≡ b ++ (second ++ (codes " " ++ (text ++ end))) = pushed b c second (codes " ") (text ++ end) hc in
     let both : b ++ (second ++ (codes " " ++ (text ++ end))) ≡ a
-        ++ (first ++ (codes " " ++ (second ++ (codes " " ++ (text ++ end))))) =
-        pushed a b first (codes " ") (second ++ (codes " " ++ (text ++ end))) hb in
+    ++ (first ++ (codes " " ++ (second ++ (codes " " ++ (text ++ end))))) =
+    pushed a b first (codes " ") (second ++ (codes " " ++ (text ++ end))) hb in
     let all : f ≡ first ++ (codes " " ++ (second ++ (codes " " ++ (text ++ end)))) =
     hf ∙ (marked ∙ (texted ∙ (named ∙ (both ∙ ap (λ (l : List ℕ). l ++ (first ++ (codes " " ++ (second ++ (codes " " ++ (text ++ end))))))
-        ha)))) in
+    ha)))) in
     let body : List ℕ = style_text from t ++ mark_of index in
     let inner : (second ++ (codes " " ++ body)) ++ codes "\n" ≡ second ++ (codes " " ++ (style_text from t ++ end)) =
     joined_on second (codes " ") body (codes "\n") ∙ ap (λ (l : List ℕ). second ++ (codes " " ++ l))
-        (append_assoc (style_text from t) (mark_of index) (codes "\n")) in
+    (append_assoc (style_text from t) (mark_of index) (codes "\n")) in
     let outer : (first ++ (codes " " ++ (second ++ (codes " " ++ body)))) ++ codes "\n" ≡ first
-        ++ (codes " " ++ (second ++ (codes " " ++ (style_text from t ++ end)))) =
+    ++ (codes " " ++ (second ++ (codes " " ++ (style_text from t ++ end)))) =
     joined_on first (codes " ") (second ++ (codes " " ++ body)) (codes "\n") ∙ ap (λ (l : List ℕ). first ++ (codes " " ++ l)) inner in
     let line : f ≡ (first ++ (codes " " ++ (second ++ (codes " " ++ body)))) ++ codes "\n" =
     all ∙ (ap (λ (l : List ℕ). first ++ (codes " " ++ (second ++ (codes " " ++ (l ++ end))))) ht ∙ sym outer) in
     subst (λ (s : Style). f ≡ (name_of (form_of s) ++ (codes " "
-        ++ (name_of (form_of (style_to index)) ++ (codes " " ++ (style_text s t ++ mark_of index))))) ++ codes "\n") hs
+    ++ (name_of (form_of (style_to index)) ++ (codes " " ++ (style_text s t ++ mark_of index))))) ++ codes "\n") hs
     (subst (λ (u : Style). f ≡ (first ++ (codes " " ++ (name_of (form_of u) ++ (codes " " ++ body)))) ++ codes "\n") hu line)

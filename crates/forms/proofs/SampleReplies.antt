@@ -73,7 +73,7 @@ line_utf8 : Texts → (index : ℕ) (t : Interval) → IsInRange t → IsUtf8 (l
 line_utf8 texts index t range =
     IsUtf8-from_ascii (line_of index t)
     (ascii (line_of index t) (each_of_line is_small (λ s. small_name (form_of s)) refl refl index t
-        (all_small (style_text (style_from index) t) (written_in texts (style_from index) t range))))
+    (all_small (style_text (style_from index) t) (written_in texts (style_from index) t range))))
 
 -- the text that a line asks for
 abbrev text_of : ℕ → Interval → List ℕ
@@ -86,8 +86,12 @@ spelled index t = refl
 
 asked : Texts → (index : ℕ) (t : Interval) → IsInRange t → IsRequest (line_of index t) (form_of (style_from index))
     (form_of (style_to index)) (text_of index t)
-asked texts index t range = whole _ _ _ _ (record { tail = codes " " ++ text_of index t; utf8 = line_utf8 texts index t range;
-    rest = inr refl; joined = spelled index t })
+asked texts index t range = whole _ _ _ _ (record {
+  tail = codes " " ++ text_of index t;
+  utf8 = line_utf8 texts index t range;
+  rest = inr refl;
+  joined = spelled index t;
+})
 
 -- ---- its answer
 
@@ -129,20 +133,34 @@ answered : Texts → (index : ℕ) (tenth : Bool) → (index % 10 == 9) ≡ tent
 answered texts index true h =
     let t : Interval = sample_interval index in
     let text : text_of index t ≡ style_text (style_from index) t
-        ++ codes "x" = ap (λ (l : List ℕ). style_text (style_from index) t ++ l) (mark_is index true h) in
+    ++ codes "x" = ap (λ (l : List ℕ). style_text (style_from index) t ++ l) (mark_is index true h) in
     let none : HasNoShape (Shape (style_from index)) (text_of index t) = subst (HasNoShape (Shape (style_from index))) (sym text)
-        (no_shape texts (style_from index) (style_text (style_from index) t)) in
-    inr (form_of (style_from index), form_of (style_to index), text_of index t, Err Syntax, asked texts index t (sample_in_range index),
-        is_answer (style_from index) (style_to index) (text_of index t) (Err Syntax) none, refl)
+    (no_shape texts (style_from index) (style_text (style_from index) t)) in
+    inr (
+      form_of (style_from index),
+      form_of (style_to index),
+      text_of index t,
+      Err Syntax,
+      asked texts index t (sample_in_range index),
+      is_answer (style_from index) (style_to index) (text_of index t) (Err Syntax) none,
+      refl,
+    )
 answered texts index false h =
     let t : Interval = sample_interval index in
     let text : text_of index t ≡ style_text (style_from index) t = ap (λ (l : List ℕ). style_text (style_from index) t ++ l)
-        (mark_is index false h) ∙ append-nil (style_text (style_from index) t) in
+    (mark_is index false h) ∙ append-nil (style_text (style_from index) t) in
     let back : Denotes (Shape (style_from index)) (text_of index t) t = subst (λ (l : List ℕ). Denotes (Shape (style_from index)) l t)
-        (sym text) (texts.back (style_from index) t (sample_in_range index)) in
-    inr (form_of (style_from index), form_of (style_to index), text_of index t, Ok (style_text (style_to index) t),
-        asked texts index t (sample_in_range index), is_answer (style_from index) (style_to index) (text_of index t)
-        (Ok (style_text (style_to index) t)) (t, back, refl), refl)
+    (sym text) (texts.back (style_from index) t (sample_in_range index)) in
+    inr (
+      form_of (style_from index),
+      form_of (style_to index),
+      text_of index t,
+      Ok (style_text (style_to index) t),
+      asked texts index t (sample_in_range index),
+      is_answer (style_from index) (style_to index) (text_of index t)
+          (Ok (style_text (style_to index) t)) (t, back, refl),
+      refl,
+    )
 
 replied : Texts → (index : ℕ) → IsReply (line_of index (sample_interval index)) (sample_reply index)
 replied texts index = answered texts index (index % 10 == 9) refl
@@ -200,20 +218,20 @@ pub are_replies : Texts → (count : ℕ) → AreReplies (sample_lines count) (s
 are_replies texts zero = refl
 are_replies texts (suc index) =
     join_push IsReplyLine (sample_output index) (sample_reply index ++ codes "\n") (sample_lines index)
-        (line_of index (sample_interval index)) (are_replies texts index)
+    (line_of index (sample_interval index)) (are_replies texts index)
     (sample_reply index, replied texts index, refl)
 
 are_whole : Texts → (count : ℕ) → AreWhole (sample_replies count) (sample_output count)
 are_whole texts zero = refl
 are_whole texts (suc index) =
     join_push IsEnded (sample_output index) (sample_reply index ++ codes "\n") (sample_replies index) (sample_reply index)
-        (are_whole texts index)
+    (are_whole texts index)
     (reply_no_feed texts index (index % 10 == 9), refl)
 
 output_lines : Texts → (count : ℕ) → whole_lines (sample_output count) ≡ sample_replies count
 output_lines texts count =
     ap whole_lines (sym (append-nil (sample_output count))) ∙ (whole_lines_behind (sample_replies count) (sample_output count) []
-        (are_whole texts count) ∙ append-nil (sample_replies count))
+    (are_whole texts count) ∙ append-nil (sample_replies count))
 
 -- ---- how many of each kind
 
@@ -237,8 +255,7 @@ counts texts zero = (refl, refl)
 counts texts (suc index) =
     let below = counts texts index in
     let kind : is_refusal (sample_reply index) ≡ (index % 10 == 9) = refused_when texts index (index % 10 == 9) in
-    let more = tenth_more index (refusals (sample_replies index)) (answers (sample_replies index)) (index % 10 == 9) refl below.0 below.1 in
-        (
+    let more = tenth_more index (refusals (sample_replies index)) (answers (sample_replies index)) (index % 10 == 9) refl below.0 below.1 in (
       refusals_push (sample_replies index) (sample_reply index)
           ∙ (ap (λ (b : Bool). refusals (sample_replies index) + (if b then 1 else 0)) kind ∙ more.0),
       answers_push (sample_replies index) (sample_reply index) ∙
@@ -250,6 +267,6 @@ pub tenth_refused : Texts → ((lines : List (List ℕ)) (a b : List ℕ) → Ar
     → (refusals (whole_lines replies) ≡ count / 10) × (answers (whole_lines replies) ≡ count - count / 10)
 tenth_refused texts one count replies h =
     let same : whole_lines replies ≡ sample_replies count = ap whole_lines
-        (one (sample_lines count) replies (sample_output count) h (are_replies texts count)) ∙ output_lines texts count in
+    (one (sample_lines count) replies (sample_output count) h (are_replies texts count)) ∙ output_lines texts count in
     let both = counts texts count in
     (ap refusals same ∙ both.0, ap answers same ∙ both.1)

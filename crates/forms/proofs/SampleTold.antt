@@ -42,7 +42,7 @@ none_left rest none = let same = part_not_whole rest none in (rw same refl, rw s
 pub told_pushed : (lines ok refused bytes : ℕ) (a b c d e f : List ℕ) → a ≡ [] → b ≡ a ++ (codes "lines " ++ decimal lines)
     → c ≡ b ++ (codes " ok " ++ decimal ok)
     → d ≡ c ++ (codes " refused " ++ decimal refused) → e ≡ d ++ (codes " bytes " ++ decimal bytes) → f ≡ e ++ codes "\n"
-        → f ≡ told lines ok refused bytes
+    → f ≡ told lines ok refused bytes
 unfolding told
 told_pushed lines ok refused bytes a b c d e f ha hb hc hd he hf =
     let fourth : List ℕ = codes " bytes " ++ (decimal bytes ++ codes "\n") in

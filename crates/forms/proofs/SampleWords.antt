@@ -25,9 +25,9 @@ done_replies limit count old new input held whole ended left empty full =
     let all : IfSome old.left P = Consumes-whole old.left new.left ended.gave.given P ended.gave.bytes ended.stands.0 ended.stands.2 in
     let gains : GainsReplies (lines input) old.held new.held = subst (λ (l : Option (List ℕ)). IfSome l P) left all in
     let known : Appends (Some []) (Some held) gains.0 = subst (λ (h : Option (List ℕ)). Appends h (Some held) gains.0) empty
-        (subst (λ (h : Option (List ℕ)). Appends old.held h gains.0) full gains.2) in
+    (subst (λ (h : Option (List ℕ)). Appends old.held h gains.0) full gains.2) in
     let replies : AreReplies (sample_lines count) gains.0 = subst (λ (ls : List (List ℕ)). AreReplies ls gains.0)
-        (all_lines count input whole) gains.1 in
+    (all_lines count input whole) gains.1 in
     subst (λ (out : List ℕ). AreReplies (sample_lines count) out) (sym known) replies
 
 -- words ask for one count

@@ -52,8 +52,12 @@ reads_length sums text times strict h given e =
     let seconds = h.seconds in
     let rest = h.nanoseconds in
     let fits : nanos_of times < 2 ^ 64 * 1_000_000_000 = omega arith in
-    inl (nanos_of times, (sums text (nanos_of times)).1 (strict, h.sums), ap (λ (n : ℕ). Ok (Length n)) e
-        ∙ sym (worth_within (nanos_of times) fits))
+    inl (
+      nanos_of times,
+      (sums text (nanos_of times)).1 (strict, h.sums),
+      ap (λ (n : ℕ). Ok (Length n)) e
+          ∙ sym (worth_within (nanos_of times) fits),
+    )
 
 pub reads_too_big : AreSums → (text : List ℕ) → IsStrict text → IsTooBig text → ReadsBy SpellsLength (Is worth) text (Err Range)
 reads_too_big sums text strict h =
@@ -67,7 +71,7 @@ pub months_alone : (nanos : ℕ) → has_months_alone nanos ≡ true → MonthsS
 unfolding has_months_alone breakdown count_of
 months_alone nanos h =
     let parts = and_parts (nat_le (weight_of Months) (nanos % weight_of Years))
-        (nat_lt (nanos % weight_of Years % weight_of Months) (weight_of Minutes)) h in
+    (nat_lt (nanos % weight_of Years % weight_of Months) (weight_of Minutes)) h in
     let some : weight_of Months ≤ nanos % weight_of Years = leb-true _ _ parts.0 in
     let short : nanos % weight_of Years % weight_of Months < weight_of Minutes = ltb-true _ _ parts.1 in
     record {
@@ -96,8 +100,10 @@ too_long nanos h = rw (le-ltb nanos (2 ^ 64 * 1_000_000_000) h) refl
 pub read_back : (nanos : ℕ) → nanos < 2 ^ 64 * 1_000_000_000 → (MonthsStandAlone nanos → ⊥)
     → length_of (pos nanos) ≡ Ok nanos
 unfolding length_of
-read_back nanos fits isnt = rw (lt-ltb nanos (2 ^ 64 * 1_000_000_000) fits,
-    false_from_ne_true (has_months_alone nanos) (λ h. isnt (months_alone nanos h))) refl
+read_back nanos fits isnt = rw (
+  lt-ltb nanos (2 ^ 64 * 1_000_000_000) fits,
+  false_from_ne_true (has_months_alone nanos) (λ h. isnt (months_alone nanos h)),
+) refl
 
 alone_from : (nanos : ℕ) (test : Bool) → has_months_alone nanos ≡ test → ((MonthsStandAlone nanos → ⊥) → ⊥)
     → has_months_alone nanos ≡ true
@@ -196,7 +202,7 @@ pub short_durations : ((text : List ℕ) (a b : ℕ) → SumsTo text a → SumsT
     → Lawful Fancy
 short_durations one sums strict back =
     lawful_by Fancy SpellsLength (Is worth) (Is held) length_text
-        (record { reads = λ text a h. h; read = λ text a h. h; writes = λ value a h. h; written = λ value a h. h })
+    (record { reads = λ text a h. h; read = λ text a h. h; writes = λ value a h. h; written = λ value a h. h })
     (record {
       one = λ text a b h k. one text a b ((sums text a).0 h).1 ((sums text b).0 k).1;
       one_worth = one_image worth;

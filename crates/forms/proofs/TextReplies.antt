@@ -47,8 +47,13 @@ pub interval_reply : AreOfAlphabet → (s u : Style) (text : List ℕ) (i : Inte
     → (f t : Form) → style_of f ≡ Some s → style_of t ≡ Some u
     → IsTextReply f t text (style_text u i) false
 interval_reply alphabet s u text i h f t from to =
-    inr (Ok (style_text u i), spelled_utf8 alphabet s text h.0 h.1, answers s u f t text (Ok (style_text u i)) from to (i, h, refl), refl,
-        refl)
+    inr (
+      Ok (style_text u i),
+      spelled_utf8 alphabet s text h.0 h.1,
+      answers s u f t text (Ok (style_text u i)) from to (i, h, refl),
+      refl,
+      refl,
+    )
 
 -- the word behind `refused` where a text denotes no interval
 abbrev pub IsWord : List ℕ → Cause → List ℕ → Type 0
@@ -59,5 +64,10 @@ pub no_interval_reply : (s u : Style) (text : List ℕ) (cause : Cause) (word : 
     → IsTextReply f t text (codes "refused " ++ word) true
 no_interval_reply s u text cause word h (inl bad) f t from to = inl (bad.0, ap (λ (l : List ℕ). codes "refused " ++ l) bad.1, refl)
 no_interval_reply s u text cause word h (inr well) f t from to =
-    inr (Err cause, well.0, answers s u f t text (Err cause) from to (no_answer s u text cause h),
-        ap (λ (l : List ℕ). codes "refused " ++ l) well.1, refl)
+    inr (
+      Err cause,
+      well.0,
+      answers s u f t text (Err cause) from to (no_answer s u text cause h),
+      ap (λ (l : List ℕ). codes "refused " ++ l) well.1,
+      refl,
+    )

@@ -88,14 +88,21 @@ real_of c year e =
 
 pub held_day : SameDays → (c : CivilDate) (year : ℕ) (day : ℤ) → c.year ≡ pos year → epoch_day c ≡ day
     → HoldsDay day (Ok (record { year = year; month = c.month; day = c.day }))
-held_day days c year day e same = inl (record { year = year; month = c.month; day = c.day }, real_of c year e,
-    ap (λ (z : ℤ). iso_day_of (YMD z c.month c.day)) (sym e) ∙ (days c ∙ same), refl)
+held_day days c year day e same = inl (
+  record { year = year; month = c.month; day = c.day },
+  real_of c year e,
+  ap (λ (z : ℤ). iso_day_of (YMD z c.month c.day)) (sym e) ∙ (days c ∙ same),
+  refl,
+)
 
 -- a day before the year 0
 pub early_day : SameDays → (c : CivilDate) (day : ℤ) → c.year <ℤ pos 0 → epoch_day c ≡ day → HoldsDay day (Err Range)
 unfolding civil_of
-early_day days c day early same = inr (λ d real e. let years = (epoch_day_injective (civil_of d real) c
-    (sym (civil_day days d real) ∙ (e ∙ sym same))).0 in absurd (omega (arith, ints)), refl)
+early_day days c day early same = inr (
+  λ d real e. let years = (epoch_day_injective (civil_of d real) c
+      (sym (civil_day days d real) ∙ (e ∙ sym same))).0 in absurd (omega (arith, ints)),
+  refl,
+)
 
 -- no civil day
 pub no_day : SameDays → (day : ℤ) → (IsEpochDay day → ⊥) → HoldsDay day (Err Range)
@@ -167,8 +174,11 @@ fraction_real second n true s f = s
 fraction_real second n false s f = (s, f)
 
 time_real : (nanos : ℕ) → nanos < 86_400_000_000_000 → IsRealTime (time_of nanos)
-time_real nanos h = record { hour = omega arith; minute = omega arith;
-    seconds = fraction_real (nanos / 1_000_000_000 % 60) (nanos % 1_000_000_000) (nanos % 1_000_000_000 == 0) (omega arith) (omega arith) }
+time_real nanos h = record {
+  hour = omega arith;
+  minute = omega arith;
+  seconds = fraction_real (nanos / 1_000_000_000 % 60) (nanos % 1_000_000_000) (nanos % 1_000_000_000 == 0) (omega arith) (omega arith);
+}
 
 -- ---- what a value is worth, within the bounds
 
@@ -249,8 +259,14 @@ abbrev pub AreReadBack : Type 0
 AreReadBack = (value : Datetime) → IsWellFormed value → IsDatetime (text_of value) value
 
 back_by : AreReadBack → (value : Value) (d : Datetime) → IsWellFormed d → worth d ≡ Ok value → Holds value (Ok d) → IsBack value d
-back_by back value d formed valued held = record { meaning = d; back = value; spelled = back d formed; valued = sym valued;
-    same = same_value value; again = held }
+back_by back value d formed valued held = record {
+  meaning = d;
+  back = value;
+  spelled = back d formed;
+  valued = sym valued;
+  same = same_value value;
+  again = held;
+}
 
 dated_back : AreReadBack → (value : Value) (day : ℤ) (time : Option Time) (offset : Option Offset) (d : Datetime)
     → HoldsDated day time offset (Ok d) → Holds value (Ok d) → ((date : Date) → IsRealDay date → AreWellFormed (Some date) time offset)
@@ -261,7 +277,7 @@ dated_back back value day time offset d h held formed worth_is =
     let date = real_held day found.0 (subst P found.1 h.1) in
     let Q : Datetime → Type 0 = λ x. Holds value (Ok x) → IsBack value x in
     let whole : Q (datetime_of (Some found.0) time offset) = λ k. back_by back value (datetime_of (Some found.0) time offset)
-        (formed found.0 date.0) (ap (λ (z : ℤ). dated_worth z time offset) date.1 ∙ worth_is) k in
+    (formed found.0 date.0) (ap (λ (z : ℤ). dated_worth z time offset) date.1 ∙ worth_is) k in
     subst Q found.2 whole held
 
 local_worth : (day nanos : ℤ) → IsOfDay nanos → dated_worth day (Some (time_of (unsigned_abs nanos))) None ≡ Ok (Local day nanos)
@@ -291,15 +307,19 @@ held_back back (Clock nanos) d w h =
     let same : made ≡ d = sym (same_ok d made h) in
     let Q : Datetime → Type 0 = λ x. Holds (Clock nanos) (Ok x) → IsBack (Clock nanos) x in
     let whole : Q made = λ k. back_by back (Clock nanos) made (time_real _ (magnitude_bound nanos w))
-        (ap (result_map Clock) (time_back (unsigned_abs nanos)) ∙ ap (λ (z : ℤ). Ok (Clock z)) (magnitude nanos w)) k in
+    (ap (result_map Clock) (time_back (unsigned_abs nanos)) ∙ ap (λ (z : ℤ). Ok (Clock z)) (magnitude nanos w)) k in
     subst Q same whole h
 held_back back _ d w h = absurd (let e : Ok d ≡ Err Kind = h in cc)
 
 pub toml_date_times : SameDays → ((text : List ℕ) (a b : Datetime) → IsDatetime text a → IsDatetime text b → a ≡ b)
     → ((text : List ℕ) (value : Datetime) → IsDatetime text value → IsWellFormed value) → AreReadBack → Lawful Toml
 toml_date_times days one formed back =
-    lawful_by Toml IsDatetime (Is worth) Holds text_of (record { reads = λ text a h. h; read = λ text a h. h; writes = λ value a h. h;
-        written = λ value a h. h })
+    lawful_by Toml IsDatetime (Is worth) Holds text_of (record {
+      reads = λ text a h. h;
+      read = λ text a h. h;
+      writes = λ value a h. h;
+      written = λ value a h. h;
+    })
     (record {
       one = one;
       one_worth = one_image worth;

@@ -38,7 +38,7 @@ lines_within (byte ∷ bytes) =
     let below = lines_within bytes in
     longer (length bytes + 1) (length (byte ∷ bytes)) (lines (byte ∷ bytes)) (omega arith)
     (feed_within (length bytes) (byte == 10) (lines bytes) (onto_first byte (lines bytes)) below
-        (first_within (length bytes) byte (lines bytes) below))
+    (first_within (length bytes) byte (lines bytes) below))
 
 whole_within : (bytes : List ℕ) → AreWithin (length bytes) (whole_lines bytes)
 whole_within [] = tt
@@ -46,7 +46,7 @@ whole_within (byte ∷ bytes) =
     let below = whole_within bytes in
     longer (length bytes + 1) (length (byte ∷ bytes)) (whole_lines (byte ∷ bytes)) (omega arith)
     (feed_within (length bytes) (byte == 10) (whole_lines bytes) (onto_line byte (whole_lines bytes)) below
-        (line_within (length bytes) byte (whole_lines bytes) below))
+    (line_within (length bytes) byte (whole_lines bytes) below))
 
 first_ones : (n : ℕ) (xs ys : List (List ℕ)) → AreWithin n (xs ++ ys) → AreWithin n xs
 first_ones n [] ys h = tt
@@ -72,31 +72,53 @@ front_of : {A : Type 0} (n : ℕ) (s : A) (xs : List (List ℕ)) (a b : Option (
     → GainsOutputsFront (cut (n + 1) (says_reply {A = A})) s xs a b → GainsFront xs a b
 front_of n s xs a b within h =
     let f = h.1 in
-    let first : AreWithin n f.answered = first_ones n f.answered f.others (subst (AreWithin n) f.split within) in
-    (h.0, record { answered = f.answered; others = f.others; back = f.back; split = f.split;
-        replies = replies_of n s f.last f.answered (h.0 ++ f.back) first f.outputs }, h.2)
+    let first : AreWithin n f.answered = first_ones n f.answered f.others (subst (AreWithin n) f.split within) in (
+      h.0,
+      record {
+        answered = f.answered;
+        others = f.others;
+        back = f.back;
+        split = f.split;
+        replies = replies_of n s f.last f.answered (h.0 ++ f.back) first f.outputs;
+      },
+      h.2,
+    )
 
 within_limit : (limit : ℕ) (given : List ℕ) → length (take limit given) ≤ limit
 within_limit limit given = omega (arith, length-take limit given)
 
 stands_of : {A : Type 0} (limit : ℕ) (given : List ℕ) (s t : A) (old new : Streams) (end : RunEnd)
     → StandsBy (cut (limit + 1) (says_reply {A = A})) limit given s t old new end → Stands limit given old new end
-stands_of limit given s t old new Done h = (h.0, h.1, gains_of limit s t (lines given) old.held new.held
-    (longer (length given) limit (lines given) h.1 (lines_within given)) h.2)
-stands_of limit given s t old new ReadFault h = (h.0, h.1, gains_of limit s t (whole_lines given) old.held new.held
-    (longer (length given) limit (whole_lines given) h.1 (whole_within given)) h.2)
+stands_of limit given s t old new Done h = (
+  h.0,
+  h.1,
+  gains_of limit s t (lines given) old.held new.held
+      (longer (length given) limit (lines given) h.1 (lines_within given)) h.2,
+)
+stands_of limit given s t old new ReadFault h = (
+  h.0,
+  h.1,
+  gains_of limit s t (whole_lines given) old.held new.held
+      (longer (length given) limit (whole_lines given) h.1 (whole_within given)) h.2,
+)
 stands_of limit given s t old new WriteFault h =
     let short : List ℕ = take limit given in (
       h.0,
       ⊎_elim (λ f. inl (front_of limit s (whole_lines short) old.held new.held
           (longer (length short) limit (whole_lines short) (within_limit limit given) (whole_within short)) f))
-          (λ e. inr (e.0, e.1, front_of limit s (lines given) old.held new.held
-              (longer (length given) limit (lines given) e.1 (lines_within given)) e.2)) h.1,
+          (λ e. inr (
+            e.0,
+            e.1,
+            front_of limit s (lines given) old.held new.held
+                (longer (length given) limit (lines given) e.1 (lines_within given)) e.2,
+          )) h.1,
     )
 stands_of limit given s t old new TooLong h =
-    let short : List ℕ = take limit given in
-    (h.0, gains_of limit s t (whole_lines short) old.held new.held
-        (longer (length short) limit (whole_lines short) (within_limit limit given) (whole_within short)) h.1)
+    let short : List ℕ = take limit given in (
+      h.0,
+      gains_of limit s t (whole_lines short) old.held new.held
+          (longer (length short) limit (whole_lines short) (within_limit limit given) (whole_within short)) h.1,
+    )
 stands_of limit given s t old new NoMemory h = (h.0, h.2)
 
 -- a run over requests

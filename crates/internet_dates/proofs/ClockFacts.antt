@@ -30,15 +30,22 @@ pub clock_sound : (bytes rest : List ℕ) (c : Clock) → read_clock bytes ≡ S
 unfolding read_clock
 clock_sound bytes rest c h =
     option_and_then_some _ _ _ h (λ x found_hour body. option_and_then_some _ _ _ body
-        (λ y found_minute more. option_and_then_some _ _ _ more (λ z found_second ready.
+    (λ y found_minute more. option_and_then_some _ _ _ more (λ z found_second ready.
     let hours = pair_sound 32 0 24 bytes x.1 x.0 found_hour in
     let minutes = pair_sound 58 0 59 x.1 y.1 y.0 found_minute in
     let seconds = pair_sound 58 0 60 y.1 z.1 z.0 found_second in
     let parts = some_pair_parts _ _ _ _ ready in
     let text : List ℕ = hours.0 ++ (58 ∷ (minutes.0 ++ (58 ∷ seconds.0))) in
     let P : Clock → Type 0 = λ v. IsClock text v.hour v.minute v.second in
-    let clock : P (clock_made x.0 y.0 z.0) = record { hour_text = hours.0; minute_text = minutes.0; second_text = seconds.0;
-        hours = hours.1; minutes = minutes.1; seconds = seconds.1; joined = refl } in
+    let clock : P (clock_made x.0 y.0 z.0) = record {
+      hour_text = hours.0;
+      minute_text = minutes.0;
+      second_text = seconds.0;
+      hours = hours.1;
+      minutes = minutes.1;
+      seconds = seconds.1;
+      joined = refl;
+    } in
     let behind : y.1 ≡ 58 ∷ (seconds.0 ++ rest) = seconds.2 ∙ ap (λ (l : List ℕ). 58 ∷ (seconds.0 ++ l)) parts.1 in
     let later : x.1 ≡ 58 ∷ (minutes.0 ++ (58 ∷ (seconds.0 ++ rest))) = minutes.2 ∙ ap (λ (l : List ℕ). 58 ∷ (minutes.0 ++ l)) behind in
     let split : bytes ≡ 32 ∷ (text ++ rest) =
@@ -90,7 +97,7 @@ pub mail_clock_sound : (bytes rest : List ℕ) (c : Clock) → read_mail_clock b
 unfolding read_mail_clock
 mail_clock_sound bytes rest c h =
     option_and_then_some _ _ _ h (λ x found_hour body. option_and_then_some _ _ _ body
-        (λ y found_minute more. option_and_then_some _ _ _ more (λ z found_second ready.
+    (λ y found_minute more. option_and_then_some _ _ _ more (λ z found_second ready.
     let hours = pair_sound 32 0 24 bytes x.1 x.0 found_hour in
     let minutes = pair_sound 58 0 59 x.1 y.1 y.0 found_minute in
     let parts = some_pair_parts _ _ _ _ ready in
@@ -98,8 +105,15 @@ mail_clock_sound bytes rest c h =
       | inl seconds ↦
           let text : List ℕ = hours.0 ++ (58 ∷ (minutes.0 ++ (58 ∷ seconds.0))) in
           let P : Clock → Type 0 = λ v. IsMailClock text v.hour v.minute v.second in
-          let clock : P (clock_made x.0 y.0 z.0) = inl (record { hour_text = hours.0; minute_text = minutes.0; second_text = seconds.0;
-              hours = hours.1; minutes = minutes.1; seconds = seconds.1; joined = refl }) in
+          let clock : P (clock_made x.0 y.0 z.0) = inl (record {
+            hour_text = hours.0;
+            minute_text = minutes.0;
+            second_text = seconds.0;
+            hours = hours.1;
+            minutes = minutes.1;
+            seconds = seconds.1;
+            joined = refl;
+          }) in
           let behind : y.1 ≡ 58 ∷ (seconds.0 ++ rest) = seconds.2 ∙ ap (λ (l : List ℕ). 58 ∷ (seconds.0 ++ l)) parts.1 in
           let later : x.1 ≡ 58 ∷ (minutes.0 ++ (58 ∷ (seconds.0 ++ rest))) =
           minutes.2 ∙ ap (λ (l : List ℕ). 58 ∷ (minutes.0 ++ l)) behind in
@@ -110,8 +124,14 @@ mail_clock_sound bytes rest c h =
       | inr none ↦
           let text : List ℕ = hours.0 ++ (58 ∷ minutes.0) in
           let P : Clock → Type 0 = λ v. IsMailClock text v.hour v.minute v.second in
-          let clock : P (clock_made x.0 y.0 z.0) = inr (record { hour_text = hours.0; minute_text = minutes.0; hours = hours.1;
-              minutes = minutes.1; joined = refl; on_minute = none.0 }) in
+          let clock : P (clock_made x.0 y.0 z.0) = inr (record {
+            hour_text = hours.0;
+            minute_text = minutes.0;
+            hours = hours.1;
+            minutes = minutes.1;
+            joined = refl;
+            on_minute = none.0;
+          }) in
           let behind : y.1 ≡ rest = none.1 ∙ parts.1 in
           let later : x.1 ≡ 58 ∷ (minutes.0 ++ rest) = minutes.2 ∙ ap (λ (l : List ℕ). 58 ∷ (minutes.0 ++ l)) behind in
           let split : bytes ≡ 32 ∷ (text ++ rest) =

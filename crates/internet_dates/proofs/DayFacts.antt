@@ -118,8 +118,12 @@ clock_small t r = clock_bound t.hour t.minute t.second r.hour r.minute r.second
 
 pub day_at : (first : ℕ) (seconds : ℤ) (t : DateTime) → IsAt first seconds t
     → IsDay first (int_div_euclid seconds (pos 86_400)) t.year t.month t.day
-day_at first seconds t is = record { least = is.least; most = is.real.year; real = is.real.day;
-    same = quotient (day_number t) seconds (clock_of t) (clock_small t is.real) (at_utc first seconds t is) }
+day_at first seconds t is = record {
+  least = is.least;
+  most = is.real.year;
+  real = is.real.day;
+  same = quotient (day_number t) seconds (clock_of t) (clock_small t is.real) (at_utc first seconds t is);
+}
 
 pub at_is : (first : ℕ) (seconds number : ℤ) (y m d clock h n s w : ℕ) → number ≡ int_div_euclid seconds (pos 86_400)
     → pos clock ≡ int_rem_euclid seconds (pos 86_400)
@@ -189,12 +193,12 @@ one_date_time days first seconds a b at here =
     remainder (day_number a) seconds (clock_of a) (clock_small a at.real) (at_utc first seconds a at)
     ∙ sym (remainder (day_number b) seconds (clock_of b) (clock_small b here.real) (at_utc first seconds b here)) in
     let clock = same_clock a.hour a.minute a.second b.hour b.minute b.second at.real.minute at.real.second here.real.minute here.real.second
-        (omega (arith, ints)) in
+    (omega (arith, ints)) in
     let day : day_number a ≡ day_number b = (day_at first seconds a at).same ∙ sym (day_at first seconds b here).same in
     let name = same_name a.weekday b.weekday (day_number a) (day_number b) at.named here.named at.real.name here.real.name day in
     let offset = at.utc ∙ sym here.utc in
     let same : made a.weekday a.year a.month a.day a.hour a.minute a.second a.offset
-        ≡ made b.weekday b.year b.month b.day b.hour b.minute b.second b.offset =
+    ≡ made b.weekday b.year b.month b.day b.hour b.minute b.second b.offset =
     rw (name, date.0, date.1, date.2, clock.0, clock.1, clock.2, offset) refl in
     same
 

@@ -54,7 +54,7 @@ fixdate_sound : (weekday : ℕ) (name bytes : List ℕ) (t : DateTime) → IsDay
 unfolding read_fixdate
 fixdate_sound weekday name bytes t named h =
     option_and_then_some _ _ _ h (λ d found_day a. option_and_then_some _ _ _ a
-        (λ m found_month b. option_and_then_some _ _ _ b (λ y found_year e. option_and_then_some _ _ _ e (λ c found_clock ready.
+    (λ m found_month b. option_and_then_some _ _ _ b (λ y found_year e. option_and_then_some _ _ _ e (λ c found_clock ready.
     let day = pair_sound 32 1 31 bytes d.1 d.0 found_day in
     let month = month_sound d.1 m.1 m.0 found_month in
     let year = year_sound m.1 y.1 y.0 found_year in
@@ -150,7 +150,7 @@ asctime_sound : (weekday : ℕ) (name bytes : List ℕ) (t : DateTime) → IsDay
 unfolding read_asctime
 asctime_sound weekday name bytes t named h =
     option_and_then_some _ _ _ h (λ m found_month a. option_and_then_some _ _ _ a
-        (λ d found_day b. option_and_then_some _ _ _ b (λ c found_clock e. option_and_then_some _ _ _ e (λ y found_year ready.
+    (λ d found_day b. option_and_then_some _ _ _ b (λ c found_clock e. option_and_then_some _ _ _ e (λ y found_year ready.
     let month = month_sound bytes m.1 m.0 found_month in
     let day = padded_day_sound m.1 d.1 d.0 found_day in
     let clock = clock_sound d.1 c.1 c.0 found_clock in

@@ -49,7 +49,7 @@ named_sound : (bytes rest : List ℕ) (named : Option ℕ) → read_named bytes 
 unfolding read_named
 named_sound bytes rest named h =
     option_and_then_some _ _ _ h (λ w found a. option_and_then_some _ _ _ a
-        (λ comma found_comma b. option_and_then_some _ _ _ b (λ last found_blank ready.
+    (λ comma found_comma b. option_and_then_some _ _ _ b (λ last found_blank ready.
     let name = weekday_sound bytes w.1 w.0 found in
     let parts = some_pair_parts _ _ _ _ ready in
     let one = mark_sound 44 w.1 comma found_comma in
@@ -134,9 +134,21 @@ numeric_sound negative bytes rest offset h =
     let parts = some_pair_parts _ _ _ _ ready in
     let split : bytes ≡ (hours.0 ++ minutes.0) ++ rest =
     hours.2 ∙ ap (λ (l : List ℕ). hours.0 ++ l) (minutes.2 ∙ ap (λ (l : List ℕ). minutes.0 ++ l) parts.1)
-    ∙ sym (zone_joins hours.0 minutes.0 rest) in
-    (hours.0 ++ minutes.0, record { negative = negative; hour_text = hours.0; minute_text = minutes.0; hour = x.0; minute = y.0;
-        hours = hours.1; minutes = minutes.1; joined = refl; value = sym parts.0 }, split)))
+    ∙ sym (zone_joins hours.0 minutes.0 rest) in (
+      hours.0 ++ minutes.0,
+      record {
+        negative = negative;
+        hour_text = hours.0;
+        minute_text = minutes.0;
+        hour = x.0;
+        minute = y.0;
+        hours = hours.1;
+        minutes = minutes.1;
+        joined = refl;
+        value = sym parts.0;
+      },
+      split,
+    )))
 
 signed_zone : (negative : Bool) (h m rest : List ℕ) (hour minute : ℕ) → IsField 2 0 24 h hour → IsField 2 0 59 m minute
     → read_zone (((if negative then codes "-" else codes "+") ++ (h ++ m)) ++ rest) ≡ Some (signed negative (60 * hour + minute), rest)
@@ -180,7 +192,7 @@ ut_sound : (bytes rest : List ℕ) → read_ut bytes ≡ Some rest → bytes ≡
 unfolding read_ut
 ut_sound bytes rest h =
     option_and_then_some _ _ _ h (λ later found body. mark_sound 85 bytes later found
-        ∙ ap (λ (l : List ℕ). 85 ∷ l) (mark_sound 84 later rest body))
+    ∙ ap (λ (l : List ℕ). 85 ∷ l) (mark_sound 84 later rest body))
 
 ut_or : (bytes rest : List ℕ) (offset : ℤ) (found : Option (List ℕ)) → read_ut bytes ≡ found → ut_or_name bytes found ≡ Some (offset, rest)
     → (text : List ℕ) × IsZone text offset × (bytes ≡ text ++ rest)
@@ -227,7 +239,7 @@ opening_sound : (text inner : List ℕ) → read_opening text ≡ Some inner →
 unfolding read_opening
 opening_sound text inner h =
     option_and_then_some _ _ _ h (λ later found body. mark_sound 32 text later found
-        ∙ ap (λ (l : List ℕ). 32 ∷ l) (mark_sound 40 later inner body))
+    ∙ ap (λ (l : List ℕ). 32 ∷ l) (mark_sound 40 later inner body))
 
 closed_sound : (text : List ℕ) (found : Option (List ℕ)) → read_opening text ≡ found → is_closed found ≡ true → IsComment text
 closed_sound text None found h = absurd cc
@@ -271,9 +283,9 @@ pub mail_sound : (text : List ℕ) (t : DateTime) → read_mail_date text ≡ So
 unfolding read_mail_date
 mail_sound text t h =
     option_and_then_some _ _ _ h (λ w found_front a. option_and_then_some _ _ _ a
-        (λ d found_day b. option_and_then_some _ _ _ b (λ m found_month e.
+    (λ d found_day b. option_and_then_some _ _ _ b (λ m found_month e.
     option_and_then_some _ _ _ e (λ y found_year f. option_and_then_some _ _ _ f
-        (λ c found_clock g. option_and_then_some _ _ _ g (λ z found_zone ready.
+    (λ c found_clock g. option_and_then_some _ _ _ g (λ z found_zone ready.
     let front = front_sound text w.1 w.0 found_front in
     let day = day_sound w.1 d.1 d.0 found_day in
     let month = month_sound d.1 m.1 m.0 found_month in

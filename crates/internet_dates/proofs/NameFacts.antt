@@ -85,8 +85,22 @@ days_found : AllBelow (IsFound day_names 0) 7
 days_found = (λ r. refl, (λ r. refl, (λ r. refl, (λ r. refl, (λ r. refl, (λ r. refl, (λ r. refl, tt)))))))
 
 months_found : AllBelow (IsFound month_names 1) 12
-months_found = (λ r. refl, (λ r. refl, (λ r. refl, (λ r. refl, (λ r. refl,
-    (λ r. refl, (λ r. refl, (λ r. refl, (λ r. refl, (λ r. refl, (λ r. refl, (λ r. refl, tt))))))))))))
+months_found = (
+  λ r. refl,
+  (
+    λ r. refl,
+    (
+      λ r. refl,
+      (
+        λ r. refl,
+        (
+          λ r. refl,
+          (λ r. refl, (λ r. refl, (λ r. refl, (λ r. refl, (λ r. refl, (λ r. refl, (λ r. refl, tt))))))),
+        ),
+      ),
+    ),
+  ),
+)
 
 pub weekday_exact : Exact IsDayName read_weekday
 unfolding read_weekday

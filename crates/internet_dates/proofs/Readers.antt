@@ -67,8 +67,13 @@ two_from lo hi a b n h =
     let first = digit_is_alone a digits.0 in
     let second = digit_is_alone b digits.1.0 in
     let same = found.1 in
-    record { long = refl; digits = digits; number = omega (arith, first, second, same); least = omega (arith, same, test.2);
-        most = omega (arith, same, test.3) }
+    record {
+      long = refl;
+      digits = digits;
+      number = omega (arith, first, second, same);
+      least = omega (arith, same, test.2);
+      most = omega (arith, same, test.3);
+    }
 
 pub two_is : (lo hi a b n : ℕ) → IsField 2 lo hi (a ∷ b ∷ []) n → two_number lo hi a b ≡ Some n
 unfolding two_number
@@ -82,7 +87,7 @@ two_is lo hi a b n f =
     let least = f.least in
     let most = f.most in
     let test = two_passes (is_ascii_digit a) (is_ascii_digit b) lo hi v (test_from_digit a digits.0) (test_from_digit b digits.1.0)
-        (omega (arith, same, least)) (omega (arith, same, most)) in
+    (omega (arith, same, least)) (omega (arith, same, most)) in
     rw test (ap Some same)
 
 pub two_bytes : (text : List ℕ) → length text ≡ 2 → (a : ℕ) × (b : ℕ) × (text ≡ a ∷ b ∷ [])
@@ -124,8 +129,13 @@ one_from lo hi b n h some =
     let number = f.number in
     let least = f.least in
     let small = digits.1.0 in
-    record { long = refl; digits = digits.1; number = omega (arith, number); least = omega (arith, least, some);
-        most = omega (arith, number, small) }
+    record {
+      long = refl;
+      digits = digits.1;
+      number = omega (arith, number);
+      least = omega (arith, least, some);
+      most = omega (arith, number, small);
+    }
 
 pub one_is : (hi b n : ℕ) → 9 ≤ hi → IsField 1 1 9 (b ∷ []) n → two_number 1 hi 48 b ≡ Some n
 one_is hi b n nine f =
@@ -133,8 +143,13 @@ one_is hi b n nine f =
     let least = f.least in
     let most = f.most in
     let zero : digit_value 48 < 10 = omega arith in
-    two_is 1 hi 48 b n (record { long = refl; digits = (zero, f.digits); number = omega (arith, number); least = least;
-        most = omega (arith, most, nine) })
+    two_is 1 hi 48 b n (record {
+      long = refl;
+      digits = (zero, f.digits);
+      number = omega (arith, number);
+      least = least;
+      most = omega (arith, most, nine);
+    })
 
 pub one_byte : (text : List ℕ) → length text ≡ 1 → (b : ℕ) × (text ≡ b ∷ [])
 one_byte [] h = absurd (omega (arith, h))
@@ -162,8 +177,13 @@ four_from a b c d n h =
     let y = digits.1.1.0 in
     let z = digits.1.1.1.0 in
     let same = found.1 in
-    record { long = refl; digits = digits; number = omega (arith, one, two, three, four, same); least = omega arith;
-        most = omega (arith, one, two, three, four, same, w, x, y, z) }
+    record {
+      long = refl;
+      digits = digits;
+      number = omega (arith, one, two, three, four, same);
+      least = omega arith;
+      most = omega (arith, one, two, three, four, same, w, x, y, z);
+    }
 
 four_is : (a b c d n : ℕ) → IsField 4 0 9999 (a ∷ b ∷ c ∷ d ∷ []) n → four_number a b c d ≡ Some n
 unfolding four_number
@@ -176,7 +196,7 @@ four_is a b c d n f =
     let number = f.number in
     let same : 1000 * (a - 48) + 100 * (b - 48) + 10 * (c - 48) + (d - 48) ≡ n = omega (arith, one, two, three, four, number) in
     rw (test_from_digit a digits.0, test_from_digit b digits.1.0, test_from_digit c digits.1.1.0, test_from_digit d digits.1.1.1.0)
-        (ap Some same)
+    (ap Some same)
 
 four_bytes : (text : List ℕ) → length text ≡ 4 → (a : ℕ) × (b : ℕ) × (c : ℕ) × (d : ℕ) × (text ≡ a ∷ b ∷ c ∷ d ∷ [])
 four_bytes [] h = absurd (omega (arith, h))

@@ -25,7 +25,7 @@ pub summed_more : {T : Type 0} (f : T → Interval) (xs : List T) (months days m
     → m ≡ months +ℤ t.months → n ≡ days +ℤ t.days → u ≡ micros +ℤ t.microseconds → AreSummed f xs m n u (i + 1)
 summed_more f xs months days micros i item t m n u s inside at is a b c =
     let next = ap (λ (l : List _). sum_by_part (map f l)) (drop_more xs i item inside)
-        ∙ ap (λ (v : Interval). plus v (sum_by_part (map f (drop (i + 1) xs)))) (ap f (sym at) ∙ sym is) in
+    ∙ ap (λ (v : Interval). plus v (sum_by_part (map f (drop (i + 1) xs)))) (ap f (sym at) ∙ sym is) in
     record {
       months_are = plus_more _ _ _ _ _ _ s.months_are (ap (λ (t : Interval). t.months) next) a;
       days_are = plus_more _ _ _ _ _ _ s.days_are (ap (λ (t : Interval). t.days) next) b;

@@ -102,7 +102,7 @@ one_style f g s t h k same = some_is s t (sym (style_is f s h) ∙ (ap style_nam
 pub one_entry : (line : List ℕ) (s t : Style) (a b : List ℕ) → IsEntry line s a → IsEntry line t b → (s ≡ t) × (a ≡ b)
 one_entry line s t a b h k =
     let both = one_label line (name_of h.form) (name_of k.form) a b (names_have_no_space h.form)
-        (names_have_no_space k.form) h.labelled k.labelled in
+    (names_have_no_space k.form) h.labelled k.labelled in
     (one_style h.form k.form s t h.named k.named both.0, both.1)
 
 -- ---- what readers of names answer
@@ -141,8 +141,11 @@ no_style whole word rest form h labelled named none s text is =
     unstyled IsoStrict h = h
 
 pub styled_entry : (line text : List ℕ) (s : Style) (rest : List ℕ) → text ≡ line → IsEntry line s rest → IsStyled text s rest
-styled_entry line text s rest same e = record { form = e.form; named = e.named;
-    labelled = subst (λ (l : List ℕ). IsLabelled l (name_of e.form) rest) (sym same) e.labelled }
+styled_entry line text s rest same e = record {
+  form = e.form;
+  named = e.named;
+  labelled = subst (λ (l : List ℕ). IsLabelled l (name_of e.form) rest) (sym same) e.labelled;
+}
 
 pub if_none_map : {T : Type 0} (r : Option T) (P Q : Type 0) → (P → Q) → IfNone r P → IfNone r Q
 if_none_map None P Q f h = f h

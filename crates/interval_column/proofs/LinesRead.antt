@@ -30,7 +30,7 @@ read_one one n m (line ∷ lines) xs ys h k =
 fault_one : OneLine → (n m : ℕ) (before other : List (List ℕ)) (line line' : List ℕ) (after after' : List (List ℕ)) (xs ys : List Interval)
     (f g : LineFault)
     → before ++ line ∷ after ≡ other ++ line' ∷ after' → AreRead IsRead n before xs → AreRead IsRead m other ys → IsLineRead line (Err f)
-        → IsLineRead line' (Err g)
+    → IsLineRead line' (Err g)
     → (length before ≡ length other) × (f ≡ g)
 fault_one one n m [] [] line line' after after' xs ys f g same h k bad bad' =
     let here : line ≡ line' = cc in
@@ -50,7 +50,7 @@ pub one_fault : OneLine → (lines : List (List ℕ)) (n m : ℕ) (f g : LineFau
     → IsFirstFault IsRead lines m g → (n ≡ m) × (f ≡ g)
 one_fault one lines n m f g h k =
     let both = fault_one one 1 1 h.before k.before h.line k.line h.after k.after h.values k.values f g
-        (sym h.split ∙ k.split) h.read k.read h.faulty k.faulty in
+    (sym h.split ∙ k.split) h.read k.read h.faulty k.faulty in
     (let a = h.counted in let b = k.counted in let e = both.0 in omega (arith, a, b, e), both.1)
 
 read_at : (n : ℕ) (before : List (List ℕ)) (line : List ℕ) (after : List (List ℕ)) (xs : List Interval)

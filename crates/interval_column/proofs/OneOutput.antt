@@ -86,8 +86,11 @@ faulty_is_err not input (Err e) h fault = refl
 pub status_8 : NotBoth → (style : Style) (input out : List ℕ) (status : ℕ) → Tells style input out status → (status ≡ 8)
     ↔ HasFault (lines input)
 status_8 not style input out status (inl (n, f, h, told, is)) = (λ same. first_is_fault (lines input) n f h, λ fault. is)
-status_8 not style input out status (inr (xs, h, told, is)) = (λ same. absurd (omega (arith, same, is)), λ fault. absurd
-    (not input xs fault h))
+status_8 not style input out status (inr (xs, h, told, is)) = (
+  λ same. absurd (omega (arith, same, is)),
+  λ fault. absurd
+      (not input xs fault h),
+)
 
 pub status_0 : NotBoth → (style : Style) (input out : List ℕ) (status : ℕ) → Tells style input out status → (status ≡ 0)
     ↔ (HasFault (lines input) → ⊥)
@@ -113,6 +116,12 @@ tells_fault style input n fault h = inl (n, fault, h, refl, refl)
 pub fault_part : (style : Style) (input : List ℕ) (old new : Option (List ℕ)) (R : Type 0) (n m : ℕ) (fault other : LineFault) → n ≡ m
     → fault ≡ other → IsFirstFault IsRead (lines input) n fault
     → R × AppendsFront old new (fault_line m other) → R × GainsPart (Tells style) input old new
-fault_part style input old new R n m fault other same alike h front =
-    (front.0, (fault_line n fault, 8, tells_fault style input n fault h,
-    subst (AppendsFront old new) (sym (same_line n m fault other same alike)) front.1))
+fault_part style input old new R n m fault other same alike h front = (
+  front.0,
+  (
+    fault_line n fault,
+    8,
+    tells_fault style input n fault h,
+    subst (AppendsFront old new) (sym (same_line n m fault other same alike)) front.1,
+  ),
+)

@@ -55,4 +55,4 @@ one_line one line a b (inr (style, text, entry, read)) (inl k) = absurd (k.0 sty
 one_line one line a b (inr (style, text, entry, read)) (inr (style', text', entry', read')) =
     let same = one_entry line style style' text text' entry entry' in
     one_text one style' text' a b (subst (λ (s : Style). IsTextRead s text' a) same.0
-        (subst (λ (t : List ℕ). IsTextRead style t a) same.1 read)) read'
+    (subst (λ (t : List ℕ). IsTextRead style t a) same.1 read)) read'

@@ -40,8 +40,11 @@ pub record ArePut {T : Type 0} (text_of : T → List ℕ) (xs : List T) (old new
 
 pub none_put : {T : Type 0} (text_of : T → List ℕ) (xs : List T) (a : Option (List ℕ)) (before : List ℕ)
     → ArePut text_of xs a a before before 0
-none_put text_of xs a before = record { text = []; moves = record { front = []; split = append-nil before; gained = Appends-nil a };
-    left = refl }
+none_put text_of xs a before = record {
+  text = [];
+  moves = record { front = []; split = append-nil before; gained = Appends-nil a };
+  left = refl;
+}
 
 next_left : {T : Type 0} (text_of : T → List ℕ) (xs : List T) (i : ℕ) (x : T) → i < length xs → x ≡ get_or xs i x
     → flat_map text_of (drop i xs) ≡ text_of x ++ flat_map text_of (drop (i + 1) xs)
@@ -63,7 +66,7 @@ pub put_all : {T : Type 0} (text_of : T → List ℕ) (xs : List T) (a b : Optio
     → ArePut text_of xs a b before after i → drop i xs ≡ [] → Moves a b before (flat_map text_of xs) after
 put_all text_of xs a b before after i h end =
     subst (λ (l : List ℕ). Moves a b before l after) (sym (append-nil h.text)
-        ∙ (ap (λ (l : List _). h.text ++ flat_map text_of l) (sym end) ∙ h.left)) h.moves
+    ∙ (ap (λ (l : List _). h.text ++ flat_map text_of l) (sym end) ∙ h.left)) h.moves
 
 pub put_fails : {T : Type 0} → FailsInTurn → (text_of : T → List ℕ) (xs : List T) (a b c : Option (List ℕ)) (before between : List ℕ)
     (i : ℕ) (x : T) → ArePut text_of xs a b before between i → i < length xs → x ≡ get_or xs i x

@@ -31,8 +31,10 @@ sorted_alone : (ranks : List Ranked) → IsSortedBy (λ (a b : Ranked). is_lt (o
 sorted_alone ranks up k d low high =
     let long = length-map ranks interval_of in
     let r = with_key d in
-    rw (get_or-map interval_of ranks (k + 1) r d (omega (arith, high, long)),
-        get_or-map interval_of ranks k r d (omega (arith, high, long))) (up k r low (omega (arith, high, long)))
+    rw (
+      get_or-map interval_of ranks (k + 1) r d (omega (arith, high, long)),
+      get_or-map interval_of ranks k r d (omega (arith, high, long)),
+    ) (up k r low (omega (arith, high, long)))
 
 pub ranks_column : (old new : List Ranked) → IsPermutation old new
     → IsSortedBy (λ (a b : Ranked). is_lt (order_of a.interval b.interval)) new → IsColumn (intervals_of old) (intervals_of new)

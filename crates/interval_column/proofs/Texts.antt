@@ -25,7 +25,7 @@ pub fault_pushed : (line : ℕ) (fault : LineFault) (a b c d e : List ℕ) → a
 unfolding fault_line
 fault_pushed line fault a b c d e ha hb hc hd he =
     let both : d ≡ b ++ (codes " refused " ++ fault_name fault) = hd
-        ∙ (ap (λ (l : List ℕ). l ++ fault_name fault) hc ∙ append_assoc b (codes " refused ") (fault_name fault)) in
+    ∙ (ap (λ (l : List ℕ). l ++ fault_name fault) hc ∙ append_assoc b (codes " refused ") (fault_name fault)) in
     let rest : List ℕ = codes " refused " ++ (fault_name fault ++ codes "\n") in
     he
     ∙ (pushed b d (codes " refused ") (fault_name fault) (codes "\n") both
@@ -39,7 +39,7 @@ next_text a b x rest h = ap (λ (l : List ℕ). l ++ rest) h ∙ append_assoc a 
 pub four_pushed : (w x y z a b c d e : List ℕ) → a ≡ [] → b ≡ a ++ w → c ≡ b ++ x → d ≡ c ++ y → e ≡ d ++ z → e ≡ w ++ (x ++ (y ++ z))
 four_pushed w x y z a b c d e ha hb hc hd he =
     he ∙ (next_text c d y z hd ∙ (next_text b c x (y ++ z) hc ∙
-        (next_text a b w (x ++ (y ++ z)) hb ∙ ap (λ (l : List ℕ). l ++ (w ++ (x ++ (y ++ z)))) ha)))
+    (next_text a b w (x ++ (y ++ z)) hb ∙ ap (λ (l : List ℕ). l ++ (w ++ (x ++ (y ++ z)))) ha)))
 
 first_alone : (ranks : List Ranked) (i : ℕ) (r : Ranked) → slice_get ranks i ≡ Some r → slice_get (intervals_of ranks) i ≡ Some r.interval
 first_alone ranks i r h = slice_get-map (λ (x : Ranked). x.interval) ranks i ∙ ap (option_map (λ (x : Ranked). x.interval)) h
@@ -54,12 +54,12 @@ as_many ranks = length-map ranks (λ (x : Ranked). x.interval)
 abbrev pub behind : Style → List Interval → List ℕ
 behind style intervals =
     count_line (length intervals) ++ end_lines style (slice_get intervals 0) (slice_get intervals (length intervals - 1))
-        (total_of intervals)
+    (total_of intervals)
 
 pub some_behind : (style : Style) (ranks : List Ranked) (least greatest : Ranked) (out : List ℕ) → slice_get ranks 0 ≡ Some least
     → slice_get ranks (length ranks - 1) ≡ Some greatest
     → out ≡ count_line (length ranks) ++ (interval_line style (codes "least ") least.interval
-        ++ (interval_line style (codes "greatest ") greatest.interval ++ sum_line style (total_of (intervals_of ranks))))
+    ++ (interval_line style (codes "greatest ") greatest.interval ++ sum_line style (total_of (intervals_of ranks))))
     → out ≡ behind style (intervals_of ranks)
 some_behind style ranks least greatest out first last is =
     let n = as_many ranks in
@@ -67,11 +67,11 @@ some_behind style ranks least greatest out first last is =
     let high = ap (λ (m : ℕ). slice_get (intervals_of ranks) (m - 1)) n ∙ first_alone ranks (length ranks - 1) greatest last in
     is
     ∙ (ap (λ (m : ℕ). count_line m ++ end_lines style (Some least.interval) (Some greatest.interval) (total_of (intervals_of ranks)))
-        (sym n)
+    (sym n)
     ∙ (ap (λ (o : Option Interval). count_line (length (intervals_of ranks))
-        ++ end_lines style o (Some greatest.interval) (total_of (intervals_of ranks))) (sym low)
+    ++ end_lines style o (Some greatest.interval) (total_of (intervals_of ranks))) (sym low)
     ∙ ap (λ (o : Option Interval). count_line (length (intervals_of ranks))
-        ++ end_lines style (slice_get (intervals_of ranks) 0) o (total_of (intervals_of ranks))) (sym high)))
+    ++ end_lines style (slice_get (intervals_of ranks) 0) o (total_of (intervals_of ranks))) (sym high)))
 
 pub none_behind : (style : Style) (ranks : List Ranked) (out : List ℕ) → slice_get ranks 0 ≡ None → out ≡ count_line (length ranks)
     → out ≡ behind style (intervals_of ranks)
@@ -79,8 +79,8 @@ none_behind style ranks out none is =
     is ∙ (ap count_line (sym (as_many ranks))
     ∙ (sym (append-nil (count_line (length (intervals_of ranks))))
     ∙ ap (λ (o : Option Interval). count_line (length (intervals_of ranks))
-        ++ end_lines style o (slice_get (intervals_of ranks) (length (intervals_of ranks) - 1)) (total_of (intervals_of ranks)))
-        (sym (none_alone ranks 0 none))))
+    ++ end_lines style o (slice_get (intervals_of ranks) (length (intervals_of ranks) - 1)) (total_of (intervals_of ranks)))
+    (sym (none_alone ranks 0 none))))
 
 pub column_is : (style : Style) (intervals : List Interval) → column_text style intervals ≡ flat_map (interval_line style []) intervals
     ++ behind style intervals

@@ -11,7 +11,7 @@ use Rattle.interval_column.specs.Order.{key_of, order_of}
 pub order_total : IsTotalOrder order_of
 order_total =
     then_total (then_total (then_total (on_total key_of int_cmp_total) (on_total (λ (t : Interval). t.months) int_cmp_total))
-        (on_total (λ (t : Interval). t.days) int_cmp_total))
+    (on_total (λ (t : Interval). t.days) int_cmp_total))
     (on_total (λ (t : Interval). t.microseconds) int_cmp_total)
 
 -- two orders tie together where each ties

@@ -107,8 +107,12 @@ ymd_bounds y m d e =
 
 pub ymd_exists : (y : ℤ) (m d : ℕ) → IsDate y (pos m) (pos d) → Exists (YMD y m d) × IsCivilDay (day_of (YMD y m d))
 ymd_exists y m d is =
-    let e : Exists (YMD y m d) = (omega (arith, ints, is.1.0), omega (arith, ints, is.1.1), omega (arith, ints, is.2.0),
-        omega (arith, ints, is.2.1)) in
+    let e : Exists (YMD y m d) = (
+      omega (arith, ints, is.1.0),
+      omega (arith, ints, is.1.1),
+      omega (arith, ints, is.2.0),
+      omega (arith, ints, is.2.1),
+    ) in
     let b = ymd_bounds y m d e in
     (e, civil_is _ (in_years y _ is.0 b.0 b.1))
 

@@ -48,9 +48,12 @@ week_day y ww w d least some same = let start = same_week_one y least in omega (
 next_week_one : (y : ℤ) → IsYear y → (week_one (y +ℤ pos 1) ≡ week_one y +ℤ pos (7 * weeks_in_year y)) × (52 ≤ weeks_in_year y)
     × (weeks_in_year y ≤ 53)
 next_week_one y in_range =
-    let next = weeks_in_year-next y (y +ℤ pos 1) in_range refl in
-    (sym (same_week_one (y +ℤ pos 1) (omega (arith, ints))) ∙ next.0
-        ∙ ap (λ (z : ℤ). z +ℤ pos (7 * weeks_in_year y)) (same_week_one y in_range.0), next.1, next.2)
+    let next = weeks_in_year-next y (y +ℤ pos 1) in_range refl in (
+      sym (same_week_one (y +ℤ pos 1) (omega (arith, ints))) ∙ next.0
+          ∙ ap (λ (z : ℤ). z +ℤ pos (7 * weeks_in_year y)) (same_week_one y in_range.0),
+      next.1,
+      next.2,
+    )
 
 pub week_exists : (y : ℤ) (ww : ℕ) (w : Weekday) (d : ℕ) → monday_zero w + 1 ≡ d → IsIsoWeekDate y (pos ww) w → Exists (Week y ww d)
     × IsCivilDay (day_of (Week y ww d))
@@ -120,5 +123,5 @@ week_is y ww w d same h =
     let next = next_week_one y in_range in
     let near = week_one_near (y +ℤ pos 1) in
     let most : pos ww ≤ℤ pos (weeks_in_year y) = let few = last_week ww (weeks_in_year y) e.1 next.1
-        (λ last. let late = e.4 last in omega (arith, ints)) in omega (arith, ints) in
+    (λ last. let late = e.4 last in omega (arith, ints)) in omega (arith, ints) in
     (in_range, (omega (arith, ints, e.0), most), rw (week_day y ww w d in_range.0 e.0 same) civil)

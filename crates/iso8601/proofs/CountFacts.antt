@@ -63,7 +63,7 @@ count_some : (unit : ℕ) (text rest : List ℕ) (value : ℕ) → is_ascii_digi
     → peek (text ++ rest) ≡ Some (seen value unit rest)
 count_some unit text rest value h c =
     let split : text ++ rest ≡ c.digits ++ (unit ∷ rest) = ap (λ (l : List ℕ). l ++ rest) c.joined
-        ∙ append_assoc c.digits (unit ∷ []) rest in
+    ∙ append_assoc c.digits (unit ∷ []) rest in
     rw split (peek_exact c.digits rest unit value c.number h)
 
 pub count_exact : (unit : ℕ) (text rest : List ℕ) (value : ℕ) → is_ascii_digit unit ≡ false → IsCount (unit ∷ []) text value
@@ -124,13 +124,13 @@ no_number unit b bs h = rw h refl
 closed_made : (bytes digits : List ℕ) (p : Peeked) (o : Option (List ℕ)) → IsNumberOf32Bits digits p.number
     → bytes ≡ digits ++ p.letter ∷ p.behind → IsPoint (p.letter ∷ []) → read_mark 83 (after_digits p.behind) ≡ o
     → Begins IsSeconds bytes (closed_by bytes (p.number, millis_of (front_digits p.behind)) o).0
-        (closed_by bytes (p.number, millis_of (front_digits p.behind)) o).1
+    (closed_by bytes (p.number, millis_of (front_digits p.behind)) o).1
 unfolding millis_of
 closed_made bytes digits p None n split point h = ([], inl (inl (refl, refl), refl), refl)
 closed_made bytes digits p (Some rest) n split point h =
     let fd : List ℕ = front_digits p.behind in
     let behind : p.behind ≡ fd ++ 83 ∷ rest = sym (front_and_after p.behind)
-        ∙ ap (λ (l : List ℕ). fd ++ l) (letter_sound 83 (after_digits p.behind) rest h) in
+    ∙ ap (λ (l : List ℕ). fd ++ l) (letter_sound 83 (after_digits p.behind) rest h) in
     let fraction : IsMilliseconds (p.letter ∷ fd) (number_of (take 3 (fd ++ codes "000"))) =
     record { point = p.letter ∷ []; digits = fd; mark = point; all_digits = front_are_digits p.behind; joined = refl; value = refl } in (
       digits ++ ((p.letter ∷ fd) ++ codes "S"),
@@ -145,7 +145,7 @@ seconds_if : (bytes digits : List ℕ) (p : Peeked) (whole point comma : Bool) �
     → let some : (ℕ × ℕ) × List ℕ = read_closed bytes p.number p.behind in
     let r : (ℕ × ℕ) × List ℕ =
     cond {A = (ℕ × ℕ) × List ℕ} whole ((p.number, 0), p.behind)
-        (cond {A = (ℕ × ℕ) × List ℕ} point some (cond {A = (ℕ × ℕ) × List ℕ} comma some (no_seconds bytes))) in
+    (cond {A = (ℕ × ℕ) × List ℕ} point some (cond {A = (ℕ × ℕ) × List ℕ} comma some (no_seconds bytes))) in
     Begins IsSeconds bytes r.0 r.1
 seconds_if bytes digits p true point comma n split is_whole is_point is_comma = (
   digits ++ 83 ∷ [],
@@ -163,7 +163,7 @@ seconds_made bytes None h = ([], inl (inl (refl, refl), refl), refl)
 seconds_made bytes (Some p) h =
     let n = peek_sound bytes p h in
     seconds_if bytes n.0 p (p.letter == 83) (p.letter == 46) (p.letter == 44) n.1 n.2 (eqb-true p.letter 83) (eqb-true p.letter 46)
-        (eqb-true p.letter 44)
+    (eqb-true p.letter 44)
 
 seconds_sound : (bytes : List ℕ) → Begins IsSeconds bytes (read_seconds bytes).0 (read_seconds bytes).1
 unfolding read_seconds
@@ -197,7 +197,7 @@ seconds_decimal : (text rest : List ℕ) (value : ℕ × ℕ) → IsDecimal text
 unfolding millis_of
 seconds_decimal text rest value d =
     ap read_seconds (decimal_split text rest value d) ∙ seconds_point d.millis.point d.digits d.millis.digits rest value.0 d.millis.mark
-        d.number d.millis.all_digits ∙ ap (λ (m : ℕ). ((value.0, m), rest)) (sym d.millis.value)
+    d.number d.millis.all_digits ∙ ap (λ (m : ℕ). ((value.0, m), rest)) (sym d.millis.value)
 
 seconds_reach : (text rest : List ℕ) (value : ℕ × ℕ) → IsSeconds text value → length (read_seconds (text ++ rest)).1 ≤ length rest
 seconds_reach text rest value (inl (inl none, zero_millis)) = let s = seconds_sound rest in
@@ -233,7 +233,7 @@ pub seconds_marks : (other : ℕ) → (83 == other) ≡ false → (46 == other) 
 seconds_marks other s p c text value (inl (count, zero_millis)) = count_marks 83 other refl s text value.0 count
 seconds_marks other s p c text value (inr d) =
     inr (λ rest. rw (decimal_split text rest value d) (point_other other d.millis.point d.digits
-        (d.millis.digits ++ 83 ∷ rest) value.0 p c d.millis.mark d.number))
+    (d.millis.digits ++ 83 ∷ rest) value.0 p c d.millis.mark d.number))
 
 -- ---- the clock
 
@@ -246,22 +246,26 @@ read_clock_parts = read_both (read_perhaps 72) (read_both (read_perhaps 77) read
 clock_parts : Optional IsClockParts read_clock_parts (λ rest. rest ≡ [])
 clock_parts =
     let late = both_optional (IsPerhapsCount (codes "M")) IsSeconds (read_perhaps 77) read_seconds (NoCount 77) (λ rest. rest ≡ [])
-        (count_optional 77 refl) seconds_optional (seconds_marks 77 refl refl refl) (nothing_left 77) in
+    (count_optional 77 refl) seconds_optional (seconds_marks 77 refl refl refl) (nothing_left 77) in
     let ends = both_marks (IsPerhapsCount (codes "M")) IsSeconds (NoCount 72) (count_marks 77 72 refl refl)
-        (seconds_marks 72 refl refl refl) in
+    (seconds_marks 72 refl refl refl) in
     both_optional (IsPerhapsCount (codes "H")) _ (read_perhaps 72) (read_both (read_perhaps 77) read_seconds) (NoCount 72)
-        (λ rest. rest ≡ []) (count_optional 72 refl) late ends (nothing_left 72)
+    (λ rest. rest ≡ []) (count_optional 72 refl) late ends (nothing_left 72)
 
 parts_of : (text : List ℕ) (v : ℕ × (ℕ × (ℕ × ℕ))) (c : IsDurationClock text v)
     → IsClockParts (c.hour_text ++ (c.minute_text ++ c.second_text)) v
 parts_of text v c =
-    record { first = c.hour_text; second = c.minute_text ++ c.second_text; is_first = c.hours;
-        is_second = record { first = c.minute_text; second = c.second_text; is_first = c.minutes; is_second = c.seconds; joined = refl };
-        joined = refl }
+    record {
+      first = c.hour_text;
+      second = c.minute_text ++ c.second_text;
+      is_first = c.hours;
+      is_second = record { first = c.minute_text; second = c.second_text; is_first = c.minutes; is_second = c.seconds; joined = refl };
+      joined = refl;
+    }
 
 clock_if : (t : Bool) (b : ℕ) (bs : List ℕ) → (t ≡ true → b ≡ 84)
     → let r : (ℕ × (ℕ × (ℕ × ℕ))) × List ℕ = cond {A = (ℕ × (ℕ × (ℕ × ℕ))) × List ℕ} t (read_clock_parts bs) ((0, (0, (0, 0))), b ∷ bs) in
-        Begins IsPerhapsClock (b ∷ bs) r.0 r.1
+    Begins IsPerhapsClock (b ∷ bs) r.0 r.1
 clock_if false b bs is = ([], inl (refl, refl), refl)
 clock_if true b bs is =
     let parts = clock_parts.sound bs in (

@@ -32,13 +32,13 @@ no_t run place b apart =
     let bytes : List ℕ = from_run place.text run in
     let long : length (front_digits bytes) ≡ run.end - run.start = ap length (sym b.digits) ∙ run_length place.text run b.is_run in
     rw (← front_and_after bytes) (digits_first 84 (front_digits bytes) (after_digits bytes) refl
-        (some_bytes run place (length (front_digits bytes)) long b apart) (front_are_digits bytes))
+    (some_bytes run place (length (front_digits bytes)) long b apart) (front_are_digits bytes))
 
 pub clock_left : (run : Run) (place : Place) → IsBehind run place → run.start ≢ run.end → (read_clock (from_run place.text run)).1 ≢ []
 clock_left run place b apart none =
     let bytes : List ℕ = from_run place.text run in
     let whole : (read_clock bytes).1 ≡ bytes = ap (λ (r : (ℕ × (ℕ × (ℕ × ℕ))) × List ℕ). r.1)
-        (clock_missing bytes (no_t run place b apart)) in
+    (clock_missing bytes (no_t run place b apart)) in
     some_passed run place b apart (sym whole ∙ none)
 
 less_zero : (n : ℕ) → nat_lt n 0 ≡ false
@@ -114,8 +114,13 @@ no_date bytes (b ∷ bs) n h unit =
 no_counted : (bytes : List ℕ) → read_count 89 bytes ≡ None → read_count 77 bytes ≡ None → read_count 68 bytes ≡ None → NotFirst 84 bytes
     → read_counted bytes ≡ None
 unfolding read_counted read_counts
-no_counted bytes y m d t = rw (perhaps_none 89 bytes y, perhaps_none 77 bytes m, perhaps_none 68 bytes d, clock_missing bytes t,
-    not_less (length bytes)) refl
+no_counted bytes y m d t = rw (
+  perhaps_none 89 bytes y,
+  perhaps_none 77 bytes m,
+  perhaps_none 68 bytes d,
+  clock_missing bytes t,
+  not_less (length bytes),
+) refl
 
 count_missing : (unit n : ℕ) (bytes rest : List ℕ) → peek bytes ≡ with_letter n rest → front_byte rest ≢ Some unit
     → read_count unit bytes ≡ None

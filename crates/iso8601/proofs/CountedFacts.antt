@@ -48,8 +48,12 @@ pub number_some : (text : List ℕ) (run : Run) → IsRun text run → run.start
 number_some text run is apart fits =
     let same = known run.value (number_of (digits_of text run)) is.value (omega arith) in
     let long = run_length text run is in
-    number_exact (digits_of text run) run.value (record { some = omega (arith, is.order); all_digits = is.digits; number = same;
-        fits = fits })
+    number_exact (digits_of text run) run.value (record {
+      some = omega (arith, is.order);
+      all_digits = is.digits;
+      number = same;
+      fits = fits;
+    })
 
 pub number_none : (text : List ℕ) (run : Run) → IsRun text run → (run.start ≡ run.end) ⊎ (2 ^ 32 ≤ run.value)
     → number_in (digits_of text run) ≡ None
@@ -98,8 +102,13 @@ field_passed count lo hi run old new s most all least bound =
     let split : ahead old ≡ ds ++ ahead new = s.passed.split in
     let taken : take count (ahead old) ≡ ds = ap (take count) split ∙ take_at ds (ahead new) count long in
     let left : drop count (ahead old) ≡ ahead new = ap (drop count) split ∙ drop_at ds (ahead new) count long in
-    let enough : count ≤ length (ahead old) = omega (arith, long, length-take count (front_digits (ahead old)), ap length split,
-        length-append ds (ahead new)) in
+    let enough : count ≤ length (ahead old) = omega (
+      arith,
+      long,
+      length-take count (front_digits (ahead old)),
+      ap length split,
+      length-append ds (ahead new),
+    ) in
     let are : AreDigits (take count (ahead old)) = rw taken (digits-take count (front_digits (ahead old)) (front_are_digits (ahead old))) in
     let number : run.value ≡ number_of (take count (ahead old)) = value ∙ ap number_of (sym taken) in
     field_some count lo hi (ahead old) enough are (omega (arith, number)) (omega (arith, number)) ∙ rw (left, sym number) refl
@@ -110,7 +119,7 @@ field_missing count lo hi run old new s most never =
     field_none count lo hi (ahead old) (λ is.
     let same = front_take count (ahead old) is.1 in
     let long : length (take count (front_digits (ahead old))) ≡ count = omega
-        (arith, ap length same, length-take count (ahead old), is.0) in
+    (arith, ap length same, length-take count (ahead old), is.0) in
     let value = short_value count run old new s most ∙ ap number_of same in
     never (sym (short_length count run old new s) ∙ long) (omega (arith, value, is.2)) (omega (arith, value, is.3)))
 
@@ -118,14 +127,23 @@ field_missing count lo hi run old new s most never =
 
 millis_of_front : (fd : List ℕ) (n v : ℕ) → n ≡ length (take 3 fd) → v ≡ number_of (take 3 fd)
     → (n ≡ 0 → millis_of fd ≡ 0) × (n ≡ 1 → millis_of fd ≡ 100 * v) × (n ≡ 2 → millis_of fd ≡ 10 * v)
-        × (n ≢ 0 → n ≢ 1 → n ≢ 2 → millis_of fd ≡ v)
+    × (n ≢ 0 → n ≢ 1 → n ≢ 2 → millis_of fd ≡ v)
 unfolding millis_of
 millis_of_front [] n v long value = (λ h. refl, λ h. absurd (omega arith), λ h. absurd (omega arith), λ h k l. absurd (h long))
 millis_of_front (a ∷ []) n v long value = (λ h. absurd (omega arith), λ h. omega arith, λ h. absurd (omega arith), λ h k l. absurd (k long))
-millis_of_front (a ∷ b ∷ []) n v long value = (λ h. absurd (omega arith), λ h. absurd (omega arith), λ h. omega arith, λ h k l. absurd
-    (l long))
-millis_of_front (a ∷ b ∷ c ∷ fd) n v long value = (λ h. absurd (omega arith), λ h. absurd (omega arith), λ h. absurd (omega arith),
-    λ h k l. sym value)
+millis_of_front (a ∷ b ∷ []) n v long value = (
+  λ h. absurd (omega arith),
+  λ h. absurd (omega arith),
+  λ h. omega arith,
+  λ h k l. absurd
+      (l long),
+)
+millis_of_front (a ∷ b ∷ c ∷ fd) n v long value = (
+  λ h. absurd (omega arith),
+  λ h. absurd (omega arith),
+  λ h. absurd (omega arith),
+  λ h k l. sym value,
+)
 
 pub millis_passed : (run : Run) (old new : Place) → IsShort 3 run old new
     → let n = run.end - run.start in let m = millis_of (front_digits (ahead old)) in
@@ -230,7 +248,7 @@ time_stuck bytes one two h m p q s t whole =
     let hours : read_field 2 0 24 bytes ≡ Some (h, one) = sym p in
     let minutes : read_marked 58 2 0 59 one ≡ Some (m, two) = sym q in
     let read : read_time bytes ≡ Some (time_of h m (0, (0, (pos 0, pos 0))), two) = rw
-        (hours, minutes, stuck_later 60 two s, stuck_fraction two s.0, stuck_offset two s.0) refl in
+    (hours, minutes, stuck_later 60 two s, stuck_fraction two s.0, stuck_offset two s.0) refl in
     some_left two s.0 (some_pair_parts _ _ _ _ (sym read ∙ whole)).1
 
 -- ---- seconds
@@ -275,8 +293,12 @@ other_seconds : (bytes rest : List ℕ) (n : ℕ) → peek bytes ≡ with_letter
 unfolding read_seconds
 other_seconds bytes [] n h other point = rw h refl
 other_seconds bytes (b ∷ bs) n h other point =
-    rw (h, other_byte b 83 other, other_byte b 46 (λ e. point.0 (let same : b ≡ 46 = cc in same)),
-        other_byte b 44 (λ e. point.1 (let same : b ≡ 44 = cc in same))) refl
+    rw (
+      h,
+      other_byte b 83 other,
+      other_byte b 46 (λ e. point.0 (let same : b ≡ 46 = cc in same)),
+      other_byte b 44 (λ e. point.1 (let same : b ≡ 44 = cc in same)),
+    ) refl
 
 pub seconds_other : (run : Run) (place : Place) (n : ℕ) → IsBehind run place → number_in (digits_of place.text run) ≡ Some n
     → front_byte (ahead place) ≢ Some 83 → BeginsNoPoint (ahead place)
@@ -306,7 +328,7 @@ pub seconds_open : (run : Run) (place mid : Place) (n ms : ℕ) → IsBehind run
     → read_seconds (from_run place.text run) ≡ ((0, 0), from_run place.text run)
 seconds_open run place mid n ms b h point other =
     pointed_seconds (from_run place.text run) (ahead place) (ahead mid) n ms (peek_behind run place n b h) point
-        ∙ rw (no_mark (ahead mid) other) refl
+    ∙ rw (no_mark (ahead mid) other) refl
 
 -- what is read with all of the bytes left leaves something
 pub left_over : (bytes : List ℕ) → bytes ≢ [] → read_seconds bytes ≡ ((0, 0), bytes) → (read_seconds bytes).1 ≢ []

@@ -36,9 +36,11 @@ pub week_cycled : (y later : ℤ) (ww d : ℕ) → IsCycled y later → Exists (
 week_cycled y later ww d c =
     let start : week_one later ≡ week_one y +ℤ (pos 146_097 *ℤ c.0) = ap week_one c.1 ∙ week_one-cycle y c.0 in
     let next : new_year (later +ℤ pos 1) ≡ new_year (y +ℤ pos 1) +ℤ (pos 146_097 *ℤ c.0) = ap new_year (next_cycle y later c.0 c.1)
-        ∙ new_year-cycle (y +ℤ pos 1) c.0 in
-    (λ e. (e.0, e.1, e.2, e.3, λ last. let before = e.4 last in omega (arith, ints)), λ e.
-        (e.0, e.1, e.2, e.3, λ last. let before = e.4 last in omega (arith, ints)))
+    ∙ new_year-cycle (y +ℤ pos 1) c.0 in (
+      λ e. (e.0, e.1, e.2, e.3, λ last. let before = e.4 last in omega (arith, ints)),
+      λ e.
+          (e.0, e.1, e.2, e.3, λ last. let before = e.4 last in omega (arith, ints)),
+    )
 
 -- ---- the years from 2000 to 2399
 

@@ -17,8 +17,16 @@ date_sound bytes rest date h =
     let mark = mark_sound 45 y.1 in
     let day = day_sound y.0 (after_mark 45 y.1) rest date body in (
       year.0 ++ (mark.0 ++ day.0),
-      record { year_text = year.0; hyphen = mark.0; day_text = day.0; year = y.0; years = year.1; mark = mark.1; days = day.1;
-          joined = refl },
+      record {
+        year_text = year.0;
+        hyphen = mark.0;
+        day_text = day.0;
+        year = y.0;
+        years = year.1;
+        mark = mark.1;
+        days = day.1;
+        joined = refl;
+      },
       joins bytes year.0 (mark.0 ++ day.0) _ rest year.2 (joins y.1 mark.0 day.0 _ rest mark.2 day.2),
     ))
 
@@ -27,7 +35,7 @@ pub date_at : (text rest : List ℕ) (date : Date) (d : IsDate text date) → re
 unfolding read_date
 date_at text rest date d =
     let split : text ++ rest ≡ d.year_text ++ (d.hyphen ++ (d.day_text ++ rest)) = behind text d.year_text
-        (d.hyphen ++ d.day_text) rest d.joined ∙ ap (λ (l : List ℕ). d.year_text ++ l) (append_assoc d.hyphen d.day_text rest) in
+    (d.hyphen ++ d.day_text) rest d.joined ∙ ap (λ (l : List ℕ). d.year_text ++ l) (append_assoc d.hyphen d.day_text rest) in
     let year = year_exact d.year_text (d.hyphen ++ (d.day_text ++ rest)) d.year d.years in
     let mark = mark_exact 45 d.hyphen (d.day_text ++ rest) d.mark (no_hyphen d.year d.day_text rest date d.days) in
     ap read_date split ∙ rw (year, mark) refl

@@ -35,8 +35,16 @@ month_day_sound year bytes rest date h =
     let day = marked_sound 45 2 1 31 m.1 d.1 d.0 found_day in
     let parts = some_pair_parts _ _ _ _ made in (
       month.0 ++ day.0,
-      record { month_text = month.0; day_text = day.0; month = m.0; day = d.0; months = month.1; days = day.1; joined = refl;
-          value = sym parts.0 },
+      record {
+        month_text = month.0;
+        day_text = day.0;
+        month = m.0;
+        day = d.0;
+        months = month.1;
+        days = day.1;
+        joined = refl;
+        value = sym parts.0;
+      },
       joins bytes month.0 day.0 _ rest month.2 (day.2 ∙ ap (λ (l : List ℕ). day.0 ++ l) parts.1),
     )))
 
@@ -46,7 +54,7 @@ pub week_day_exact : (year : ℤ) → Exact (IsWeekDay year) (read_week_day year
 unfolding read_week_day
 week_day_exact year text rest date w =
     let split : text ++ rest ≡ 87 ∷ (w.week_text ++ (w.day_text ++ rest)) = ap (λ (l : List ℕ). l ++ rest) w.joined
-        ∙ ap (λ (l : List ℕ). 87 ∷ l) (append_assoc w.week_text w.day_text rest) in
+    ∙ ap (λ (l : List ℕ). 87 ∷ l) (append_assoc w.week_text w.day_text rest) in
     let week = field_exact 2 1 53 w.week_text (w.day_text ++ rest) w.week w.weeks in
     let day = marked_exact 45 1 1 7 refl (omega arith) w.day_text rest w.day w.days in
     rw (split, week, day, w.value) refl
@@ -55,13 +63,21 @@ pub week_day_sound : (year : ℤ) → Sound (IsWeekDay year) (read_week_day year
 unfolding read_week_day
 week_day_sound year bytes rest date h =
     option_and_then_some _ _ _ h (λ l letter body. option_and_then_some _ _ _ body
-        (λ w found more. option_and_then_some _ _ _ more (λ d found_day made.
+    (λ w found more. option_and_then_some _ _ _ more (λ d found_day made.
     let week = field_sound 2 1 53 l w.1 w.0 found in
     let day = marked_sound 45 1 1 7 w.1 d.1 d.0 found_day in
     let parts = some_pair_parts _ _ _ _ made in (
       87 ∷ (week.0 ++ day.0),
-      record { week_text = week.0; day_text = day.0; week = w.0; day = d.0; weeks = week.1; days = day.1; joined = refl;
-          value = sym parts.0 },
+      record {
+        week_text = week.0;
+        day_text = day.0;
+        week = w.0;
+        day = d.0;
+        weeks = week.1;
+        days = day.1;
+        joined = refl;
+        value = sym parts.0;
+      },
       letter_sound 87 bytes l letter ∙ ap (λ (x : List ℕ). 87 ∷ x)
           (joins l week.0 day.0 _ rest week.2 (day.2 ∙ ap (λ (x : List ℕ). day.0 ++ x) parts.1)),
     ))))
@@ -90,8 +106,16 @@ month_is_longer : (year : ℤ) (bytes : List ℕ) → NoShorter (read_month_day 
 month_is_longer year bytes x y found_x found_y =
     let m = month_day_sound year bytes x.1 x.0 found_x in
     let o = ordinal_day_sound year bytes y.1 y.0 found_y in
-    omega (arith, front_length bytes m.0 x.1 m.2, front_length bytes o.0 y.1 o.2, front_length m.0 m.1.month_text m.1.day_text m.1.joined,
-        front_length m.1.day_text m.1.days.front m.1.days.digits m.1.days.joined, m.1.months.long, m.1.days.field.long, o.1.1.long)
+    omega (
+      arith,
+      front_length bytes m.0 x.1 m.2,
+      front_length bytes o.0 y.1 o.2,
+      front_length m.0 m.1.month_text m.1.day_text m.1.joined,
+      front_length m.1.day_text m.1.days.front m.1.days.digits m.1.days.joined,
+      m.1.months.long,
+      m.1.days.field.long,
+      o.1.1.long,
+    )
 
 pub month_or_ordinal_sound : (year : ℤ) → Sound (λ text date. IsMonthDay year text date ⊎ IsOrdinalDay year text date)
     (λ bytes. or_else (read_month_day year bytes) (read_ordinal_day year bytes))
@@ -144,10 +168,10 @@ pub day_reach : (year : ℤ) → Reach (IsDayOf year) (read_day year)
 unfolding read_day
 day_reach year text rest date d =
     let later = either_reach (IsMonthDay year) (IsOrdinalDay year) (read_month_day year) (read_ordinal_day year)
-        (reach_from_exact _ (read_month_day year) (month_day_exact year))
-        (reach_from_exact _ (read_ordinal_day year) (ordinal_day_exact year)) (month_is_longer year) in
+    (reach_from_exact _ (read_month_day year) (month_day_exact year))
+    (reach_from_exact _ (read_ordinal_day year) (ordinal_day_exact year)) (month_is_longer year) in
     either_reach (IsWeekDay year) _ (read_week_day year) _ (reach_from_exact _ (read_week_day year) (week_day_exact year)) later
-        (week_alone year) text rest date (turned d)
+    (week_alone year) text rest date (turned d)
 
 -- no day begins with a hyphen
 day_first : (year : ℤ) (text rest : List ℕ) (date : Date) → IsDay year text date → NotFirst 45 (text ++ rest)
@@ -196,9 +220,14 @@ month_none year text rest day f n =
 pub day_exact : (year : ℤ) (text rest : List ℕ) (date : Date) → IsDayOf year text date → NoDigitFirst rest
     → read_day year (text ++ rest) ≡ Some (date, rest)
 unfolding read_day
-day_exact year text rest date (inl m) n = rw (week_none year (text ++ rest) (month_first 87 year text rest date refl m),
-    month_day_exact year text rest date m) refl
+day_exact year text rest date (inl m) n = rw (
+  week_none year (text ++ rest) (month_first 87 year text rest date refl m),
+  month_day_exact year text rest date m,
+) refl
 day_exact year text rest date (inr (inl w)) n = rw (week_day_exact year text rest date w) refl
 day_exact year text rest date (inr (inr o)) n =
-    rw (week_none year (text ++ rest) (digit_first 87 year text rest date refl (inr o)), month_none year text rest o.0 o.1 n,
-        ordinal_day_exact year text rest date o) refl
+    rw (
+      week_none year (text ++ rest) (digit_first 87 year text rest date refl (inr o)),
+      month_none year text rest o.0 o.1 n,
+      ordinal_day_exact year text rest date o,
+    ) refl

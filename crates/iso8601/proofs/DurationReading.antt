@@ -45,15 +45,15 @@ counts_optional : Optional IsCounts read_counts (λ rest. rest ≡ [])
 unfolding read_counts
 counts_optional =
     let late = both_optional (IsPerhapsCount (codes "D")) IsPerhapsClock (read_perhaps 68) read_clock (NoCount 68) (λ rest. rest ≡ [])
-        (count_optional 68 refl) clock_optional (clock_marks 68) (nothing_left 68) in
+    (count_optional 68 refl) clock_optional (clock_marks 68) (nothing_left 68) in
     let late_marks = both_marks (IsPerhapsCount (codes "D")) IsPerhapsClock (NoCount 77) (count_marks 68 77 refl refl) (clock_marks 77) in
     let later = both_optional (IsPerhapsCount (codes "M")) IsLate (read_perhaps 77) (read_both (read_perhaps 68) read_clock) (NoCount 77)
-        (λ rest. rest ≡ []) (count_optional 77 refl) late late_marks (nothing_left 77) in
+    (λ rest. rest ≡ []) (count_optional 77 refl) late late_marks (nothing_left 77) in
     let early_marks = both_marks (IsPerhapsCount (codes "D")) IsPerhapsClock (NoCount 89) (count_marks 68 89 refl refl) (clock_marks 89) in
     let later_marks = both_marks (IsPerhapsCount (codes "M")) IsLate (NoCount 89) (count_marks 77 89 refl refl) early_marks in
     both_optional (IsPerhapsCount (codes "Y")) IsLater (read_perhaps 89)
-        (read_both (read_perhaps 77) (read_both (read_perhaps 68) read_clock)) (NoCount 89) (λ rest. rest ≡ [])
-        (count_optional 89 refl) later later_marks (nothing_left 89)
+    (read_both (read_perhaps 77) (read_both (read_perhaps 68) read_clock)) (NoCount 89) (λ rest. rest ≡ [])
+    (count_optional 89 refl) later later_marks (nothing_left 89)
 
 abbrev values_of : (text : List ℕ) (d : Duration) → IsCounted text d → Counts
 values_of text d c = (c.year, (c.month, (c.day, c.clock)))
@@ -114,16 +114,19 @@ counted_sound bytes rest d h =
     let parts = some_pair_parts _ _ _ _ (ap Some found.1) in
     let c = counts_optional.sound bytes in
     let less = ltb-true _ _ found.0 in
-    let P : Duration → Type 0 = λ v. IsCounted c.0 v in
-    (c.0, subst P parts.0 (counted_from c.0 (read_counts bytes).0 (some_text bytes c.0 (read_counts bytes).1 c.2 less) c.1), c.2
-        ∙ ap (λ (l : List ℕ). c.0 ++ l) parts.1)
+    let P : Duration → Type 0 = λ v. IsCounted c.0 v in (
+      c.0,
+      subst P parts.0 (counted_from c.0 (read_counts bytes).0 (some_text bytes c.0 (read_counts bytes).1 c.2 less) c.1),
+      c.2
+          ∙ ap (λ (l : List ℕ). c.0 ++ l) parts.1,
+    )
 
 counted_reach : Reach IsCounted read_counted
 unfolding read_counted
 counted_reach text rest d c =
     let far = counts_optional.reach text rest (values_of text d c) (counts_of text d c) in
     let test : nat_lt (length (read_counts (text ++ rest)).1) (length (text ++ rest))
-        ≡ true = lt-ltb _ _ (let l = longer text rest c.some in omega arith) in
+    ≡ true = lt-ltb _ _ (let l = longer text rest c.some in omega arith) in
     rw test far
 
 counted_whole : (text : List ℕ) (d : Duration) → IsCounted text d → read_counted (text ++ []) ≡ Some (d, [])
@@ -226,21 +229,21 @@ dated_reach text rest d is = rw (dated_at text rest d is) (reaches_with (dated_o
 dated_whole : (text : List ℕ) (d : Duration) → IsDated text d → read_dated (text ++ []) ≡ Some (d, [])
 dated_whole text d is =
     dated_at text [] d is ∙ ap (with_value (dated_of is.year is.month is.day)) (time_exact is.time_text is.time is.times)
-        ∙ ap (λ (v : Duration). Some (v, [])) (sym is.value)
+    ∙ ap (λ (v : Duration). Some (v, [])) (sym is.value)
 
 dated_sound : Sound IsDated read_dated
 unfolding read_dated
 dated_sound bytes rest d h =
     option_and_then_some _ _ _ h (λ y found_y more_y. option_and_then_some _ _ _ more_y
-        (λ m found_m more_m. option_and_then_some _ _ _ more_m (λ k found_k more_k. option_and_then_some _ _ _ more_k
-        (λ behind marked more. option_and_then_some _ _ _ more (λ t found_t made.
+    (λ m found_m more_m. option_and_then_some _ _ _ more_m (λ k found_k more_k. option_and_then_some _ _ _ more_k
+    (λ behind marked more. option_and_then_some _ _ _ more (λ t found_t made.
     let year = field_sound 4 0 9999 bytes y.1 y.0 found_y in
     let month = marked_sound 45 2 1 12 y.1 m.1 m.0 found_m in
     let day = marked_sound 45 2 1 31 m.1 k.1 k.0 found_k in
     let time = time_sound behind t.1 t.0 found_t in
     let parts = some_pair_parts _ _ _ _ made in
     let last : k.1 ≡ (84 ∷ time.0) ++ rest = letter_sound 84 k.1 behind marked
-        ∙ ap (λ (l : List ℕ). 84 ∷ l) (time.2 ∙ ap (λ (l : List ℕ). time.0 ++ l) parts.1) in (
+    ∙ ap (λ (l : List ℕ). 84 ∷ l) (time.2 ∙ ap (λ (l : List ℕ). time.0 ++ l) parts.1) in (
       year.0 ++ (month.0 ++ (day.0 ++ (84 ∷ time.0))),
       record {
         year_text = year.0;
@@ -286,16 +289,16 @@ dated_peek_at year first month second day more y m d fy (inr one) fm s fd =
 dated_peek_at year first month second day more y m d fy (inl none) fm (inr one) fd =
     let l = length-append year month in
     let n = run_is_number (year ++ month) (omega (arith, fy.long)) (omega (arith, fy.long, fm.long))
-        (digits-append year month fy.digits fm.digits) in
+    (digits-append year month fy.digits fm.digits) in
     rw (none, one, ← append_assoc year month (45 ∷ (day ++ 84 ∷ more))) (peeks_hyphen (year ++ month) (day ++ 84 ∷ more) n)
 dated_peek_at year first month second day more y m d fy (inl none) fm (inl nil) fd =
     let k = length-append year (month ++ day) in
     let l = length-append month day in
     let n = run_is_number (year ++ (month ++ day)) (omega (arith, fy.long)) (omega (arith, fy.long, fm.long, fd.long))
-        (digits-append year (month ++ day) fy.digits (digits-append month day fm.digits fd.digits)) in
+    (digits-append year (month ++ day) fy.digits (digits-append month day fm.digits fd.digits)) in
     let P : List ℕ → Type 0 = λ l. PeeksDate l in
     let same : (year ++ (month ++ day)) ++ 84 ∷ more ≡ year ++ (month ++ (day ++ 84 ∷ more)) = append_assoc year (month ++ day) (84 ∷ more)
-        ∙ ap (λ (x : List ℕ). year ++ x) (append_assoc month day (84 ∷ more)) in
+    ∙ ap (λ (x : List ℕ). year ++ x) (append_assoc month day (84 ∷ more)) in
     rw (none, nil) (subst P same (peeks_t (year ++ (month ++ day)) more n))
 
 dated_peek : (text rest : List ℕ) (d : Duration) → IsDated text d → PeeksDate (text ++ rest)
@@ -307,7 +310,7 @@ dated_peek text rest d is =
     ∙ ap (λ (l : List ℕ). is.year_text ++ l) (behind is.month_text m.front m.digits (is.day_text ++ (84 ∷ (is.time_text ++ rest))) m.joined
     ∙ ap (λ (l : List ℕ). m.front ++ (m.digits ++ l)) (behind is.day_text k.front k.digits (84 ∷ (is.time_text ++ rest)) k.joined)) in
     rw split (dated_peek_at is.year_text m.front m.digits k.front k.digits
-        (is.time_text ++ rest) is.year is.month is.day is.years m.perhaps m.field k.perhaps k.field)
+    (is.time_text ++ rest) is.year is.month is.day is.years m.perhaps m.field k.perhaps k.field)
 
 -- ---- the three kinds exclude each other
 
@@ -358,7 +361,7 @@ body_whole body d (inr (inl c)) =
       | inr some ↦
           let w = weeks_peek (body ++ []) some.0 some.1 in
           absurd (never_both (read_counted (body ++ [])) (d, []) (counted_whole body d c)
-              (not_counted w.0 (body ++ []) w.1 (is_no_unit w.0.letter w.2)))
+          (not_counted w.0 (body ++ []) w.1 (is_no_unit w.0.letter w.2)))
     ]
 body_whole body d (inr (inr t)) =
     let p = dated_peek body [] d t in

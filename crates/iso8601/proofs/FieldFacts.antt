@@ -42,8 +42,13 @@ field_sound count lo hi bytes rest value h =
     let parts = some_pair_parts _ _ _ _ (ap Some found.1) in
     let test = test_parts _ count lo hi _ _ found.0 in
     let P : ℕ → Type 0 = λ v. IsField count lo hi (take count bytes) v in
-    let field : P (number_of (take count bytes)) = record { long = test.0; digits = digits_from_all _ test.1; number = refl; least = test.2;
-        most = test.3 } in
+    let field : P (number_of (take count bytes)) = record {
+      long = test.0;
+      digits = digits_from_all _ test.1;
+      number = refl;
+      least = test.2;
+      most = test.3;
+    } in
     (take count bytes, subst P parts.0 field, sym (take-append-drop count bytes) ∙ ap (λ (l : List ℕ). take count bytes ++ l) parts.1)
 
 -- what `n_digits_in` finds is what the reader finds
@@ -53,7 +58,7 @@ pub field_some : (count lo hi : ℕ) (bytes : List ℕ) → count ≤ length byt
 unfolding read_field
 field_some count lo hi bytes long digits least most =
     let test : is_field count lo hi (take count bytes) ≡ true = test_whole _ _ lo hi _ _ (length-take-le count bytes long)
-        (all_from_digits (take count bytes) digits) least most in
+    (all_from_digits (take count bytes) digits) least most in
     rw test refl
 
 none_if : {A : Type 0} (t : Bool) (x : A) → (t ≡ true → ⊥) → cond t (Some x) None ≡ None
@@ -65,7 +70,7 @@ full count bytes h = omega (arith, length-take count bytes)
 
 pub field_none : (count lo hi : ℕ) (bytes : List ℕ)
     → ((count ≤ length bytes) × AreDigits (take count bytes) × (lo ≤ number_of (take count bytes)) × (number_of (take count bytes) ≤ hi)
-        → ⊥)
+    → ⊥)
     → read_field count lo hi bytes ≡ None
 unfolding read_field
 field_none count lo hi bytes never =
@@ -168,9 +173,11 @@ pub marked_sound : (mark count lo hi : ℕ) → Sound (IsMarked (mark ∷ []) co
 unfolding read_marked
 marked_sound mark count lo hi bytes rest value h =
     let front = mark_sound mark bytes in
-    let field = field_sound count lo hi (after_mark mark bytes) rest value h in
-    (front.0 ++ field.0, record { front = front.0; digits = field.0; perhaps = front.1; field = field.1; joined = refl },
-        joins bytes front.0 field.0 _ rest front.2 field.2)
+    let field = field_sound count lo hi (after_mark mark bytes) rest value h in (
+      front.0 ++ field.0,
+      record { front = front.0; digits = field.0; perhaps = front.1; field = field.1; joined = refl },
+      joins bytes front.0 field.0 _ rest front.2 field.2,
+    )
 
 -- a mark or a digit comes first
 pub marked_none : (mark lo hi : ℕ) (bytes : List ℕ) → NotFirst mark bytes → NoDigitFirst bytes → read_marked mark 2 lo hi bytes ≡ None
@@ -195,7 +202,7 @@ sign_exact false sign rest (inr plus) m p = rw plus.1 refl
 
 sign_if : (minus plus : Bool) (b : ℕ) (bs : List ℕ) → (minus ≡ true → b ≡ 45) → (plus ≡ true → b ≡ 43)
     → let r : Bool × List ℕ = cond {A = Bool × List ℕ} minus (true, bs) (cond {A = Bool × List ℕ} plus (false, bs) (false, b ∷ bs)) in
-        (sign : List ℕ) × IsSign true r.0 sign × (b ∷ bs ≡ sign ++ r.1)
+    (sign : List ℕ) × IsSign true r.0 sign × (b ∷ bs ≡ sign ++ r.1)
 sign_if true plus b bs is_minus is_plus = (45 ∷ [], refl, ap (λ (c : ℕ). c ∷ bs) (is_minus refl))
 sign_if false true b bs is_minus is_plus = (43 ∷ [], inr (refl, refl), ap (λ (c : ℕ). c ∷ bs) (is_plus refl))
 sign_if false false b bs is_minus is_plus = ([], inl refl, refl)
@@ -209,8 +216,8 @@ unfolding read_year
 year_exact text rest year y =
     let split : text ++ rest ≡ y.sign ++ (y.digits ++ rest) = ap (λ (l : List ℕ). l ++ rest) y.joined ∙ append_assoc y.sign y.digits rest in
     let sign = sign_exact y.negative y.sign (y.digits ++ rest) y.signs
-        (field_first 45 4 0 9999 y.digits rest y.magnitude refl (omega arith) y.four)
-        (field_first 43 4 0 9999 y.digits rest y.magnitude refl (omega arith) y.four) in
+    (field_first 45 4 0 9999 y.digits rest y.magnitude refl (omega arith) y.four)
+    (field_first 43 4 0 9999 y.digits rest y.magnitude refl (omega arith) y.four) in
     let field = field_exact 4 0 9999 y.digits rest y.magnitude y.four in
     rw (split, sign, field, y.value) refl
 
@@ -222,6 +229,17 @@ year_sound bytes rest year h =
     let sign = sign_sound bytes in
     let parts = some_pair_parts _ _ _ _ body in
     let split : bytes ≡ (sign.0 ++ field.0) ++ rest = sign.2 ∙ ap (λ (l : List ℕ). sign.0 ++ l)
-        (field.2 ∙ ap (λ (l : List ℕ). field.0 ++ l) parts.1) ∙ sym (append_assoc sign.0 field.0 rest) in
-    (sign.0 ++ field.0, record { sign = sign.0; digits = field.0; negative = (read_sign bytes).0; magnitude = r.0; signs = sign.1;
-        four = field.1; joined = refl; value = sym parts.0 }, split))
+    (field.2 ∙ ap (λ (l : List ℕ). field.0 ++ l) parts.1) ∙ sym (append_assoc sign.0 field.0 rest) in (
+      sign.0 ++ field.0,
+      record {
+        sign = sign.0;
+        digits = field.0;
+        negative = (read_sign bytes).0;
+        magnitude = r.0;
+        signs = sign.1;
+        four = field.1;
+        joined = refl;
+        value = sym parts.0;
+      },
+      split,
+    ))

@@ -64,7 +64,7 @@ both_reach None b rest le (inr r) = r
 
 pub either_reach : {V : Type 0} (A B : List ℕ → V → Type 0) (ra rb : List ℕ → Option (V × List ℕ)) → Reach A ra → Reach B rb
     → ((bytes : List ℕ) → NoShorter (ra bytes) (rb bytes)) → Reach (λ text value. A text value ⊎ B text value)
-        (λ bytes. or_else (ra bytes) (rb bytes))
+    (λ bytes. or_else (ra bytes) (rb bytes))
 either_reach A B ra rb pa pb le text rest value (inl a) = both_reach (ra (text ++ rest)) (rb (text ++ rest)) rest (le (text ++ rest))
     (inl (pa text rest value a))
 either_reach A B ra rb pa pb le text rest value (inr b) = both_reach (ra (text ++ rest)) (rb (text ++ rest)) rest (le (text ++ rest))
@@ -103,7 +103,7 @@ nothing (b ∷ bs) h = absurd (omega arith)
 -- what is read in front of a text of the grammar is the text and its one value
 pub whole_text : {V : Type 0} (Is : List ℕ → V → Type 0) → ((text : List ℕ) (a b : V) → Is text a → Is text b → a ≡ b)
     → (text : List ℕ) (v : V) → Is text v → (value : V) (rest : List ℕ) → Begins Is text value rest → NoneLonger Is text rest → (value ≡ v)
-        × (rest ≡ [])
+    × (rest ≡ [])
 whole_text {V} Is one text v is value rest found longest =
     let all : rest ≡ [] = nothing rest (longest v [] (text, is, sym (append-nil text))) in
     let same : found.0 ≡ text = sym (found.2 ∙ ap (λ (r : List ℕ). found.0 ++ r) all ∙ append-nil found.0) in

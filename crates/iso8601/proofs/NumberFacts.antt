@@ -59,8 +59,12 @@ pub number_beyond : (n d : ℕ) (all bytes rest : List ℕ) → digits_value_aft
     → d < 10 → bytes ≡ (d + 48) ∷ rest
     → 2 ^ 32 ≤ n * 10 + d → number_in (front_digits all) ≡ None
 number_beyond n d all bytes rest number small split great =
-    number_missing (front_digits all) (inr (omega (arith, value_grows (n * 10 + d) (front_digits rest),
-        value_more n d bytes rest small split, number)))
+    number_missing (front_digits all) (inr (omega (
+      arith,
+      value_grows (n * 10 + d) (front_digits rest),
+      value_more n d bytes rest small split,
+      number,
+    )))
 
 pub no_front : (bytes : List ℕ) → NoDigitFirst bytes → front_digits bytes ≡ []
 no_front [] n = refl

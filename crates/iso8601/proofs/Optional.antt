@@ -15,8 +15,11 @@ pub record Optional {V : Type 0} (Is : List ℕ → V → Type 0) (read : List �
 -- the same under a stronger mark of the end
 pub optional_when : {V : Type 0} (Is : List ℕ → V → Type 0) (read : List ℕ → V × List ℕ) (Stops Sooner : List ℕ → Type 0)
     → ((rest : List ℕ) → Sooner rest → Stops rest) → Optional Is read Stops → Optional Is read Sooner
-optional_when Is read Stops Sooner sooner o = record { sound = o.sound; reach = o.reach;
-    exact = λ text rest value is stops. o.exact text rest value is (sooner rest stops) }
+optional_when Is read Stops Sooner sooner o = record {
+  sound = o.sound;
+  reach = o.reach;
+  exact = λ text rest value is stops. o.exact text rest value is (sooner rest stops);
+}
 
 -- a part that is no longer than the bytes
 pub shrinks : (bytes text rest : List ℕ) → bytes ≡ text ++ rest → length rest ≤ length bytes
@@ -38,14 +41,17 @@ zero_reach Is read sound exact text rest value (inr is) = rw (exact text rest va
 
 zero_exact : (Is : List ℕ → ℕ → Type 0) (read : List ℕ → Option (ℕ × List ℕ)) → Exact Is read
     → (text rest : List ℕ) (value : ℕ) → IsOrZero Is text value → read rest ≡ None
-        → or_zero (text ++ rest) (read (text ++ rest)) ≡ (value, rest)
+    → or_zero (text ++ rest) (read (text ++ rest)) ≡ (value, rest)
 zero_exact Is read exact text rest value (inl none) stops = rw (none.0, none.1, stops) refl
 zero_exact Is read exact text rest value (inr is) stops = rw (exact text rest value is) refl
 
 pub zero_optional : (Is : List ℕ → ℕ → Type 0) (read : List ℕ → Option (ℕ × List ℕ)) → Sound Is read → Exact Is read
     → Optional (IsOrZero Is) (λ bytes. or_zero bytes (read bytes)) (λ rest. read rest ≡ None)
-zero_optional Is read sound exact = record { sound = λ bytes. zero_sound Is read sound bytes (read bytes) refl;
-    reach = zero_reach Is read sound exact; exact = zero_exact Is read exact }
+zero_optional Is read sound exact = record {
+  sound = λ bytes. zero_sound Is read sound bytes (read bytes) refl;
+  reach = zero_reach Is read sound exact;
+  exact = zero_exact Is read exact;
+}
 
 -- ---- two parts in a row
 
@@ -70,11 +76,11 @@ both_optional IsA IsB ra rb StopsA StopsB oa ob marks ends = record {
       let a = oa.sound bytes in
       let b = ob.sound (ra bytes).1 in
       let split : bytes ≡ (a.0 ++ b.0) ++ (rb (ra bytes).1).1 = a.2 ∙ ap (λ (l : List ℕ). a.0 ++ l) b.2
-          ∙ sym (append_assoc a.0 b.0 (rb (ra bytes).1).1) in
+      ∙ sym (append_assoc a.0 b.0 (rb (ra bytes).1).1) in
       (a.0 ++ b.0, record { first = a.0; second = b.0; is_first = a.1; is_second = b.1; joined = refl }, split);
   reach = λ text rest value is.
       let split : text ++ rest ≡ is.first ++ (is.second ++ rest) = ap (λ (l : List ℕ). l ++ rest) is.joined
-          ∙ append_assoc is.first is.second rest in
+      ∙ append_assoc is.first is.second rest in
       rw split (elim (marks is.second value.1 is.is_second) [
         | inl none ↦
             let all : is.second ++ rest ≡ rest = ap (λ (l : List ℕ). l ++ rest) none in
@@ -86,7 +92,7 @@ both_optional IsA IsB ra rb StopsA StopsB oa ob marks ends = record {
       ]);
   exact = λ text rest value is stops.
       let split : text ++ rest ≡ is.first ++ (is.second ++ rest) = ap (λ (l : List ℕ). l ++ rest) is.joined
-          ∙ append_assoc is.first is.second rest in
+      ∙ append_assoc is.first is.second rest in
       let second = ob.exact is.second rest value.1 is.is_second stops in
       let marked : StopsA (is.second ++ rest) = elim (marks is.second value.1 is.is_second) [
         | inl none ↦ rw none (ends rest stops)
@@ -102,7 +108,7 @@ both_marks IsA IsB Stops ma mb text value b =
     elim (ma b.first value.0 b.is_first) [
       | inr marks ↦ inr (λ rest.
           let split : text ++ rest ≡ b.first ++ (b.second ++ rest) = ap (λ (x : List ℕ). x ++ rest) b.joined
-              ∙ append_assoc b.first b.second rest in
+          ∙ append_assoc b.first b.second rest in
           rw split (marks (b.second ++ rest)))
       | inl none ↦
           let only : text ≡ b.second = b.joined ∙ ap (λ (x : List ℕ). x ++ b.second) none in

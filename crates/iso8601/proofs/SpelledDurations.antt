@@ -39,8 +39,13 @@ seconds_if : (s ms : ℕ) (t : Bool) → (ms == 0) ≡ t → s < 2 ^ 32 → ms �
     → IsSeconds (cond t (count_text s (codes "S")) (decimal s ++ (codes "." ++ (padded_digits 3 ms ++ codes "S")))) (s, ms)
 seconds_if s ms true h small most = inl (count_spelled (codes "S") s small, eqb-true ms 0 h)
 seconds_if s ms false h small most =
-    inr (record { digits = decimal s; fraction = codes "." ++ padded_digits 3 ms; number = number_spelled s small;
-        millis = fraction_spelled ms most; joined = refl })
+    inr (record {
+      digits = decimal s;
+      fraction = codes "." ++ padded_digits 3 ms;
+      number = number_spelled s small;
+      millis = fraction_spelled ms most;
+      joined = refl;
+    })
 
 seconds_spelled : (s ms : ℕ) → s < 2 ^ 32 → ms ≤ 999 → IsSeconds (second_text s ms) (s, ms)
 unfolding second_text
@@ -57,7 +62,7 @@ zeros h m s ms z = rw (z.0, z.1, z.2, z.3) refl
 
 clock_if : (h m s ms : ℕ) (t : Bool) → are_zero h m s ms ≡ t → h < 2 ^ 32 → m < 2 ^ 32 → s < 2 ^ 32 → ms ≤ 999
     → IsPerhapsClock (cond t [] (codes "T" ++ (count_text h (codes "H") ++ (count_text m (codes "M") ++ second_text s ms))))
-        (h, (m, (s, ms)))
+    (h, (m, (s, ms)))
 clock_if h m s ms true z p q r o = inl (refl, zeros h m s ms (all_zero h m s ms z))
 clock_if h m s ms false z p q r o =
     inr (record {
@@ -112,7 +117,7 @@ body_some y mo d h m s ms some none =
     let c = length-append mt dt in
     let zero : are_all_zero y mo d h m s ms ≡ true =
     four_true (y == 0) (mo == 0) (d == 0) (are_zero h m s ms) (no_count y (codes "Y") refl (omega arith))
-        (no_count mo (codes "M") refl (omega arith)) (no_count d (codes "D") refl (omega arith)) (no_clock h m s ms (omega arith)) in
+    (no_count mo (codes "M") refl (omega arith)) (no_count d (codes "D") refl (omega arith)) (no_clock h m s ms (omega arith)) in
     let never : true ≡ false = sym zero ∙ some in cc
 
 -- ---- durations
@@ -156,8 +161,16 @@ zero_spelled =
       clock = (0, (0, (0, 0)));
       years = inl (refl, refl);
       months = inl (refl, refl);
-      days = inr (record { digits = codes "0"; number = record { some = omega arith; all_digits = (omega arith, tt); number = refl;
-          fits = omega arith }; joined = refl });
+      days = inr (record {
+        digits = codes "0";
+        number = record {
+          some = omega arith;
+          all_digits = (omega arith, tt);
+          number = refl;
+          fits = omega arith;
+        };
+        joined = refl;
+      });
       clocks = inl (refl, refl);
       some = some_bytes 48 (codes "D");
       joined = refl;
@@ -177,8 +190,11 @@ spelled_if : (y mo d h m s ms : ℕ) (t : Bool) → are_all_zero y mo d h m s ms
 spelled_if y mo d h m s ms true z r =
     let P : Duration → Type 0 = λ v. IsDuration (codes "P0D") v in
     subst P (all_counts_zero y mo d h m s ms z) (codes "0D", inr (inl zero_spelled), refl)
-spelled_if y mo d h m s ms false z r = (date_counts_text y mo d ++ clock_counts_text h m s ms,
-    inr (inl (counted_spelled y mo d h m s ms r z)), refl)
+spelled_if y mo d h m s ms false z r = (
+  date_counts_text y mo d ++ clock_counts_text h m s ms,
+  inr (inl (counted_spelled y mo d h m s ms r z)),
+  refl,
+)
 
 pub duration_spelled : (d : Duration) → IsDurationInRange d → IsDuration (duration_text d) d
 unfolding duration_text date_counts_text clock_counts_text

@@ -15,8 +15,13 @@ use Rattle.scan_core.proofs.Signs.{is_negative-pos}
 pub marked_spelled : (mark : List ℕ) (count lo hi n : ℕ) → 0 < count → n < 10 ^ count → n < 2 ^ 64 → lo ≤ n → n ≤ hi
     → IsMarked mark count lo hi (mark ++ padded_digits count n) n
 marked_spelled mark count lo hi n some fits small least most =
-    record { front = mark; digits = padded_digits count n; perhaps = inr refl;
-        field = padded_field count lo hi n some fits small least most; joined = refl }
+    record {
+      front = mark;
+      digits = padded_digits count n;
+      perhaps = inr refl;
+      field = padded_field count lo hi n some fits small least most;
+      joined = refl;
+    }
 
 -- ---- years
 
@@ -30,12 +35,28 @@ year_behind n = refl
 
 pub year_spelled : (year : ℤ) → unsigned_abs year ≤ 9999 → IsYear (year_text year) year
 year_spelled (pos n) most =
-    record { sign = []; digits = padded_digits 4 n; negative = false; magnitude = n; signs = inl refl;
-        four = padded_field 4 0 9999 n (omega arith) (omega arith) (omega arith) (omega arith) most; joined = year_ahead n; value = refl }
+    record {
+      sign = [];
+      digits = padded_digits 4 n;
+      negative = false;
+      magnitude = n;
+      signs = inl refl;
+      four = padded_field 4 0 9999 n (omega arith) (omega arith) (omega arith) (omega arith) most;
+      joined = year_ahead n;
+      value = refl;
+    }
 year_spelled (negsuc n) most =
-    record { sign = codes "-"; digits = padded_digits 4 (suc n); negative = true; magnitude = suc n; signs = refl;
-        four = padded_field 4 0 9999 (suc n) (omega arith) (omega arith) (omega arith) (omega arith) most; joined = year_behind n; value =
-        refl }
+    record {
+      sign = codes "-";
+      digits = padded_digits 4 (suc n);
+      negative = true;
+      magnitude = suc n;
+      signs = refl;
+      four = padded_field 4 0 9999 (suc n) (omega arith) (omega arith) (omega arith) (omega arith) most;
+      joined = year_behind n;
+      value =
+          refl;
+    }
 
 -- ---- milliseconds
 

@@ -34,8 +34,16 @@ date_spelled (YMD year month day) r =
       year = year;
       years = year_spelled year r.0;
       mark = inr refl;
-      days = inl (record { month_text = padded_digits 2 month; day_text = codes "-" ++ padded_digits 2 day; month = month; day = day;
-          months = months; days = days; joined = refl; value = refl });
+      days = inl (record {
+        month_text = padded_digits 2 month;
+        day_text = codes "-" ++ padded_digits 2 day;
+        month = month;
+        day = day;
+        months = months;
+        days = days;
+        joined = refl;
+        value = refl;
+      });
       joined = refl;
     }
 date_spelled (Week year ww d) r =
@@ -48,8 +56,16 @@ date_spelled (Week year ww d) r =
       year = year;
       years = year_spelled year r.0;
       mark = inr refl;
-      days = inr (inl (record { week_text = padded_digits 2 ww; day_text = codes "-" ++ padded_digits 1 d; week = ww; day = d;
-          weeks = weeks; days = days; joined = refl; value = refl }));
+      days = inr (inl (record {
+        week_text = padded_digits 2 ww;
+        day_text = codes "-" ++ padded_digits 1 d;
+        week = ww;
+        day = d;
+        weeks = weeks;
+        days = days;
+        joined = refl;
+        value = refl;
+      }));
       joined = refl;
     }
 date_spelled (Ordinal year ddd) r =
@@ -130,5 +146,10 @@ time_spelled t r =
 pub date_time_spelled : (t : DateTime) → IsDateTimeInRange t → IsDateTime (date_time_text t) t
 unfolding date_time_text
 date_time_spelled t r =
-    record { date_text = date_text t.date; time_text = time_text t.time; dates = date_spelled t.date r.0; times = time_spelled t.time r.1;
-        joined = refl }
+    record {
+      date_text = date_text t.date;
+      time_text = time_text t.time;
+      dates = date_spelled t.date r.0;
+      times = time_spelled t.time r.1;
+      joined = refl;
+    }

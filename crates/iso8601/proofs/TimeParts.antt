@@ -33,7 +33,7 @@ pub later_optional : (hi : ℕ) → Optional (IsOrZero (IsLater hi)) (read_later
 unfolding read_later
 later_optional hi =
     optional_when (IsOrZero (IsLater hi)) (read_later hi) (λ rest. read_marked 58 2 0 hi rest ≡ None) StopsField (stops_later hi)
-        (zero_optional (IsLater hi) (read_marked 58 2 0 hi) (marked_sound 58 2 0 hi) (marked_exact 58 2 0 hi refl (omega arith)))
+    (zero_optional (IsLater hi) (read_marked 58 2 0 hi) (marked_sound 58 2 0 hi) (marked_exact 58 2 0 hi refl (omega arith)))
 
 -- ---- the fraction
 
@@ -63,7 +63,7 @@ made_fraction point bs is = (
 fraction_if : (point comma : Bool) (b : ℕ) (bs : List ℕ) → (point ≡ true → b ≡ 46) → (comma ≡ true → b ≡ 44)
     → let some : ℕ × List ℕ = (millis_of (front_digits bs), after_digits bs) in
     let r : ℕ × List ℕ = cond {A = ℕ × List ℕ} point some (cond {A = ℕ × List ℕ} comma some (0, b ∷ bs)) in
-        Begins (IsOrZero IsMilliseconds) (b ∷ bs) r.0 r.1
+    Begins (IsOrZero IsMilliseconds) (b ∷ bs) r.0 r.1
 fraction_if true comma b bs is_point is_comma = made_fraction b bs (inl (ap (λ (c : ℕ). c ∷ []) (is_point refl)))
 fraction_if false true b bs is_point is_comma = made_fraction b bs (inr (ap (λ (c : ℕ). c ∷ []) (is_comma refl)))
 fraction_if false false b bs is_point is_comma = ([], inl (refl, refl), refl)
@@ -80,9 +80,13 @@ pub fraction_at : (text rest : List ℕ) (value : ℕ) (f : IsMilliseconds text 
     → read_fraction (text ++ rest) ≡ (millis_of (f.digits ++ front_digits rest), after_digits rest)
 fraction_at text rest value f =
     let split : text ++ rest ≡ f.point ++ (f.digits ++ rest) = ap (λ (x : List ℕ). x ++ rest) f.joined
-        ∙ append_assoc f.point f.digits rest in
-    rw (split, behind_point f.point (f.digits ++ rest) f.mark, front_joined f.digits rest f.all_digits,
-        after_joined f.digits rest f.all_digits) refl
+    ∙ append_assoc f.point f.digits rest in
+    rw (
+      split,
+      behind_point f.point (f.digits ++ rest) f.mark,
+      front_joined f.digits rest f.all_digits,
+      after_joined f.digits rest f.all_digits,
+    ) refl
 
 fraction_reach : (text rest : List ℕ) (value : ℕ) → (IsOrZero IsMilliseconds) text value
     → length (read_fraction (text ++ rest)).1 ≤ length rest
@@ -103,8 +107,13 @@ fraction_exact : (text rest : List ℕ) (value : ℕ) → (IsOrZero IsMillisecon
 unfolding millis_of
 fraction_exact text rest value (inl none) s = rw (none.0, none.1) (no_point rest s)
 fraction_exact text rest value (inr f) s =
-    rw (fraction_at text rest value f, front_of [] rest tt (no_digits rest s), after_of [] rest tt (no_digits rest s), append-nil f.digits,
-        f.value) refl
+    rw (
+      fraction_at text rest value f,
+      front_of [] rest tt (no_digits rest s),
+      after_of [] rest tt (no_digits rest s),
+      append-nil f.digits,
+      f.value,
+    ) refl
 
 pub fraction_optional : Optional (IsOrZero IsMilliseconds) read_fraction StopsFraction
 fraction_optional = record { sound = fraction_sound; reach = fraction_reach; exact = fraction_exact }
@@ -119,8 +128,17 @@ with_minutes_made negative b bs (Some r) sign h =
     let hours = field_sound 2 0 24 bs r.1 r.0 h in
     let minutes = (later_optional 59).sound r.1 in (
       sign_text negative ++ (hours.0 ++ minutes.0),
-      inr (inr (record { negative = negative; hour_text = hours.0; minute_text = minutes.0; hour = r.0; minute = (read_later 59 r.1).0;
-          hours = hours.1; minutes = minutes.1; joined = refl; value = refl })),
+      inr (inr (record {
+        negative = negative;
+        hour_text = hours.0;
+        minute_text = minutes.0;
+        hour = r.0;
+        minute = (read_later 59 r.1).0;
+        hours = hours.1;
+        minutes = minutes.1;
+        joined = refl;
+        value = refl;
+      })),
       rw sign (ap (λ (l : List ℕ). b ∷ l) (hours.2 ∙ ap (λ (l : List ℕ). hours.0 ++ l) minutes.2
           ∙ sym (append_assoc hours.0 minutes.0 (read_later 59 r.1).1))),
     )
@@ -133,7 +151,7 @@ signed_made negative b bs sign = with_minutes_made negative b bs (read_field 2 0
 offset_if : (utc minus plus : Bool) (b : ℕ) (bs : List ℕ) → (utc ≡ true → b ≡ 90) → (minus ≡ true → b ≡ 45) → (plus ≡ true → b ≡ 43)
     → let r : (ℤ × ℤ) × List ℕ =
     cond {A = (ℤ × ℤ) × List ℕ} utc (no_offset bs) (cond {A = (ℤ × ℤ) × List ℕ} minus (read_signed true (b ∷ bs) bs)
-        (cond {A = (ℤ × ℤ) × List ℕ} plus (read_signed false (b ∷ bs) bs) (no_offset (b ∷ bs)))) in
+    (cond {A = (ℤ × ℤ) × List ℕ} plus (read_signed false (b ∷ bs) bs) (no_offset (b ∷ bs)))) in
     Begins IsOffset (b ∷ bs) r.0 r.1
 offset_if true minus plus b bs is_utc is_minus is_plus = (90 ∷ [], inr (inl (refl, refl)), ap (λ (c : ℕ). c ∷ bs) (is_utc refl))
 offset_if false true plus b bs is_utc is_minus is_plus = signed_made true b bs (ap (λ (c : ℕ). c ∷ []) (sym (is_minus refl)))
@@ -149,15 +167,20 @@ behind_sign true bs = refl
 behind_sign false bs = refl
 
 offset_at : (text rest : List ℕ) (value : ℤ × ℤ) (o : IsSignedOffset text value)
-    → read_offset (text ++ rest) ≡ ((signed o.negative o.hour, signed o.negative (read_later 59 (o.minute_text ++ rest)).0),
-        (read_later 59 (o.minute_text ++ rest)).1)
+    → read_offset (text ++ rest) ≡ (
+      (signed o.negative o.hour, signed o.negative (read_later 59 (o.minute_text ++ rest)).0),
+      (read_later 59 (o.minute_text ++ rest)).1,
+    )
 unfolding read_signed
 offset_at text rest value o =
     let split : text ++ rest ≡ sign_text o.negative ++ (o.hour_text ++ (o.minute_text ++ rest)) =
     ap (λ (x : List ℕ). x ++ rest) o.joined ∙ append_assoc (sign_text o.negative) (o.hour_text ++ o.minute_text) rest
-        ∙ ap (λ (x : List ℕ). sign_text o.negative ++ x) (append_assoc o.hour_text o.minute_text rest) in
-    rw (split, behind_sign o.negative (o.hour_text ++ (o.minute_text ++ rest)),
-        field_exact 2 0 24 o.hour_text (o.minute_text ++ rest) o.hour o.hours) refl
+    ∙ ap (λ (x : List ℕ). sign_text o.negative ++ x) (append_assoc o.hour_text o.minute_text rest) in
+    rw (
+      split,
+      behind_sign o.negative (o.hour_text ++ (o.minute_text ++ rest)),
+      field_exact 2 0 24 o.hour_text (o.minute_text ++ rest) o.hour o.hours,
+    ) refl
 
 offset_reach : (text rest : List ℕ) (value : ℤ × ℤ) → IsOffset text value → length (read_offset (text ++ rest)).1 ≤ length rest
 offset_reach text rest value (inl none) = let s = offset_sound rest in rw none.0 (shrinks rest s.0 (read_offset rest).1 s.2)
@@ -188,7 +211,7 @@ offset_marks text value (inr (inl utc)) = inr (λ rest. rw utc.0 ((refl, refl, r
 offset_marks text value (inr (inr o)) =
     inr (λ rest.
     let split : text ++ rest ≡ sign_text o.negative ++ ((o.hour_text ++ o.minute_text) ++ rest) = ap (λ (x : List ℕ). x ++ rest) o.joined
-        ∙ append_assoc (sign_text o.negative) (o.hour_text ++ o.minute_text) rest in
+    ∙ append_assoc (sign_text o.negative) (o.hour_text ++ o.minute_text) rest in
     rw split (signed_marks o.negative ((o.hour_text ++ o.minute_text) ++ rest)))
 
 pub fraction_end : Marks IsOffset StopsFraction
@@ -207,7 +230,7 @@ fraction_marks text value (inl none) = inl none.0
 fraction_marks text value (inr f) =
     inr (λ rest.
     let split : text ++ rest ≡ f.point ++ (f.digits ++ rest) = ap (λ (x : List ℕ). x ++ rest) f.joined
-        ∙ append_assoc f.point f.digits rest in
+    ∙ append_assoc f.point f.digits rest in
     rw split (point_marks f.point (f.digits ++ rest) f.mark))
 
 offset_stops : Marks IsOffset StopsField

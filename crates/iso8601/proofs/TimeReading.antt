@@ -27,18 +27,22 @@ tail_optional : Optional IsTail read_tail (λ rest. rest ≡ [])
 unfolding read_tail
 tail_optional =
     let behind = both_optional (IsOrZero IsMilliseconds) IsOffset read_fraction read_offset StopsFraction
-        (λ rest. rest ≡ []) fraction_optional offset_optional fraction_end ends_fraction in
+    (λ rest. rest ≡ []) fraction_optional offset_optional fraction_end ends_fraction in
     both_optional (IsOrZero (IsLater 60)) (IsBoth (IsOrZero IsMilliseconds) IsOffset) (read_later 60)
-        (read_both read_fraction read_offset) StopsField (λ rest. rest ≡ []) (later_optional 60) behind seconds_end ends_field
+    (read_both read_fraction read_offset) StopsField (λ rest. rest ≡ []) (later_optional 60) behind seconds_end ends_field
 
 abbrev tail_values : Time → ℕ × (ℕ × (ℤ × ℤ))
 tail_values t = (t.second, (t.millisecond, (t.tz_offset_hours, t.tz_offset_minutes)))
 
 tail_of : (text : List ℕ) (t : Time) (is : IsTime text t) → IsTail (is.second_text ++ (is.fraction ++ is.offset)) (tail_values t)
 tail_of text t is =
-    record { first = is.second_text; second = is.fraction ++ is.offset; is_first = is.seconds;
-        is_second = record { first = is.fraction; second = is.offset; is_first = is.fractions; is_second = is.offsets; joined = refl };
-        joined = refl }
+    record {
+      first = is.second_text;
+      second = is.fraction ++ is.offset;
+      is_first = is.seconds;
+      is_second = record { first = is.fraction; second = is.offset; is_first = is.fractions; is_second = is.offsets; joined = refl };
+      joined = refl;
+    }
 
 -- a time of what was read
 abbrev made : ℕ → ℕ → (ℕ × (ℕ × (ℤ × ℤ))) × List ℕ → Option (Time × List ℕ)
@@ -51,7 +55,7 @@ unfolding read_time
 time_at text rest t is =
     let tail : List ℕ = is.second_text ++ (is.fraction ++ is.offset) in
     let split : text ++ rest ≡ is.hour_text ++ (is.minute_text ++ (tail ++ rest)) = ap (λ (l : List ℕ). l ++ rest) is.joined
-        ∙ joins_three is.hour_text is.minute_text tail rest in
+    ∙ joins_three is.hour_text is.minute_text tail rest in
     let hours = field_exact 2 0 24 is.hour_text (is.minute_text ++ (tail ++ rest)) t.hour is.hours in
     let minutes = marked_exact 58 2 0 59 refl (omega arith) is.minute_text (tail ++ rest) t.minute is.minutes in
     rw (split, hours, minutes) refl
@@ -95,6 +99,9 @@ time_sound bytes rest t h =
     let text : List ℕ = hours.0 ++ (minutes.0 ++ tail.0) in
     let P : Time → Type 0 = λ v. IsTime text v in
     let split : bytes ≡ text ++ (read_tail y.1).1 = joins bytes hours.0 (minutes.0 ++ tail.0) x.1 (read_tail y.1).1 hours.2
-        (joins x.1 minutes.0 tail.0 y.1 (read_tail y.1).1 minutes.2 tail.2) in
-    (text, subst P parts.0 (time_from x.0 y.0 hours.0 minutes.0 tail.0 (read_tail y.1).0 hours.1 minutes.1 tail.1), split
-        ∙ ap (λ (l : List ℕ). text ++ l) parts.1)))
+    (joins x.1 minutes.0 tail.0 y.1 (read_tail y.1).1 minutes.2 tail.2) in (
+      text,
+      subst P parts.0 (time_from x.0 y.0 hours.0 minutes.0 tail.0 (read_tail y.1).0 hours.1 minutes.1 tail.1),
+      split
+          ∙ ap (λ (l : List ℕ). text ++ l) parts.1,
+    )))

@@ -35,8 +35,12 @@ length_turned (suc n) small = length_negative n small
 length_ends : (sign hours minutes : List ℕ) (m n : ℕ) → length sign ≡ 1 → length hours ≤ m → length minutes ≤ n → m + n ≤ 21
     → length (sign ++ (hours ++ (codes ":" ++ minutes))) ≤ 23
 length_ends sign hours minutes m n one h k sum =
-    omega (arith, length-append sign (hours ++ (codes ":" ++ minutes)), length-append hours (codes ":" ++ minutes),
-        length-append (codes ":") minutes)
+    omega (
+      arith,
+      length-append sign (hours ++ (codes ":" ++ minutes)),
+      length-append hours (codes ":" ++ minutes),
+      length-append (codes ":") minutes,
+    )
 
 pub ahead_text : (h m : ℕ) → offset_text (pos h) (pos m) ≡ codes "+" ++ (two_wide (pos h) ++ (codes ":" ++ two_wide (pos m)))
 unfolding offset_text
@@ -54,11 +58,11 @@ length-offset (pos h) (pos m) p q = rw (ahead_text h m) (length_ends (codes "+")
     (length_positive h p) (length_positive m q) (omega arith))
 length-offset (pos h) (negsuc m) p q =
     rw (behind_text (pos h) (negsuc m) (or-true (is_negative (pos h))))
-        (length_ends (codes "-") (two_wide (neg_ℤ (pos h))) (two_wide (pos (suc m))) 11 10 refl (length_turned h p)
-        (length_positive (suc m) q) (omega arith))
+    (length_ends (codes "-") (two_wide (neg_ℤ (pos h))) (two_wide (pos (suc m))) 11 10 refl (length_turned h p)
+    (length_positive (suc m) q) (omega arith))
 length-offset (negsuc h) (pos m) p q =
     rw (behind_text (negsuc h) (pos m) refl) (length_ends (codes "-") (two_wide (pos (suc h))) (two_wide (neg_ℤ (pos m))) 10 11 refl
-        (length_positive (suc h) p) (length_turned m q) (omega arith))
+    (length_positive (suc h) p) (length_turned m q) (omega arith))
 length-offset (negsuc h) (negsuc m) p q =
     rw (behind_text (negsuc h) (negsuc m) refl) (length_ends (codes "-") (two_wide (pos (suc h))) (two_wide (pos (suc m))) 10 10 refl
-        (length_positive (suc h) p) (length_positive (suc m) q) (omega arith))
+    (length_positive (suc h) p) (length_positive (suc m) q) (omega arith))

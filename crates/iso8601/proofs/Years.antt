@@ -100,7 +100,7 @@ year_if false = refl
 sum_of : (y q4 q100 q400 p4 p100 p400 s4 s100 s400 leap last : ℤ) → q4 ≡ p4 +ℤ s4 → q100 ≡ p100 +ℤ s100 → q400 ≡ p400 +ℤ s400
     → (s4 -ℤ s100) +ℤ s400 ≡ leap
     → (pos 365 *ℤ ((y +ℤ pos 1) -ℤ pos 1970)) +ℤ (((q4 -ℤ q100) +ℤ q400) -ℤ last)
-        ≡ ((pos 365 *ℤ (y -ℤ pos 1970)) +ℤ (((p4 -ℤ p100) +ℤ p400) -ℤ last)) +ℤ (pos 365 +ℤ leap)
+    ≡ ((pos 365 *ℤ (y -ℤ pos 1970)) +ℤ (((p4 -ℤ p100) +ℤ p400) -ℤ last)) +ℤ (pos 365 +ℤ leap)
 sum_of y q4 q100 q400 p4 p100 p400 s4 s100 s400 leap last a b c d = omega (arith, ints)
 
 same_year : (y : ℤ) → (y +ℤ pos 1) -ℤ pos 1 ≡ y
@@ -110,9 +110,9 @@ pub new_year-next : (y : ℤ) → new_year (y +ℤ pos 1) ≡ new_year y +ℤ po
 unfolding new_year
 new_year-next y =
     rw (same_year y, year_if (is_leap_year y)) (sum_of y _ _ _ (int_div_euclid (y -ℤ pos 1) (pos 4)) (int_div_euclid (y -ℤ pos 1) (pos 100))
-        (int_div_euclid (y -ℤ pos 1) (pos 400)) (one_if (is_multiple 4 y)) (one_if (is_multiple 100 y)) (one_if (is_multiple 400 y)) _
-        (leap_years (pos 1969)) (step_four y) (step_hundred y) (step_four_hundred y)
-        (leap_if (is_multiple 4 y) (is_multiple 100 y) (is_multiple 400 y) (all_hundred y) (all_four y)))
+    (int_div_euclid (y -ℤ pos 1) (pos 400)) (one_if (is_multiple 4 y)) (one_if (is_multiple 100 y)) (one_if (is_multiple 400 y)) _
+    (leap_years (pos 1969)) (step_four y) (step_hundred y) (step_four_hundred y)
+    (leap_if (is_multiple 4 y) (is_multiple 100 y) (is_multiple 400 y) (all_hundred y) (all_four y)))
 
 days_if : (t : Bool) → (365 ≤ cond t 366 365) × (cond t 366 365 ≤ 366)
 days_if true = (omega arith, omega arith)
@@ -150,7 +150,7 @@ one_before y k = omega (arith, ints)
 
 cycle_sum : (y k q4 q100 q400 p4 p100 p400 last : ℤ) → q4 ≡ p4 +ℤ (pos 100 *ℤ k) → q100 ≡ p100 +ℤ (pos 4 *ℤ k) → q400 ≡ p400 +ℤ k
     → (pos 365 *ℤ ((y +ℤ (pos 400 *ℤ k)) -ℤ pos 1970)) +ℤ (((q4 -ℤ q100) +ℤ q400) -ℤ last)
-        ≡ ((pos 365 *ℤ (y -ℤ pos 1970)) +ℤ (((p4 -ℤ p100) +ℤ p400) -ℤ last)) +ℤ (pos 146_097 *ℤ k)
+    ≡ ((pos 365 *ℤ (y -ℤ pos 1970)) +ℤ (((p4 -ℤ p100) +ℤ p400) -ℤ last)) +ℤ (pos 146_097 *ℤ k)
 cycle_sum y k q4 q100 q400 p4 p100 p400 last a b c = omega (arith, ints)
 
 pub new_year-cycle : (y k : ℤ) → new_year (y +ℤ (pos 400 *ℤ k)) ≡ new_year y +ℤ (pos 146_097 *ℤ k)
@@ -158,7 +158,7 @@ unfolding new_year
 new_year-cycle y k =
     let z : ℤ = y -ℤ pos 1 in
     rw (one_before y k) (cycle_sum y k _ _ _ (int_div_euclid z (pos 4)) (int_div_euclid z (pos 100)) (int_div_euclid z (pos 400))
-        (leap_years (pos 1969)) (cycle_four z k) (cycle_hundred z k) (cycle_four_hundred z k))
+    (leap_years (pos 1969)) (cycle_four z k) (cycle_hundred z k) (cycle_four_hundred z k))
 
 next_cycle : (y k : ℤ) → (y +ℤ (pos 400 *ℤ k)) +ℤ pos 1 ≡ (y +ℤ pos 1) +ℤ (pos 400 *ℤ k)
 next_cycle y k = omega (arith, ints)
@@ -169,7 +169,7 @@ days_in_year-cycle y k =
     let b = new_year-next y in
     let c = new_year-cycle y k in
     let d : new_year ((y +ℤ (pos 400 *ℤ k)) +ℤ pos 1) ≡ new_year (y +ℤ pos 1) +ℤ (pos 146_097 *ℤ k) = ap new_year (next_cycle y k)
-        ∙ new_year-cycle (y +ℤ pos 1) k in
+    ∙ new_year-cycle (y +ℤ pos 1) k in
     omega (arith, ints)
 
 same_if : (s t : Bool) → cond {A = ℕ} s 366 365 ≡ cond {A = ℕ} t 366 365 → s ≡ t
@@ -208,8 +208,8 @@ pub week_one-cycle : (y k : ℤ) → week_one (y +ℤ (pos 400 *ℤ k)) ≡ week
 unfolding week_one
 week_one-cycle y k =
     let same : after_monday ((new_year y +ℤ (pos 146_097 *ℤ k)) +ℤ pos 3)
-        ≡ after_monday (new_year y +ℤ pos 3) = ap after_monday (later_weeks (new_year y) k)
-        ∙ after_monday-weeks (new_year y +ℤ pos 3) (pos 20_871 *ℤ k) in
+    ≡ after_monday (new_year y +ℤ pos 3) = ap after_monday (later_weeks (new_year y) k)
+    ∙ after_monday-weeks (new_year y +ℤ pos 3) (pos 20_871 *ℤ k) in
     rw (new_year-cycle y k, same) (omega (arith, ints))
 
 monday_of : (day : ℤ) → after_monday (day -ℤ after_monday day) ≡ pos 0

@@ -112,7 +112,7 @@ dos_from ticks civil result utc below from = record {
 pub since_1980 : (civil : DateTime) → pos 1980 ≤ℤ civil.date.year → pos 0 ≤ℤ civil_nanos civil
 since_1980 civil year =
     by_lt_z (civil_nanos civil) (pos 0) (λ lt. absurd (let early = (before_1980 civil).1 (omega (arith, ints)) in omega
-        (arith, ints, early))) (λ h. h)
+    (arith, ints, early))) (λ h. h)
 
 -- a call that meets neither bound succeeds
 pub succeeds : (result : Result ℕ FileTimeRangeErrorKind) → ¬ IsErrOf result Negative

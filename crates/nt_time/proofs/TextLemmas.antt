@@ -16,7 +16,7 @@ use Rattle.nt_time.specs.Text.{IsTextOf, IsReadFrom}
 numeral_of_front : (text : List ℕ) → 0 < length (front_digits text) → after_digits text ≡ [] → IsNumeral 10 text
 numeral_of_front text some none =
     let whole : front_digits text ≡ text = sym (append-nil (front_digits text)) ∙ ap (λ (l : List ℕ). front_digits text ++ l) (sym none)
-        ∙ front_and_after text in
+    ∙ front_and_after text in
     subst (IsNumeral 10) whole (some, front_are_digits text)
 
 -- where digits stand in front, the text is a numeral exactly where nothing follows them
@@ -29,7 +29,7 @@ some_digits text some = (
 pub no_digits : (text : List ℕ) → length (front_digits text) ≡ 0 → ¬ IsNumeral 10 text
 no_digits text none has =
     let whole : length (front_digits text) ≡ length text = ap length
-        (ap front_digits (sym (append-nil text)) ∙ front_of text [] has.1 tt) in
+    (ap front_digits (sym (append-nil text)) ∙ front_of text [] has.1 tt) in
     omega (arith, none, whole, has.0)
 
 -- ---- the text of a number is a numeral behind its plus

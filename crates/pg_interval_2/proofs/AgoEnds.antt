@@ -103,7 +103,7 @@ clock_end : (word : List ℕ) (counts : List Count) → IsClock word counts → 
 clock_end word counts h t =
     let seconds : Ends (h.seconds ++ h.tail) = λ u. ends-append u h.seconds h.tail
     ∙ ap (λ (v : Bool). ends_in_o v h.tail) (field_end u h.seconds h.second_field.0 h.second_field.1)
-        ∙ tail_end h.fraction h.tail h.point in
+    ∙ tail_end h.fraction h.tail h.point in
     let after_minutes = codes ":" ++ (h.seconds ++ h.tail) in
     let minutes : Ends (h.minutes ++ after_minutes) = behind h.minutes after_minutes (behind (codes ":") (h.seconds ++ h.tail) seconds) in
     let after_hours = codes ":" ++ (h.minutes ++ after_minutes) in
@@ -141,7 +141,7 @@ items_end : (items : List (List Count)) (all : List (List ℕ)) → IsJoin (IsIt
 items_end [] all h = ap (words_end false) h
 items_end (counts ∷ items) all h =
     ap (words_end false) h.4 ∙ words_end-append false h.0 h.1 ∙ ap (λ (t : Bool). words_end t h.1) (item_end h.0 counts h.2 false)
-        ∙ items_end items h.1 h.3
+    ∙ items_end items h.1 h.3
 
 body_end : (body : List ℕ) (counts : List Count) → IsBody body counts → ends_in_o false body ≡ false
 body_end body counts (inl zero) = ends-words false body ∙ ap (words_end false) zero.0
@@ -158,7 +158,7 @@ pub no_ago : (text before body : List ℕ) (counts : List Count) → IsFramed te
 no_ago text before body counts framed spelled ends =
     let behind_at : ends_in_o false (body ++ framed.after) ≡ false =
     ends-append false body framed.after ∙ ap (λ (t : Bool). ends_in_o t framed.after) (body_end body counts spelled)
-        ∙ ends-blanks false framed.after framed.blank_after in
+    ∙ ends-blanks false framed.after framed.blank_after in
     let none : ends_in_o false text ≡ false = ap (ends_in_o false) framed.joined ∙ ends-append false before (64 ∷ (body ++ framed.after))
-        ∙ behind_at in
+    ∙ behind_at in
     let clash : true ≡ false = sym (ago_end text ends) ∙ none in cc

@@ -84,7 +84,7 @@ fraction_in fraction tail (inr h) = joined tail (codes ".") fraction h.1 point (
 number_in : (plus negative : Bool) (whole fraction word : List ℕ) → IsNumber plus negative whole fraction word → In word
 number_in plus negative whole fraction word h =
     joined word h.sign (whole ++ h.tail) h.joined (sign_in plus negative h.sign h.signed)
-        (append whole h.tail (digits_in whole h.digits) (fraction_in fraction h.tail h.point))
+    (append whole h.tail (digits_in whole h.digits) (fraction_in fraction h.tail h.point))
 
 clock_in : (word : List ℕ) (counts : List Count) → IsClock word counts → In word
 clock_in word counts h =
@@ -93,7 +93,7 @@ clock_in word counts h =
     let minutes = append h.minutes (codes ":" ++ (h.seconds ++ h.tail)) (digits_in h.minutes h.minute_field.1) with_colon in
     let behind_hours : List ℕ = h.minutes ++ (codes ":" ++ (h.seconds ++ h.tail)) in
     let hours = append h.hours (codes ":" ++ behind_hours) (digits_in h.hours h.hour_field.1)
-        (append (codes ":") behind_hours colon minutes) in
+    (append (codes ":") behind_hours colon minutes) in
     joined word h.sign (h.hours ++ (codes ":" ++ behind_hours)) h.joined (sign_in true h.negative h.sign h.signed) hours
 
 -- ---- the ISO style
@@ -209,7 +209,7 @@ item_in names all item counts (inl h) =
     let named = h.1 in
     let name = contains_passes (λ name. list_all is_in_alphabet name) (names c.unit) named.name (all c.unit) named.unit in
     spelled_in item named.number named.name (number_in true c.negative c.whole c.fraction named.number named.digits)
-        (bytes_in named.name name) named.spelled
+    (bytes_in named.name name) named.spelled
 item_in names all item counts (inr h) = subst AllIn (sym h.2) (clock_in h.0 counts h.1, tt)
 
 items_in : (names : Names) → AreIn names → (all : List (List ℕ)) (items : List (List Count)) → IsJoin (IsItem names) all items → AllIn all
@@ -259,12 +259,12 @@ seconds_in : (negative : Bool) (piece : List ℕ) (counts : List Count) → HasS
 seconds_in negative piece counts (inl h) = same piece [] h.0 refl
 seconds_in negative piece counts (inr h) =
     joined piece (codes ":") (h.seconds ++ h.tail) h.joined colon
-        (append h.seconds h.tail (digits_in h.seconds h.second_field.1) (fraction_in h.fraction h.tail h.point))
+    (append h.seconds h.tail (digits_in h.seconds h.second_field.1) (fraction_in h.fraction h.tail h.point))
 
 time_in : (default : Bool) (word : List ℕ) (counts : List Count) → IsSqlTime default word counts → In word
 time_in default word counts h =
     let minutes = append h.minutes h.piece (digits_in h.minutes h.minute_field.1)
-        (seconds_in h.negative h.piece h.second_counts h.seconds) in
+    (seconds_in h.negative h.piece h.second_counts h.seconds) in
     let with_colon = append (codes ":") (h.minutes ++ h.piece) colon minutes in
     let hours = append h.hours (codes ":" ++ (h.minutes ++ h.piece)) (digits_in h.hours h.hour_field.1) with_colon in
     joined word h.sign (h.hours ++ (codes ":" ++ (h.minutes ++ h.piece))) h.joined (word_sign_in default h.negative h.sign h.signed) hours

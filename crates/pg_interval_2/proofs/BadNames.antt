@@ -28,25 +28,27 @@ named_split :
 named_split names counts total bytes n letters rest h [] none =
     let word = h.number ++ letters in
     let split : bytes ≡ word ++ rest = h.split ∙ ap (λ (l : List ℕ). h.number ++ (l ++ (letters ++ rest))) none
-        ∙ sym (append_assoc h.number letters rest) in
+    ∙ sym (append_assoc h.number letters rest) in
     let lengths = length-append h.number letters in
     let some = number_some n.negative n.whole n.fraction h.number h.digits in
     let solid = no_blanks-append h.number letters (number_no_blanks n.negative n.whole n.fraction h.number h.digits)
-        (letters_no_blanks letters h.ascii) in
+    (letters_no_blanks letters h.ascii) in
     let front = ap words split ∙ words_in_front word rest (omega (arith, lengths, some)) solid h.ends in
     let next : List Count → Verdict = λ cs. verdict names (counts ++ cs) (total + length word) (words rest) in
     let kind = glued_kind n.negative n.whole n.fraction h.number letters h.digits h.some h.ascii in
-    let place : total + (length word - length letters) ≡ total + length h.number = omega (arith, lengths) in
-    (next, ap (verdict names counts total) front ∙ verdict-word names counts total word (words rest)
-        ∙ rw kind (ap (λ (k : ℕ). judge_unit counts k letters n (unit_named names letters) next) place))
+    let place : total + (length word - length letters) ≡ total + length h.number = omega (arith, lengths) in (
+      next,
+      ap (verdict names counts total) front ∙ verdict-word names counts total word (words rest)
+          ∙ rw kind (ap (λ (k : ℕ). judge_unit counts k letters n (unit_named names letters) next) place),
+    )
 named_split names counts total bytes n letters rest h (b ∷ bs) some =
     let blank : AreBlanks (b ∷ bs) = subst AreBlanks some h.blank in
     let split : bytes ≡ h.number ++ ((b ∷ bs) ++ (letters ++ rest)) = h.split
-        ∙ ap (λ (l : List ℕ). h.number ++ (l ++ (letters ++ rest))) some in
+    ∙ ap (λ (l : List ℕ). h.number ++ (l ++ (letters ++ rest))) some in
     let first = words_in_front h.number ((b ∷ bs) ++ (letters ++ rest)) (number_some n.negative n.whole n.fraction h.number h.digits)
-        (number_no_blanks n.negative n.whole n.fraction h.number h.digits) (and_parts (is_blank b) (list_all is_blank bs) blank).0 in
+    (number_no_blanks n.negative n.whole n.fraction h.number h.digits) (and_parts (is_blank b) (list_all is_blank bs) blank).0 in
     let second = words-blanks (b ∷ bs) (letters ++ rest) blank ∙ words_in_front letters rest h.some
-        (letters_no_blanks letters h.ascii) h.ends in
+    (letters_no_blanks letters h.ascii) h.ends in
     let front : words bytes ≡ h.number ∷ letters ∷ words rest = ap words split ∙ first ∙ ap (λ (l : List (List ℕ)). h.number ∷ l) second in
     let kind = number_kind n.negative n.whole n.fraction h.number h.digits in
     let name = is_name_of letters h.some h.ascii in (
@@ -102,13 +104,21 @@ behind_items names letters lead rest counts (items, join, counted, distinct) clo
     let distinct' : has_distinct_units (all_counts items) ≡ true = ap has_distinct_units (sym counted) ∙ pairs_distinct counts distinct in
     ap (verdict names [] 0) (words-closed lead rest closed) ∙ advance names letters (words lead) (words rest) items [] 0 join distinct'
     ∙ ap (λ (l : List Count). verdict names l (0 + total_length (words lead)) (words rest)) (sym counted)
-        ∙ ap (λ (k : ℕ). verdict names counts k (words rest)) (omega arith)
+    ∙ ap (λ (k : ℕ). verdict names counts k (words rest)) (omega arith)
 
 abbrev stands_at : (names : Names) (text : List ℕ) (start end : ℕ) (h : IsBadName names text start end)
     → StandsNamed (h.number ++ (h.blanks ++ (h.letters ++ h.after)))
     (record { negative = h.c.negative; whole = h.c.whole; fraction = h.c.fraction }) h.letters h.after
-stands_at names text start end h = record { number = h.number; blanks = h.blanks; digits = h.digits; blank = h.blank; some = h.some;
-    ascii = h.ascii; ends = h.ends; split = refl }
+stands_at names text start end h = record {
+  number = h.number;
+  blanks = h.blanks;
+  digits = h.digits;
+  blank = h.blank;
+  some = h.some;
+  ascii = h.ascii;
+  ends = h.ends;
+  split = refl;
+}
 
 pub bad_verdict : (names : Names) → AreNames names → (text : List ℕ) (start end : ℕ) (h : IsBadName names text start end)
     → verdict names [] 0 (words text) ≡ BadLetters (total_length (words h.lead) + length h.number) h.letters
@@ -116,7 +126,7 @@ bad_verdict names letters text start end h =
     ap (λ (l : List ℕ). verdict names [] 0 (words l)) h.split
     ∙ behind_items names letters h.lead (h.number ++ (h.blanks ++ (h.letters ++ h.after))) h.counts h.items h.closed
     ∙ bad_in_front names h.counts (total_length (words h.lead)) (h.number ++ (h.blanks ++ (h.letters ++ h.after))) _ h.letters h.after
-        (stands_at names text start end h) h.bad
+    (stands_at names text start end h) h.bad
 
 -- a text with a bad name has no shape
 pub no_shape_at_bad_name : (names : Names) → AreNames names → (text : List ℕ) (start end : ℕ) (counts : List Count)
@@ -124,7 +134,7 @@ pub no_shape_at_bad_name : (names : Names) → AreNames names → (text : List �
     → ⊥
 no_shape_at_bad_name names letters text start end counts bad items =
     let clash : Spelled counts ≡ BadLetters (total_length (words bad.lead) + length bad.number) bad.letters = sym
-        (items_verdict names letters (words text) counts items) ∙ bad_verdict names letters text start end bad in cc
+    (items_verdict names letters (words text) counts items) ∙ bad_verdict names letters text start end bad in cc
 
 -- words have one list of counts
 pub one_counts : (names : Names) → AreNames names → (all : List (List ℕ)) (a b : List Count) → AreItems names all a → AreItems names all b
@@ -161,7 +171,7 @@ before_split : (names : Names) (text : List ℕ) (start end : ℕ) (h : IsBadNam
     → text ≡ before_name names text start end h ++ (h.letters ++ h.after)
 before_split names text start end h =
     h.split ∙ ap (λ (l : List ℕ). h.lead ++ l) (sym (append_assoc h.number h.blanks (h.letters ++ h.after)))
-        ∙ sym (append_assoc h.lead (h.number ++ h.blanks) (h.letters ++ h.after))
+    ∙ sym (append_assoc h.lead (h.number ++ h.blanks) (h.letters ++ h.after))
 
 -- two places of the same letters behind as many bytes that aren't blank
 same_before : (xs ys letters more s t : List ℕ) → 0 < length letters → AreLetters letters → letters ≡ more → ink xs ≡ ink ys
@@ -176,14 +186,14 @@ pub one_bad_name : (names : Names) → AreNames names → (text : List ℕ) (s e
     → (s ≡ t) × (e ≡ f)
 one_bad_name names letters text s e t f a b =
     let same : BadLetters (total_length (words a.lead) + length a.number) a.letters
-        ≡ BadLetters (total_length (words b.lead) + length b.number) b.letters =
+    ≡ BadLetters (total_length (words b.lead) + length b.number) b.letters =
     sym (bad_verdict names letters text s e a) ∙ bad_verdict names letters text t f b in
     let totals : total_length (words a.lead) + length a.number ≡ total_length (words b.lead) + length b.number = cc in
     let same_letters : a.letters ≡ b.letters = cc in
     let before = same_before (before_name names text s e a) (before_name names text t f b) a.letters b.letters a.after b.after a.some
-        a.ascii same_letters
+    a.ascii same_letters
     (before_ink names text s e a ∙ totals ∙ sym (before_ink names text t f b))
-        (sym (before_split names text s e a) ∙ before_split names text t f b) in
+    (sym (before_split names text s e a) ∙ before_split names text t f b) in
     let lengths = ap (λ (l : List ℕ). length l) before in
     let left = length-append a.lead (a.number ++ a.blanks) in
     let left' = length-append a.number a.blanks in
@@ -193,6 +203,7 @@ one_bad_name names letters text s e t f a b =
     let first = a.starts in
     let second = b.starts in
     let third = a.stops in
-    let fourth = b.stops in
-    (omega (arith, lengths, left, left', right, right', first, second),
-        omega (arith, lengths, left, left', right, right', first, second, third, fourth, names_length))
+    let fourth = b.stops in (
+      omega (arith, lengths, left, left', right, right', first, second),
+      omega (arith, lengths, left, left', right, right', first, second, third, fourth, names_length),
+    )

@@ -25,7 +25,7 @@ pub written_8 : (bytes : List ℕ) (z : ℤ) → length bytes ≡ 8 → ((i : �
 written_8 bytes z eight small is =
     let back = of_z-to_z w64 (from_be_bytes w64 bytes) (below_8 bytes small) in
     be_bytes_8 bytes _ eight small (ap (λ z. cast_unsigned w64 (cast_signed w64 (cast_unsigned w64 z))) is
-        ∙ ap (λ n. cast_unsigned w64 (cast_signed w64 n)) back ∙ back)
+    ∙ ap (λ n. cast_unsigned w64 (cast_signed w64 n)) back ∙ back)
 
 -- what a function gives for the first numbers
 abbrev listed : ℕ → (ℕ → ℕ) → List ℕ

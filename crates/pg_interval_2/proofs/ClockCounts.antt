@@ -58,7 +58,7 @@ list_all-filter test keep [] all = refl
 list_all-filter test keep (x ∷ xs) all =
     let parts = and_parts _ _ all in
     cond_both (keep x) _ _ (λ kept. IsTrue (list_all test kept)) (λ _. and_from _ _ parts.0 (list_all-filter test keep xs parts.1))
-        (λ _. list_all-filter test keep xs parts.1)
+    (λ _. list_all-filter test keep xs parts.1)
 
 AddsUp-filter : (part : Part) (counts : List Count) (z : ℤ) → AddsUp part counts z → AddsUp part (filter is_nonzero counts) z
 AddsUp-filter part counts z sums = record {
@@ -82,7 +82,7 @@ cut_micros : (micros : ℕ) → micros < 1_000_000 → rounded 1_000_000 (take 6
 cut_micros micros below =
     ap (rounded 1_000_000) (uncut_micros micros below)
     ∙ cond_both (micros == 0) _ _ (λ digits. rounded 1_000_000 digits ≡ micros)
-        (λ zero_is. rounded-nil 1_000_000 ∙ sym (eqb-true micros 0 zero_is)) (λ _. rounded-padded micros below)
+    (λ zero_is. rounded-nil 1_000_000 ∙ sym (eqb-true micros 0 zero_is)) (λ _. rounded-padded micros below)
 
 abbrev pub hour_count : Bool → ℕ → ℤ → Count
 hour_count negative width micros = count_of negative (padded_digits width (hours_of micros)) [] Hour
@@ -110,13 +110,13 @@ three_micros negative width micros serves fits =
     let small : unsigned_abs micros ≤ 2 ^ 63 = abs_fits Micros micros fits in
     AddsUp-same Micros _ _ _
     (AddsUp-append Micros (hour_count negative width micros ∷ []) _ _ _
-        (field_sum Micros (hour_count negative width micros) (hours_of micros) 0 micros (number_of-padded width _ (omega arith))
-        (rounded-nil _) serves (omega arith) fits)
+    (field_sum Micros (hour_count negative width micros) (hours_of micros) 0 micros (number_of-padded width _ (omega arith))
+    (rounded-nil _) serves (omega arith) fits)
     (AddsUp-append Micros (minute_count negative micros ∷ []) _ _ _
-        (field_sum Micros (minute_count negative micros) (minutes_of micros) 0 micros (number_of-padded 2 _ (omega arith))
-        (rounded-nil _) serves (omega arith) fits)
+    (field_sum Micros (minute_count negative micros) (minutes_of micros) 0 micros (number_of-padded 2 _ (omega arith))
+    (rounded-nil _) serves (omega arith) fits)
     (field_sum Micros (second_count negative micros) (seconds_of micros) (subsecond_of micros) micros (number_of-padded 2 _ (omega arith))
-        (cut_micros _ (omega arith)) serves (omega arith) fits)))
+    (cut_micros _ (omega arith)) serves (omega arith) fits)))
     (signed_three negative micros _ _ _ serves (omega (arith, time_parts micros)))
 
 -- a field that has nothing of a part
@@ -125,7 +125,7 @@ pub field_nothing : (part : Part) (c : Count) (w r : ℕ) → number_of c.whole 
     → AddsUp part (c ∷ []) (pos 0)
 field_nothing part c w r whole fraction none =
     AddsUp-same part _ _ _ (AddsUp-one part c w r whole fraction (rw none (fits_type-signed_zero part c.negative)))
-        (rw none (signed-zero c.negative))
+    (rw none (signed-zero c.negative))
 
 three_nothing : (part : Part) (negative : Bool) (width : ℕ) (micros : ℤ) → unsigned_abs micros ≤ 2 ^ 63
     → magnitude part Hour (hours_of micros) 0 ≡ 0 → magnitude part Minute (minutes_of micros) 0 ≡ 0
@@ -133,13 +133,13 @@ three_nothing : (part : Part) (negative : Bool) (width : ℕ) (micros : ℤ) →
     → AddsUp part (three_counts negative width micros) (pos 0)
 three_nothing part negative width micros small no_hours no_minutes no_seconds =
     AddsUp-append part (hour_count negative width micros ∷ []) _ (pos 0) _
-        (field_nothing part (hour_count negative width micros) (hours_of micros) 0 (number_of-padded width _ (omega arith))
-        (rounded-nil _) no_hours)
+    (field_nothing part (hour_count negative width micros) (hours_of micros) 0 (number_of-padded width _ (omega arith))
+    (rounded-nil _) no_hours)
     (AddsUp-append part (minute_count negative micros ∷ []) _ (pos 0) _
-        (field_nothing part (minute_count negative micros) (minutes_of micros) 0 (number_of-padded 2 _ (omega arith))
-        (rounded-nil _) no_minutes)
+    (field_nothing part (minute_count negative micros) (minutes_of micros) 0 (number_of-padded 2 _ (omega arith))
+    (rounded-nil _) no_minutes)
     (field_nothing part (second_count negative micros) (seconds_of micros) (subsecond_of micros) (number_of-padded 2 _ (omega arith))
-        (cut_micros _ (omega arith)) no_seconds))
+    (cut_micros _ (omega arith)) no_seconds))
 
 pub three_counts-sum : (negative : Bool) (width : ℕ) (t : Interval) → IsInRange t → Serves negative t.microseconds
     → SumsTo (three_counts negative width t.microseconds) (time_of t)
@@ -157,5 +157,8 @@ pub kept_counts-sum : (width : ℕ) (t : Interval) → IsInRange t
     → SumsTo (filter is_nonzero (three_counts (is_negative t.microseconds) width t.microseconds)) (time_of t)
 kept_counts-sum width t range =
     let all = three_counts-sum (is_negative t.microseconds) width t range (signed-abs t.microseconds) in
-    record { months = AddsUp-filter Months _ _ all.months; days = AddsUp-filter Days _ _ all.days;
-        micros = AddsUp-filter Micros _ _ all.micros }
+    record {
+      months = AddsUp-filter Months _ _ all.months;
+      days = AddsUp-filter Days _ _ all.days;
+      micros = AddsUp-filter Micros _ _ all.micros;
+    }

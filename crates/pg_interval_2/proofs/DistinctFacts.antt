@@ -44,7 +44,7 @@ units_push counts c old new units same others unit =
       | inl equal ↦
           let here = (same_unit unit c.unit equal.1) in
           rw here (same ∙ sym (counts_unit-append c.unit counts (c ∷ [])
-              ∙ rw (eq-eqb (place_of c.unit) (place_of c.unit) refl) (or-true (counts_unit c.unit counts))))
+          ∙ rw (eq-eqb (place_of c.unit) (place_of c.unit) refl) (or-true (counts_unit c.unit counts))))
       | inr apart ↦
           let other = same_both (place_of unit) (place_of c.unit) apart.0 in
           others unit apart.1 ∙ units unit ∙ sym (counts_unit-append unit counts (c ∷ []) ∙ rw other (or-false (counts_unit unit counts)))
@@ -57,8 +57,11 @@ pub counted_push : (counts : List Count) (c : Count) (old new : DistinctTally) �
     → ((other : TimeUnit) → place_of other ≢ place_of c.unit → holds_unit new.units other ≡ holds_unit old.units other)
     → IsDistinctTally new (counts ++ c ∷ [])
 counted_push counts c old new h fresh tallied same others =
-    record { tallied = tallied; units = units_push counts c old new h.units same others;
-        distinct = distinct_push counts c h.distinct fresh }
+    record {
+      tallied = tallied;
+      units = units_push counts c old new h.units same others;
+      distinct = distinct_push counts c h.distinct fresh;
+    }
 
 -- a unit that is counted again
 pub again : (counts : List Count) (c : Count) (more : List Count) → counts_unit c.unit counts ≡ true
@@ -113,12 +116,12 @@ pub clock_last : (counts : List Count) (h m s : Count) (new : DistinctTally) (re
     → CountsAll counts (filter is_nonzero (h ∷ m ∷ s ∷ [])) new result
 clock_last counts h m s new true counted =
     subst (IsDistinctTally new) (append_assoc (counts ++ nonzero h) (nonzero m) (nonzero s)
-        ∙ append_assoc counts (nonzero h) (nonzero m ++ nonzero s) ∙ ap (λ (l : List Count). counts ++ l) (sym (clock_fields h m s)))
-        counted
+    ∙ append_assoc counts (nonzero h) (nonzero m ++ nonzero s) ∙ ap (λ (l : List Count). counts ++ l) (sym (clock_fields h m s)))
+    counted
 clock_last counts h m s new false again' =
     ap (λ (l : List Count). has_distinct_units (counts ++ l)) (clock_fields h m s)
     ∙ ap has_distinct_units (sym (append_assoc counts (nonzero h) (nonzero m ++ nonzero s))
-        ∙ sym (append_assoc (counts ++ nonzero h) (nonzero m) (nonzero s))
+    ∙ sym (append_assoc (counts ++ nonzero h) (nonzero m) (nonzero s))
     ∙ ap (λ (l : List Count). ((counts ++ nonzero h) ++ nonzero m) ++ l) (sym (append-nil (nonzero s))))
     ∙ again_nonzero ((counts ++ nonzero h) ++ nonzero m) s [] again'.0 again'.1
 
@@ -128,13 +131,13 @@ pub clock_second : (counts : List Count) (h m s : Count) → is_nonzero m ≡ tr
 clock_second counts h m s some before =
     ap (λ (l : List Count). has_distinct_units (counts ++ l)) (clock_fields h m s)
     ∙ ap has_distinct_units (sym (append_assoc counts (nonzero h) (nonzero m ++ nonzero s)))
-        ∙ again_nonzero (counts ++ nonzero h) m (nonzero s) some before
+    ∙ again_nonzero (counts ++ nonzero h) m (nonzero s) some before
 
 pub clock_first : (counts : List Count) (h m s : Count) → is_nonzero h ≡ true → counts_unit h.unit counts ≡ true
     → has_distinct_units (counts ++ filter is_nonzero (h ∷ m ∷ s ∷ [])) ≡ false
 clock_first counts h m s some before =
     ap (λ (l : List Count). has_distinct_units (counts ++ l)) (clock_fields h m s)
-        ∙ again_nonzero counts h (nonzero m ++ nonzero s) some before
+    ∙ again_nonzero counts h (nonzero m ++ nonzero s) some before
 
 -- ---- turned before they are counted
 
@@ -145,8 +148,13 @@ pub turned_has : (turned : Bool) (text same : List ℕ) (clock : Clock) (fields 
     (record { negative = negative; hours = clock.hours; minutes = clock.minutes; seconds = clock.seconds; fraction = clock.fraction })
     (turned_fields turned fields)
 turned_has turned text same clock fields negative e n has =
-    rw e (record { negative = n ∙ ap (turned_sign turned) has.negative; hours = has.hours; minutes = has.minutes; seconds = has.seconds;
-        fraction = has.fraction })
+    rw e (record {
+      negative = n ∙ ap (turned_sign turned) has.negative;
+      hours = has.hours;
+      minutes = has.minutes;
+      seconds = has.seconds;
+      fraction = has.fraction;
+    })
 
 -- a number with its sign turned
 pub turned_number : (turned : Bool) (text same : List ℕ) (number : Decimal) (negative : Bool) (unit : TimeUnit) → same ≡ text

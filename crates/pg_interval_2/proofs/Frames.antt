@@ -17,8 +17,13 @@ whole_body true body after = body
 whole_body false body after = body ++ after
 
 pub framed_ago : (text before body : List ℕ) → IsFramed text before body true → EndsInAgo text
-framed_ago text before body f = (before ++ (64 ∷ body), f.after, f.blank_after, f.joined
-    ∙ sym (append_assoc before (64 ∷ body) (codes "ago" ++ f.after)))
+framed_ago text before body f = (
+  before ++ (64 ∷ body),
+  f.after,
+  f.blank_after,
+  f.joined
+      ∙ sym (append_assoc before (64 ∷ body) (codes "ago" ++ f.after)),
+)
 
 -- what follows the `@`
 abbrev pub behind_at : Bool → List ℕ → List ℕ → List ℕ

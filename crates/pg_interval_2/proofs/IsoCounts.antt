@@ -29,10 +29,12 @@ unfolding read_pair
 finds_pair in_time piece rest c h =
     let ends = letter_ends in_time h.letter c.unit h.unit in
     let split : piece ++ rest ≡ h.number ++ (h.letter ∷ rest) = ap (λ (l : List ℕ). l ++ rest) h.joined
-        ∙ append_assoc h.number (h.letter ∷ []) rest in
+    ∙ append_assoc h.number (h.letter ∷ []) rest in
     let number = finds_number false c.negative c.whole c.fraction h.number (h.letter ∷ rest) h.digits ends.0 ends.1 in
-    let found : read_number false (piece ++ rest) ≡ Some (record { negative = c.negative; whole = c.whole; fraction = c.fraction },
-        h.letter ∷ rest) = ap (read_number false) split ∙ number in
+    let found : read_number false (piece ++ rest) ≡ Some (
+      record { negative = c.negative; whole = c.whole; fraction = c.fraction },
+      h.letter ∷ rest,
+    ) = ap (read_number false) split ∙ number in
     let unit = h.unit in
     rw (found, unit) refl
 
@@ -55,10 +57,18 @@ is_pair in_time bytes c rest h =
     let number = is_number false bytes r.0 r.1 found in
     let letter = letter_is (unit_in in_time) r.0 r.1 c rest body in
     let split : bytes ≡ (number.0 ++ letter.0 ∷ []) ++ rest = number.2 ∙ ap (λ (l : List ℕ). number.0 ++ l) letter.2
-        ∙ sym (append_assoc number.0 (letter.0 ∷ []) rest) in
-    let P : Count → Type 0 = λ d. IsPair (unit_in in_time) (number.0 ++ letter.0 ∷ []) d in
-    (number.0 ++ letter.0 ∷ [], subst P (sym letter.4) (record { number = number.0; letter = letter.0; digits = number.1; unit = letter.3;
-        joined = refl }), split))
+    ∙ sym (append_assoc number.0 (letter.0 ∷ []) rest) in
+    let P : Count → Type 0 = λ d. IsPair (unit_in in_time) (number.0 ++ letter.0 ∷ []) d in (
+      number.0 ++ letter.0 ∷ [],
+      subst P (sym letter.4) (record {
+        number = number.0;
+        letter = letter.0;
+        digits = number.1;
+        unit = letter.3;
+        joined = refl;
+      }),
+      split,
+    ))
 
 pub nothing_read : (in_time : Bool) → read_pair (unit_in in_time) [] ≡ None
 unfolding read_pair read_number read_unsigned
@@ -72,7 +82,7 @@ time_ends time = refl
 abbrev pub IsRest : List ℕ → List Count → List Count → Type 0
 IsRest rest dates counts =
     ((rest ≡ []) × (counts ≡ dates)) ⊎ ((time : List ℕ) × (times : List Count) × (rest ≡ codes "T" ++ time)
-        × ArePairs (unit_in true) time times × (counts ≡ dates ++ times))
+    × ArePairs (unit_in true) time times × (counts ≡ dates ++ times))
 
 -- the same, of the counts by which the text has the shape
 abbrev pub RestIs : (text : List ℕ) (counts : List Count) → IsIsoEither text counts → List ℕ → List Count → Type 0
@@ -87,13 +97,13 @@ rest_is text front rest dates counts pairs stuck spelled (inl alone) =
     let tails : front ++ rest ≡ alone.0 = cc in
     let same : front ++ rest ≡ alone.0 ++ [] = tails ∙ sym (append-nil alone.0) in
     let both = join_same (IsPair (unit_in false)) (read_pair (unit_in false))
-        (finds_pair false) front alone.0 rest [] dates counts pairs alone.1 same stuck (nothing_read false) in
+    (finds_pair false) front alone.0 rest [] dates counts pairs alone.1 same stuck (nothing_read false) in
     (both.1, both.0)
 rest_is text front rest dates counts pairs stuck spelled (inr timed) =
     let whole : codes "P" ++ (front ++ rest) ≡ codes "P" ++ (timed.date ++ (codes "T" ++ timed.time)) = sym spelled ∙ timed.spelled in
     let same : front ++ rest ≡ timed.date ++ (codes "T" ++ timed.time) = cc in
     let both = join_same (IsPair (unit_in false)) (read_pair (unit_in false)) (finds_pair false) front timed.date rest
-        (codes "T" ++ timed.time) dates timed.date_counts
+    (codes "T" ++ timed.time) dates timed.date_counts
     pairs timed.dates same stuck (time_ends timed.time) in
     (both.1, both.0)
 
@@ -118,14 +128,13 @@ one_list text a b (inl alone) other =
       | inr timed ↦ absurd (no_time timed.0 (sym timed.2))
     ]
 one_list text a b (inr timed) other =
-    elim (behind_dates text timed.date (codes "T" ++ timed.time) timed.date_counts b timed.dates (time_ends timed.time) timed.spelled other)
-        [
+    elim (behind_dates text timed.date (codes "T" ++ timed.time) timed.date_counts b timed.dates (time_ends timed.time) timed.spelled other) [
       | inl end ↦ absurd (no_time timed.time end.0)
       | inr both ↦
           let rest : codes "T" ++ timed.time ≡ codes "T" ++ both.0 = both.2 in
           let times : timed.time ≡ both.0 = cc in
           let P : List ℕ → Type 0 = λ l. ArePairs (unit_in true) l timed.time_counts in
           let same = join_values (IsPair (unit_in true)) (read_pair (unit_in true)) (finds_pair true)
-              (nothing_read true) both.0 timed.time_counts both.1 (subst P times timed.times) both.3 in
+          (nothing_read true) both.0 timed.time_counts both.1 (subst P times timed.times) both.3 in
           timed.counted ∙ ap (λ (l : List Count). timed.date_counts ++ l) same ∙ sym both.4
     ]

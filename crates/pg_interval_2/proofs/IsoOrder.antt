@@ -25,8 +25,13 @@ pub alone_spelled : (text date : List ℕ) (old : Tally) (was is : Order) (spell
     → IsSpelled text spelled
 alone_spelled text date old was is spelled whole some taken none unordered told =
     let same : date ≡ taken.front = taken.split ∙ append-nil taken.front in
-    let alone : IsDateAlone unit_in text taken.counts = (taken.front, taken.pairs, (λ h. some (same ∙ h)), whole
-        ∙ ap (λ (l : List ℕ). codes "P" ++ l) same) in
+    let alone : IsDateAlone unit_in text taken.counts = (
+      taken.front,
+      taken.pairs,
+      (λ h. some (same ∙ h)),
+      whole
+          ∙ ap (λ (l : List ℕ). codes "P" ++ l) same,
+    ) in
     let orders : Orders false is taken.counts = taken.ordered [] unordered in
     record {
       tallied = (taken.counts, inl alone, taken.tallied [] none);
@@ -37,13 +42,13 @@ alone_spelled text date old was is spelled whole some taken none unordered told 
     not_so : (counts : List Count) → IsStrictEither text counts → is_kept false is ≡ false → ⊥
     not_so counts (inl (alone, ordered)) so =
         let rest = rest_is text taken.front [] taken.counts counts taken.pairs (nothing_read false)
-            (whole ∙ ap (λ (l : List ℕ). codes "P" ++ l) taken.split) (inl alone) in
+        (whole ∙ ap (λ (l : List ℕ). codes "P" ++ l) taken.split) (inl alone) in
         let keeps = kept false is taken.counts (taken.ordered [] unordered)
-            (subst (AreInOrder (units_in_order false)) (sym rest.1) ordered) in
+        (subst (AreInOrder (units_in_order false)) (sym rest.1) ordered) in
         true≢false (sym keeps ∙ so)
     not_so counts (inr (timed, dates, times, some)) so =
         let rest = rest_is text taken.front [] taken.counts counts taken.pairs (nothing_read false)
-            (whole ∙ ap (λ (l : List ℕ). codes "P" ++ l) taken.split) (inr timed) in
+        (whole ∙ ap (λ (l : List ℕ). codes "P" ++ l) taken.split) (inr timed) in
         no_time timed.time (sym rest.0)
 
 not_bare : (bare : Bool) (time : List ℕ) → (bare ≡ true → time ≡ []) → time ≢ [] → bare ≡ false
@@ -75,9 +80,16 @@ timed_spelled text date time old mid was is from to bare spelled whole dates tim
       strict = λ so.
           let parts = and_parts _ _ (sym told ∙ so) in
           let both = and_parts _ _ parts.0 in
-          let some : times.front ≢ [] = λ empty. true≢false (sym (nothing.1 (same ∙ empty)) ∙ not-true bare parts.1) in
-          (dates.counts ++ times.counts, inr (timed, in_order false is dates.counts (dates.ordered [] unordered) both.0,
-              in_order true to times.counts (times.ordered [] unordered_times) both.1, some), all);
+          let some : times.front ≢ [] = λ empty. true≢false (sym (nothing.1 (same ∙ empty)) ∙ not-true bare parts.1) in (
+            dates.counts ++ times.counts,
+            inr (
+              timed,
+              in_order false is dates.counts (dates.ordered [] unordered) both.0,
+              in_order true to times.counts (times.ordered [] unordered_times) both.1,
+              some,
+            ),
+            all,
+          );
       loose = λ so counts shape. not_so counts shape so;
     }
   where
@@ -90,7 +102,7 @@ timed_spelled text date time old mid was is from to bare spelled whole dates tim
         let tails : time ≡ other = cc in
         let front : times.front ≡ other = sym (times.split ∙ append-nil times.front) ∙ tails in
         join_values (IsPair (unit_in true)) (read_pair (unit_in true)) (finds_pair true) (nothing_read true) other times.counts counts
-            (subst (λ (l : List ℕ). ArePairs (unit_in true) l times.counts) front times.pairs) pairs
+        (subst (λ (l : List ℕ). ArePairs (unit_in true) l times.counts) front times.pairs) pairs
 
     not_so : (counts : List Count) → IsStrictEither text counts → spelled.in_order ≡ false → ⊥
     not_so counts (inl (alone, ordered)) so = no_time time (rest_is text dates.front (codes "T" ++ time) dates.counts counts dates.pairs
@@ -100,9 +112,9 @@ timed_spelled text date time old mid was is from to bare spelled whole dates tim
         let split : codes "T" ++ time ≡ codes "T" ++ timed.time = rest.0 in
         let tails : time ≡ timed.time = cc in
         let is_true = kept false is dates.counts (dates.ordered [] unordered)
-            (subst (AreInOrder (units_in_order false)) (sym rest.1) dates_ordered) in
+        (subst (AreInOrder (units_in_order false)) (sym rest.1) dates_ordered) in
         let to_true = kept true to times.counts (times.ordered [] unordered_times)
-            (subst (AreInOrder (units_in_order true)) (sym (times_are timed.time timed.time_counts split timed.times)) times_ordered) in
+        (subst (AreInOrder (units_in_order true)) (sym (times_are timed.time timed.time_counts split timed.times)) times_ordered) in
         let some = not_bare bare time nothing.0 (λ empty. some_time (sym tails ∙ empty)) in
         let all : spelled.in_order ≡ true = told ∙ rw (is_true, to_true, some) refl in
         true≢false (sym all ∙ so)

@@ -43,7 +43,7 @@ part_spelled : (unit_of : ℕ → Option TimeUnit) (negative : Bool) (n letter :
 unfolding iso_part
 part_spelled unit_of negative n letter unit small means =
     cond_two (n == 0) (ArePairs unit_of) _ _ _ _ (λ _. refl) (λ _. IsJoin-one (IsPair unit_of) _ _
-        (whole_pair unit_of negative n letter unit small means))
+    (whole_pair unit_of negative n letter unit small means))
 
 whole_digits : (n : ℕ) → n < 2 ^ 64 → AreDigits (nonzero_digits n)
 unfolding nonzero_digits
@@ -68,7 +68,7 @@ seconds_spelled : (negative : Bool) (seconds micros : ℕ) → seconds < 2 ^ 64 
 unfolding iso_seconds
 seconds_spelled negative seconds micros small below =
     cond_two (micros == 0) (ArePairs time_unit) _ _ _ _ (λ _. part_spelled time_unit negative seconds 83 Second small refl)
-        (λ _. IsJoin-one (IsPair time_unit) _ _ (point_pair negative seconds micros small below))
+    (λ _. IsJoin-one (IsPair time_unit) _ _ (point_pair negative seconds micros small below))
 
 date_spelled : (months days : ℤ) → unsigned_abs months ≤ 2 ^ 63 → unsigned_abs days ≤ 2 ^ 63
     → ArePairs date_unit (iso_date months days) (date_counts months days)
@@ -82,8 +82,8 @@ date_spelled months days small_months small_days =
 abbrev time_body : ℤ → List ℕ
 time_body micros =
     iso_part (is_negative micros) (hours_of micros) (codes "H")
-        ++ (iso_part (is_negative micros) (minutes_of micros) (codes "M")
-        ++ iso_seconds (is_negative micros) (seconds_of micros) (subsecond_of micros))
+    ++ (iso_part (is_negative micros) (minutes_of micros) (codes "M")
+    ++ iso_seconds (is_negative micros) (seconds_of micros) (subsecond_of micros))
 
 time_spelled : (micros : ℤ) → unsigned_abs micros ≤ 2 ^ 63 → ArePairs time_unit (time_body micros) (time_counts micros)
 time_spelled micros small =
@@ -109,20 +109,20 @@ date_order : (months days : ℤ) → AreInOrder (units_in_order false) (date_cou
 date_order months days =
     part_order (is_negative months) (years_of months) Year (Month ∷ Week ∷ Day ∷ []) _
     (part_order (is_negative months) (months_of months) Month (Week ∷ Day ∷ []) _
-        (none_of Week (Day ∷ []) _ (last_order (is_negative days) (unsigned_abs days) Day)))
+    (none_of Week (Day ∷ []) _ (last_order (is_negative days) (unsigned_abs days) Day)))
 
 time_order : (micros : ℤ) → AreInOrder (units_in_order true) (time_counts micros)
 time_order micros =
     part_order (is_negative micros) (hours_of micros) Hour (Minute ∷ Second ∷ []) _
     (part_order (is_negative micros) (minutes_of micros) Minute (Second ∷ []) _
     (cond_both (subsecond_of micros == 0) _ _ (AreInOrder (Second ∷ [])) (λ _. last_order (is_negative micros) (seconds_of micros) Second)
-        (λ _. inl (refl, tt))))
+    (λ _. inl (refl, tt))))
 
 -- the counts that the written text spells
 abbrev pub iso_counts : ℤ → ℤ → ℤ → List Count
 iso_counts months days micros =
     if int_eq months (pos 0) && (int_eq days (pos 0) && int_eq micros (pos 0)) then (zero_count ∷ []) else
-        (date_counts months days ++ time_counts micros)
+    (date_counts months days ++ time_counts micros)
 
 zero_pair : IsPair time_unit (codes "0S") zero_count
 zero_pair = record {
@@ -165,7 +165,7 @@ no_date months days none =
     let months_left = iso_part (is_negative months) (months_of months) (codes "M") in
     let days_all = iso_part (is_negative days) (unsigned_abs days) (codes "D") in
     let outer : length (years ++ (months_left ++ days_all)) ≡ length years
-        + length (months_left ++ days_all) = length-append years (months_left ++ days_all) in
+    + length (months_left ++ days_all) = length-append years (months_left ++ days_all) in
     let inner : length (months_left ++ days_all) ≡ length months_left + length days_all = length-append months_left days_all in
     let no_years : years_of months ≡ 0 = no_part (is_negative months) (years_of months) 89 (omega arith) in
     let no_months : months_of months ≡ 0 = no_part (is_negative months) (months_of months) 77 (omega arith) in
@@ -176,10 +176,13 @@ no_seconds : (negative : Bool) (seconds micros : ℕ) → length (iso_seconds ne
 unfolding iso_seconds iso_decimal
 no_seconds negative seconds micros =
     cond_both (micros == 0) _ _ (λ (text : List ℕ). length text ≡ 0 → (seconds ≡ 0) × (micros ≡ 0))
-        (λ zero_is none. (no_part negative seconds 83 none, eqb-true micros 0 zero_is))
-    (λ _ none. absurd (omega (arith, length-append (minus negative)
-        (nonzero_digits seconds ++ (codes "." ++ (padded_digits 6 micros ++ codes "S"))),
-        length-append (nonzero_digits seconds) (codes "." ++ (padded_digits 6 micros ++ codes "S")))))
+    (λ zero_is none. (no_part negative seconds 83 none, eqb-true micros 0 zero_is))
+    (λ _ none. absurd (omega (
+      arith,
+      length-append (minus negative)
+          (nonzero_digits seconds ++ (codes "." ++ (padded_digits 6 micros ++ codes "S"))),
+      length-append (nonzero_digits seconds) (codes "." ++ (padded_digits 6 micros ++ codes "S")),
+    )))
 
 -- a time that isn't written is 0
 no_body : (micros : ℤ) → length (time_body micros) ≡ 0 → micros ≡ pos 0
@@ -188,7 +191,7 @@ no_body micros none =
     let minutes = iso_part (is_negative micros) (minutes_of micros) (codes "M") in
     let seconds = iso_seconds (is_negative micros) (seconds_of micros) (subsecond_of micros) in
     let outer : length (hours ++ (minutes ++ seconds)) ≡ length hours
-        + length (minutes ++ seconds) = length-append hours (minutes ++ seconds) in
+    + length (minutes ++ seconds) = length-append hours (minutes ++ seconds) in
     let inner : length (minutes ++ seconds) ≡ length minutes + length seconds = length-append minutes seconds in
     let no_hours : hours_of micros ≡ 0 = no_part (is_negative micros) (hours_of micros) 72 (omega arith) in
     let no_minutes : minutes_of micros ≡ 0 = no_part (is_negative micros) (minutes_of micros) 77 (omega arith) in
@@ -255,4 +258,4 @@ unfolding iso_steps
 iso_spelled months days micros small_months small_days small_micros =
     cond_two _ IsStrictEither _ _ _ _ (λ _. zero_spelled)
     (λ some. ⊎_elim (λ none. date_alone months days micros small_months small_days none some)
-        (λ time. date_and_time months days micros small_months small_days small_micros time) (cases_Bool (int_eq micros (pos 0))))
+    (λ time. date_and_time months days micros small_months small_days small_micros time) (cases_Bool (int_eq micros (pos 0))))

@@ -54,7 +54,7 @@ pub no_shape_behind_dates : (text date rest : List ℕ) (old new : Tally) (was i
     → HasNoShape IsIsoEither text
 no_shape_behind_dates text date rest old new was is spelled taken stuck some no_time counts shape =
     elim (behind_dates text taken.front rest taken.counts counts taken.pairs stuck
-        (spelled ∙ ap (λ (l : List ℕ). codes "P" ++ l) taken.split) shape) [
+    (spelled ∙ ap (λ (l : List ℕ). codes "P" ++ l) taken.split) shape) [
       | inl end ↦ some end.0
       | inr timed ↦ no_time timed.0 timed.2
     ]
@@ -66,14 +66,14 @@ pub no_shape_behind_times : (text date time rest : List ℕ) (old mid new : Tall
     → HasNoShape IsIsoEither text
 no_shape_behind_times text date time rest old mid new was is from to spelled dates times stuck some counts shape =
     elim (behind_dates text dates.front (codes "T" ++ time) dates.counts counts dates.pairs (time_ends time)
-        (spelled ∙ ap (λ (l : List ℕ). codes "P" ++ l) dates.split) shape) [
+    (spelled ∙ ap (λ (l : List ℕ). codes "P" ++ l) dates.split) shape) [
       | inl end ↦ no_time time end.0
       | inr timed ↦
           let same : codes "T" ++ time ≡ codes "T" ++ timed.0 = timed.2 in
           let tails : time ≡ timed.0 = cc in
           let split : times.front ++ rest ≡ timed.0 ++ [] = sym times.split ∙ tails ∙ sym (append-nil timed.0) in
           some (join_same (IsPair (unit_in true)) (read_pair (unit_in true))
-              (finds_pair true) times.front timed.0 rest [] times.counts timed.1 times.pairs timed.3 split stuck (nothing_read true)).1
+          (finds_pair true) times.front timed.0 rest [] times.counts timed.1 times.pairs timed.3 split stuck (nothing_read true)).1
     ]
 
 -- ---- where the pairs end
@@ -105,11 +105,11 @@ pub stopped_dates : (text date : List ℕ) (old : Tally) (was : Order) → text 
     → HasNoShape IsIsoEither text
 stopped_dates text date old was spelled stop =
     no_shape_behind_dates text date stop.rest old stop.mid was stop.order spelled stop.taken stop.stuck (some_left stop.rest stop.goes_on)
-        (λ time. no_time_left stop.rest time stop.goes_on)
+    (λ time. no_time_left stop.rest time stop.goes_on)
 
 pub stopped_times : (text date time : List ℕ) (old mid : Tally) (was is from : Order) → text ≡ codes "P" ++ date
     → TakesPairs false date (codes "T" ++ time) old mid was is → StopsBehindPairs true time mid from
     → HasNoShape IsIsoEither text
 stopped_times text date time old mid was is from spelled dates stop =
     no_shape_behind_times text date time stop.rest old mid stop.mid was is from stop.order spelled dates stop.taken stop.stuck
-        (some_left stop.rest stop.goes_on)
+    (some_left stop.rest stop.goes_on)

@@ -44,16 +44,26 @@ pair_over : (from to : ℕ → Option TimeUnit) → GoesOver from to → (piece 
     → IsPair to piece c
 pair_over from to over piece c none pair =
     let letter = (or_parts (pair.letter == 87) false (apart piece pair.number (pair.letter ∷ []) none pair.joined).1).0 in
-    record { number = pair.number; letter = pair.letter; digits = pair.digits; unit = over pair.letter c.unit letter pair.unit;
-        joined = pair.joined }
+    record {
+      number = pair.number;
+      letter = pair.letter;
+      digits = pair.digits;
+      unit = over pair.letter c.unit letter pair.unit;
+      joined = pair.joined;
+    }
 
 pairs_over : (from to : ℕ → Option TimeUnit) → GoesOver from to → (bytes : List ℕ) (counts : List Count) → has_week bytes ≡ false
     → ArePairs from bytes counts
     → ArePairs to bytes counts
 pairs_over from to over bytes [] none pairs = pairs
 pairs_over from to over bytes (c ∷ cs) none (piece, rest, pair, more, split) =
-    let parts = apart bytes piece rest none split in (piece, rest, pair_over from to over piece c parts.0 pair,
-        pairs_over from to over rest cs parts.1 more, split)
+    let parts = apart bytes piece rest none split in (
+      piece,
+      rest,
+      pair_over from to over piece c parts.0 pair,
+      pairs_over from to over rest cs parts.1 more,
+      split,
+    )
 
 -- what stands behind the `T` has no such letter
 time_without : (date time rest : List ℕ) → ((rest ≡ []) × (time ≡ []) × (date ≢ [])) ⊎ (rest ≡ codes "T" ++ time) → has_week rest ≡ false
@@ -82,8 +92,10 @@ shape_over from to over text counts none iso =
     }
 
 pub old_texts : (text : List ℕ) (counts : List Count) → has_week text ≡ false → (IsIso unit_in text counts ↔ IsIsoWithoutWeeks text counts)
-old_texts text counts none = (shape_over unit_in unit_without_weeks forth text counts none,
-    shape_over unit_without_weeks unit_in back text counts none)
+old_texts text counts none = (
+  shape_over unit_in unit_without_weeks forth text counts none,
+  shape_over unit_without_weeks unit_in back text counts none,
+)
 
 -- ---- the old shape has no such letter
 
@@ -115,7 +127,7 @@ fraction digits_behind tail (inr some) = joined tail (codes ".") digits_behind s
 number : (negative : Bool) (whole behind word : List ℕ) → IsNumber false negative whole behind word → has_week word ≡ false
 number negative whole behind word is =
     joined word is.sign (whole ++ is.tail) is.joined (sign negative is.sign is.signed)
-        (joined (whole ++ is.tail) whole is.tail refl (digits whole is.digits) (fraction behind is.tail is.point))
+    (joined (whole ++ is.tail) whole is.tail refl (digits whole is.digits) (fraction behind is.tail is.point))
 
 letter : (in_time : Bool) (byte : ℕ) (unit : TimeUnit) → unit_without_weeks in_time byte ≡ Some unit → (byte == 87) ≡ false
 letter false byte unit means = grind (arith, nat_tests)
@@ -142,7 +154,7 @@ no_week text counts iso =
     let time = pairs true iso.time iso.time_counts iso.times in
     let rest = rest_without iso.date iso.time iso.rest iso.timed time in
     joined text (codes "P") (iso.date ++ iso.rest) iso.joined refl
-        (joined _ iso.date iso.rest refl (pairs false iso.date iso.date_counts iso.dates) rest)
+    (joined _ iso.date iso.rest refl (pairs false iso.date iso.date_counts iso.dates) rest)
 
 pub new_texts : (text : List ℕ) → has_week text ≡ true → HasNoShape IsIsoWithoutWeeks text
 new_texts text some counts shape = let none = no_week text counts shape in cc

@@ -51,9 +51,9 @@ alone : (units : Bool → ℕ → Option TimeUnit) (text : List ℕ) (counts : L
 alone units text counts iso none empty some =
     let no_counts = no_pairs (units true) iso.time iso.time_counts iso.times empty in
     let same : counts ≡ iso.date_counts = iso.counted ∙ (ap (λ (cs : List Count). iso.date_counts ++ cs) no_counts
-        ∙ append-nil iso.date_counts) in
+    ∙ append-nil iso.date_counts) in
     let spelled : text ≡ codes "P" ++ iso.date = iso.joined ∙ ap (λ (l : List ℕ). codes "P" ++ l)
-        (ap (λ (l : List ℕ). iso.date ++ l) none ∙ append-nil iso.date) in
+    (ap (λ (l : List ℕ). iso.date ++ l) none ∙ append-nil iso.date) in
     (same, (iso.date, subst (λ (cs : List Count). ArePairs (units false) iso.date cs) (sym same) iso.dates, some, spelled))
 
 -- with a `T`
@@ -77,8 +77,12 @@ either text counts iso = ⊎_elim (λ none. inl (alone unit_in text counts iso n
 
 pub whole_strict : (text : List ℕ) (counts : List Count) → IsStrictEither text counts → IsIsoStrict text counts
 unfolding whole
-whole_strict text counts (inl (date, ordered)) = (whole unit_in text counts (inl date), ordered,
-    tt, (λ none. absurd (omega (arith, ap length none))))
+whole_strict text counts (inl (date, ordered)) = (
+  whole unit_in text counts (inl date),
+  ordered,
+  tt,
+  (λ none. absurd (omega (arith, ap length none))),
+)
 whole_strict text counts (inr (both, dates, times, some)) =
     (whole unit_in text counts (inr both), dates, times, (λ none. let empty : both.time ≡ [] = cc in some empty))
 
@@ -87,7 +91,11 @@ unfolding timed
 strict_either text counts (iso, dates, times, some) =
     ⊎_elim
     (λ none. let is = alone unit_in text counts iso none.0 none.1 none.2 in inl
-        (is.1, subst (AreInOrder (units_in_order false)) (sym is.0) dates))
-    (λ behind. inr (timed unit_in text counts iso behind, dates,
-        times, (λ empty. some (behind ∙ ap (λ (l : List ℕ). codes "T" ++ l) empty))))
+    (is.1, subst (AreInOrder (units_in_order false)) (sym is.0) dates))
+    (λ behind. inr (
+      timed unit_in text counts iso behind,
+      dates,
+      times,
+      (λ empty. some (behind ∙ ap (λ (l : List ℕ). codes "T" ++ l) empty)),
+    ))
     iso.timed

@@ -33,7 +33,7 @@ pub text_unspelled : (names : Names) → AreNames names
     → verdict names [] 0 (words text) ≡ Unspelled
 text_unspelled names letters_names turned text rest state taken some none =
     ap (λ (l : List ℕ). verdict names [] 0 (words l)) taken.split
-        ∙ behind_items names letters_names taken.consumed rest taken.counts taken.items (closed_now names turned text rest state taken some)
+    ∙ behind_items names letters_names taken.consumed rest taken.counts taken.items (closed_now names turned text rest state taken some)
     ∙ rest_unspelled names taken.counts (total_length (words taken.consumed)) rest taken.solid some none
 
 -- a text whose words spell nothing is no items, and has no bad name

@@ -40,7 +40,7 @@ clock_front : (names : Names) (bytes : List ℕ) (fields : ClockFields) (rest : 
     → IsItemInFront names bytes rest (clock_of fields)
 clock_front names bytes fields rest h =
     let alone = ap words (sym (append-nil h.word)) ∙ words_in_front h.word [] (clock_some h.word _ h.clock)
-        (clock_no_blanks h.word _ h.clock) tt in
+    (clock_no_blanks h.word _ h.clock) tt in
     record { front = h.word; item = inr (h.word, h.clock, alone); ends = h.ends; split = h.split }
 
 named_item : (names : Names) (n : Numeral) (letters bytes rest : List ℕ) (h : StandsNamed bytes n letters rest) (unit : TimeUnit)
@@ -51,22 +51,40 @@ named_item names n letters bytes rest h unit found [] none =
     let lengths = length-append h.number letters in
     let some = number_some n.negative n.whole n.fraction h.number h.digits in
     let solid = no_blanks-append h.number letters (number_no_blanks n.negative n.whole n.fraction h.number h.digits)
-        (letters_no_blanks letters h.ascii) in
+    (letters_no_blanks letters h.ascii) in
     let spelled : words (h.number ++ (h.blanks ++ letters)) ≡ word ∷ [] =
     ap (λ (l : List ℕ). words (h.number ++ (l ++ letters))) none ∙ ap words (sym (append-nil word))
-        ∙ words_in_front word [] (omega (arith, lengths, some)) solid tt in
-    inl (count_with n unit, record { number = h.number; name = letters; digits = h.digits; unit = named_contains names letters unit found;
-        spelled = inr spelled }, refl)
+    ∙ words_in_front word [] (omega (arith, lengths, some)) solid tt in
+    inl (
+      count_with n unit,
+      record {
+        number = h.number;
+        name = letters;
+        digits = h.digits;
+        unit = named_contains names letters unit found;
+        spelled = inr spelled;
+      },
+      refl,
+    )
 named_item names n letters bytes rest h unit found (b ∷ bs) some =
     let blank : AreBlanks (b ∷ bs) = subst AreBlanks some h.blank in
     let first = words_in_front h.number ((b ∷ bs) ++ letters) (number_some n.negative n.whole n.fraction h.number h.digits)
-        (number_no_blanks n.negative n.whole n.fraction h.number h.digits) (and_parts (is_blank b) (list_all is_blank bs) blank).0 in
+    (number_no_blanks n.negative n.whole n.fraction h.number h.digits) (and_parts (is_blank b) (list_all is_blank bs) blank).0 in
     let second = words-blanks (b ∷ bs) letters blank ∙ ap words (sym (append-nil letters))
-        ∙ words_in_front letters [] h.some (letters_no_blanks letters h.ascii) tt in
+    ∙ words_in_front letters [] h.some (letters_no_blanks letters h.ascii) tt in
     let spelled : words (h.number ++ (h.blanks ++ letters)) ≡ h.number ∷ letters ∷ [] =
     ap (λ (l : List ℕ). words (h.number ++ (l ++ letters))) some ∙ first ∙ ap (λ (l : List (List ℕ)). h.number ∷ l) second in
-    inl (count_with n unit, record { number = h.number; name = letters; digits = h.digits; unit = named_contains names letters unit found;
-        spelled = inl spelled }, refl)
+    inl (
+      count_with n unit,
+      record {
+        number = h.number;
+        name = letters;
+        digits = h.digits;
+        unit = named_contains names letters unit found;
+        spelled = inl spelled;
+      },
+      refl,
+    )
 
 named_front : (names : Names) (bytes : List ℕ) (n : Numeral) (letters rest : List ℕ) (unit : TimeUnit) → StandsNamed bytes n letters rest
     → unit_named names letters ≡ Some unit
@@ -86,13 +104,18 @@ last_blank : (b : ℕ) (bs : List ℕ) → AreBlanks (b ∷ bs)
 last_blank b [] all = ([], b, (and_parts (is_blank b) true all).0, refl)
 last_blank b (c ∷ cs) all =
     let below = last_blank c cs (and_parts (is_blank b) (list_all is_blank (c ∷ cs)) all).1 in
-        (b ∷ below.0, below.1, below.2, ap (λ (l : List ℕ). b ∷ l) below.3)
+    (b ∷ below.0, below.1, below.2, ap (λ (l : List ℕ). b ∷ l) below.3)
 
 -- blanks end what stands before them
 blanks_end : (front : List ℕ) (b : ℕ) (bs : List ℕ) → AreBlanks (b ∷ bs) → EndsInBlank (front ++ (b ∷ bs))
 blanks_end front b bs all =
-    let last = last_blank b bs all in inr (front ++ last.0, last.1, last.2, ap (λ (l : List ℕ). front ++ l) last.3
-        ∙ sym (append_assoc front last.0 (last.1 ∷ [])))
+    let last = last_blank b bs all in inr (
+      front ++ last.0,
+      last.1,
+      last.2,
+      ap (λ (l : List ℕ). front ++ l) last.3
+          ∙ sym (append_assoc front last.0 (last.1 ∷ [])),
+    )
 
 pub closed_start : (blanks : List ℕ) → AreBlanks blanks → EndsInBlank blanks
 closed_start [] all = inl refl
@@ -144,9 +167,13 @@ all_counts-push (x ∷ xs) cs = ap (λ (l : List Count). x ++ l) (all_counts-pus
 items_push : (names : Names) (consumed front : List (List ℕ)) (counts cs : List Count) → AreItems names consumed counts
     → IsItem names front cs → has_distinct_units (counts ++ cs) ≡ true
     → AreItems names (consumed ++ front) (counts ++ cs)
-items_push names consumed front counts cs (items, join, counted, distinct) item both_distinct =
-    (items ++ cs ∷ [], join_push (IsItem names) consumed front items cs join item, ap (λ (l : List Count). l ++ cs) counted
-        ∙ sym (all_counts-push items cs), distinct_pairs (counts ++ cs) both_distinct)
+items_push names consumed front counts cs (items, join, counted, distinct) item both_distinct = (
+  items ++ cs ∷ [],
+  join_push (IsItem names) consumed front items cs join item,
+  ap (λ (l : List Count). l ++ cs) counted
+      ∙ sym (all_counts-push items cs),
+  distinct_pairs (counts ++ cs) both_distinct,
+)
 
 front_taken :
     (names : Names) (turned : Bool) (text rest after : List ℕ) (cs : List Count) (old new : DistinctTally)
@@ -158,9 +185,9 @@ front_taken names turned text rest after cs old new taken some item counted =
     let closed = closed_now names turned text rest old taken some in
     let seen : words (taken.consumed ++ (item.front ++ skip.0)) ≡ words taken.consumed ++ words item.front =
     words-closed taken.consumed (item.front ++ skip.0) closed ∙ ap (λ (l : List (List ℕ)). words taken.consumed ++ l)
-        (words_before item.front skip.0 skip.1) in
+    (words_before item.front skip.0 skip.1) in
     let pushed = items_push names (words taken.consumed) (words item.front) taken.counts cs taken.items item.item
-        (sym (distinct-turned turned (taken.counts ++ cs)) ∙ counted.distinct) in
+    (sym (distinct-turned turned (taken.counts ++ cs)) ∙ counted.distinct) in
     record {
       consumed = taken.consumed ++ (item.front ++ skip.0);
       counts = taken.counts ++ cs;
@@ -180,10 +207,10 @@ pub one_taken :
     → ItemsTaken names turned text (after_blanks after) new
 one_taken names turned text rest after old new taken some (inl (fields, read, counted)) =
     front_taken names turned text rest after (clock_of fields) old new taken some
-        (clock_front names rest fields after (subst (Stands rest) read (item_stands rest))) counted
+    (clock_front names rest fields after (subst (Stands rest) read (item_stands rest))) counted
 one_taken names turned text rest after old new taken some (inr (n, letters, unit, read, found, counted)) =
     front_taken names turned text rest after (count_with n unit ∷ []) old new taken some
-        (named_front names rest n letters after unit (subst (Stands rest) read (item_stands rest)) found) counted
+    (named_front names rest n letters after unit (subst (Stands rest) read (item_stands rest)) found) counted
 
 -- what is left of a rest after an item is shorter
 pub taken_shorter : (names : Names) (turned : Bool) (rest after : List ℕ) (counts : List Count) (new : DistinctTally)
@@ -191,10 +218,10 @@ pub taken_shorter : (names : Names) (turned : Bool) (rest after : List ℕ) (cou
     → length (after_blanks after) < length rest
 taken_shorter names turned rest after counts new (inl (fields, read, counted)) =
     let skip = ap (λ (l : List ℕ). length l) (are_skipped after).2 ∙ length-append (are_skipped after).0 (after_blanks after) in
-        omega (arith, clock_long rest fields after read, skip)
+    omega (arith, clock_long rest fields after read, skip)
 taken_shorter names turned rest after counts new (inr (n, letters, unit, read, found, counted)) =
     let skip = ap (λ (l : List ℕ). length l) (are_skipped after).2 ∙ length-append (are_skipped after).0 (after_blanks after) in
-        omega (arith, named_long rest n letters after read, skip)
+    omega (arith, named_long rest n letters after read, skip)
 
 pub after-le : (after : List ℕ) → length (after_blanks after) ≤ length after
 after-le after = let skip = ap (λ (l : List ℕ). length l) (are_skipped after).2

@@ -46,7 +46,7 @@ pub number_no_blanks : (negative : Bool) (whole fraction word : List ℕ) → Is
 number_no_blanks negative whole fraction word h =
     let joined = h.joined in
     rw joined (no_blanks-append h.sign (whole ++ h.tail) (sign_no_blanks negative h.sign h.signed)
-        (no_blanks-append whole h.tail (digits_no_blanks whole h.digits) (point_no_blanks fraction h.tail h.point)))
+    (no_blanks-append whole h.tail (digits_no_blanks whole h.digits) (point_no_blanks fraction h.tail h.point)))
 
 pub clock_no_blanks : (word : List ℕ) (counts : List Count) → IsClock word counts → NoBlanks word
 clock_no_blanks word counts h =
@@ -103,12 +103,24 @@ pub record FirstWord (bytes : List ℕ) : Type 0 where
 
 word_if : (t : Bool) (b c : ℕ) (bs : List ℕ) → is_blank b ≡ false → is_blank c ≡ t → (is_blank c ≡ false → FirstWord (c ∷ bs))
     → FirstWord (b ∷ c ∷ bs)
-word_if true b c bs first blank more = record { word = b ∷ []; rest = c ∷ bs; some = omega arith; solid = (first, tt); ends = blank;
-    split = refl }
+word_if true b c bs first blank more = record {
+  word = b ∷ [];
+  rest = c ∷ bs;
+  some = omega arith;
+  solid = (first, tt);
+  ends = blank;
+  split = refl;
+}
 word_if false b c bs first blank more =
     let next = more blank in
-    record { word = b ∷ next.word; rest = next.rest; some = omega arith; solid = (first, next.solid); ends = next.ends;
-        split = ap (λ (l : List ℕ). b ∷ l) next.split }
+    record {
+      word = b ∷ next.word;
+      rest = next.rest;
+      some = omega arith;
+      solid = (first, next.solid);
+      ends = next.ends;
+      split = ap (λ (l : List ℕ). b ∷ l) next.split;
+    }
 
 pub first_word : (b : ℕ) (bs : List ℕ) → is_blank b ≡ false → FirstWord (b ∷ bs)
 first_word b [] h = record { word = b ∷ []; rest = []; some = omega arith; solid = (h, tt); ends = tt; split = refl }

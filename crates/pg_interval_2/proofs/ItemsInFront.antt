@@ -25,8 +25,11 @@ pub record ClosesNumber (rest : List ℕ) : Type 0 where
 
 pub end_closes : (rest : List ℕ) → EndsWord rest → ClosesNumber rest
 end_closes [] e = record { digit = tt; point = tt; colon = refl }
-end_closes (b ∷ bs) e = let other = blank_is_no b e in record { digit = other.0; point = other.1;
-    colon = (let colon = other.2 in rw colon refl) }
+end_closes (b ∷ bs) e = let other = blank_is_no b e in record {
+  digit = other.0;
+  point = other.1;
+  colon = (let colon = other.2 in rw colon refl);
+}
 
 letters_close : (letters rest : List ℕ) → 0 < length letters → AreLetters letters → ClosesNumber (letters ++ rest)
 letters_close [] rest some l = absurd (omega arith)
@@ -51,7 +54,7 @@ unfolding read_item read_named
 number_read negative whole fraction number rest h closes =
     let body = whole ++ (h.tail ++ rest) in
     let split : number ++ rest ≡ h.sign ++ body = ap (λ (l : List ℕ). l ++ rest) h.joined ∙ append_assoc h.sign (whole ++ h.tail) rest
-        ∙ ap (λ (l : List ℕ). h.sign ++ l) (append_assoc whole h.tail rest) in
+    ∙ ap (λ (l : List ℕ). h.sign ++ l) (append_assoc whole h.tail rest) in
     let signed = sign_of true negative h.sign body h.signed (digits_no_sign whole fraction h.tail rest h.digits h.point h.some) in
     let sign : read_sign true (number ++ rest) ≡ (negative, body) = ap (read_sign true) split ∙ signed in
     let no_digit = tail_no_digit fraction h.tail rest h.point closes.digit in
@@ -115,7 +118,7 @@ clock_read word rest counts h ends =
     let middle = codes ":" ++ (h.minutes ++ (codes ":" ++ last)) in
     let split : word ++ rest ≡ h.sign ++ (h.hours ++ middle) =
     ap (λ (l : List ℕ). l ++ rest) h.joined ∙ append_assoc h.sign
-        (h.hours ++ (codes ":" ++ (h.minutes ++ (codes ":" ++ (h.seconds ++ h.tail))))) rest
+    (h.hours ++ (codes ":" ++ (h.minutes ++ (codes ":" ++ (h.seconds ++ h.tail))))) rest
     ∙ ap (λ (l : List ℕ). h.sign ++ l) (append_assoc h.hours (codes ":" ++ (h.minutes ++ (codes ":" ++ (h.seconds ++ h.tail)))) rest
     ∙ ap (λ (l : List ℕ). h.hours ++ (codes ":" ++ l)) (append_assoc h.minutes (codes ":" ++ (h.seconds ++ h.tail)) rest
     ∙ ap (λ (l : List ℕ). h.minutes ++ (codes ":" ++ l)) (append_assoc h.seconds h.tail rest))) in
@@ -126,5 +129,5 @@ clock_read word rest counts h ends =
     let front_minutes = front_of h.minutes (codes ":" ++ last) h.minute_field.1 refl in
     let after_minutes = after_of h.minutes (codes ":" ++ last) h.minute_field.1 refl in
     let behind = seconds_read h.negative h.hours h.minutes h.seconds h.fraction h.tail rest h.hour_field h.minute_field h.second_field
-        h.point ends in
+    h.point ends in
     rw (sign, front, after, front_minutes, after_minutes) behind

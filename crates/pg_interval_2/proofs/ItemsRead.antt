@@ -56,7 +56,7 @@ letters_stand : (bytes number rest : List ℕ) (n : Numeral) → IsNumber true n
 letters_stand bytes number rest n digits split =
     let name = after_blanks rest in
     chosen (nat_lt 0 (length (front_letters name)) && ends_word (after_letters name)) bytes
-        (NamedItem n (front_letters name) (after_letters name)) (λ test.
+    (NamedItem n (front_letters name) (after_letters name)) (λ test.
     let tests = and_parts (nat_lt 0 (length (front_letters name))) (ends_word (after_letters name)) test in
     let skip = are_skipped rest in
     record {
@@ -83,9 +83,16 @@ named_stands negative sign whole rest bytes signed digits split =
     let number = sign ++ (whole ++ point.0) in
     let joined : bytes ≡ number ++ fraction.1 =
     split ∙ ap (λ (l : List ℕ). sign ++ l) (ap (λ (l : List ℕ). whole ++ l) point.2 ∙ sym (append_assoc whole point.0 fraction.1))
-        ∙ sym (append_assoc sign (whole ++ point.0) fraction.1) in
-    letters_stand bytes number fraction.1 n (record { sign = sign; tail = point.0; signed = signed; digits = digits; point = point.1;
-        some = ltb-true 0 _ test; joined = refl }) joined)
+    ∙ sym (append_assoc sign (whole ++ point.0) fraction.1) in
+    letters_stand bytes number fraction.1 n (record {
+      sign = sign;
+      tail = point.0;
+      signed = signed;
+      digits = digits;
+      point = point.1;
+      some = ltb-true 0 _ test;
+      joined = refl;
+    }) joined)
 
 -- ---- a clock
 
@@ -113,16 +120,16 @@ seconds_stand negative sign hours minutes after bytes (Some last) colon signed h
     let fraction = read_fraction behind in
     let fields : ClockFields = record { negative = negative; hours = hours; minutes = minutes; seconds = seconds; fraction = fraction.0 } in
     chosen (nat_lt 0 (length hours) && (nat_lt 0 (length minutes) && (nat_lt 0 (length seconds) && ends_word fraction.1))) bytes
-        (ClockItem fields fraction.1) (λ test.
+    (ClockItem fields fraction.1) (λ test.
     let first = and_parts (nat_lt 0 (length hours)) (nat_lt 0 (length minutes) && (nat_lt 0 (length seconds) && ends_word fraction.1)) test
-        in
+    in
     let second = and_parts (nat_lt 0 (length minutes)) (nat_lt 0 (length seconds) && ends_word fraction.1) first.1 in
     let third = and_parts (nat_lt 0 (length seconds)) (ends_word fraction.1) second.1 in
     let point = is_fraction behind in
     let tail = seconds ++ point.0 in
     let word = sign ++ (hours ++ (codes ":" ++ (minutes ++ (codes ":" ++ tail)))) in
     let last_split : last ≡ tail ++ fraction.1 = sym (front_and_after last) ∙ ap (λ (l : List ℕ). seconds ++ l) point.2
-        ∙ sym (append_assoc seconds point.0 fraction.1) in
+    ∙ sym (append_assoc seconds point.0 fraction.1) in
     let joined : word ++ fraction.1 ≡ sign ++ (hours ++ (codes ":" ++ (minutes ++ (codes ":" ++ (tail ++ fraction.1))))) =
     append_assoc sign (hours ++ (codes ":" ++ (minutes ++ (codes ":" ++ tail)))) fraction.1
     ∙ ap (λ (l : List ℕ). sign ++ l) (append_assoc hours (codes ":" ++ (minutes ++ (codes ":" ++ tail))) fraction.1
@@ -160,7 +167,7 @@ clock_stands : (negative : Bool) (sign hours rest bytes : List ℕ) → IsSign t
 unfolding read_clock
 clock_stands negative sign hours rest bytes signed digits split =
     seconds_stand negative sign hours (front_digits rest) (after_digits rest) bytes (read_byte 58 (after_digits rest))
-        (byte_in_front 58 (after_digits rest)) signed digits (front_are_digits rest)
+    (byte_in_front 58 (after_digits rest)) signed digits (front_are_digits rest)
     (split ∙ ap (λ (l : List ℕ). sign ++ (hours ++ (codes ":" ++ l))) (sym (front_and_after rest)))
 
 -- behind a sign and digits
@@ -179,5 +186,5 @@ item_stands bytes =
     let sign = is_sign true bytes in
     let body = (read_sign true bytes).1 in
     behind_digits (read_sign true bytes).0 sign.0 (front_digits body) (after_digits body) bytes (read_byte 58 (after_digits body))
-        (byte_in_front 58 (after_digits body)) sign.1 (front_are_digits body)
+    (byte_in_front 58 (after_digits body)) sign.1 (front_are_digits body)
     (sign.2 ∙ ap (λ (l : List ℕ). sign.0 ++ l) (sym (front_and_after body)))

@@ -30,8 +30,11 @@ use Rattle.pg_interval_2.proofs.Turning.{counts_unit-turned, turned-append}
 
 no_byte : (byte : ℕ) (bytes : List ℕ) → front_byte bytes ≢ Some byte → read_byte byte bytes ≡ None
 no_byte byte [] h = refl
-no_byte byte (b ∷ bs) h = elim (eqb_tells b byte) [ inl equal ↦ absurd
-    (h (ap Some equal.1)) | inr apart ↦ let other = apart.0 in rw other refl ]
+no_byte byte (b ∷ bs) h = elim (eqb_tells b byte) [
+  | inl equal ↦ absurd
+      (h (ap Some equal.1))
+  | inr apart ↦ let other = apart.0 in rw other refl
+]
 
 -- no colon behind the digits
 pub item_named : (bytes : List ℕ) (negative : Bool) (signed digits after : List ℕ) → (negative, signed) ≡ read_sign true bytes
@@ -122,7 +125,7 @@ step_found : (set : NameSet) (turned : Bool) (text : List ℕ) (item : NextItem)
     → IsItemStep (names_in set) turned text item rest counts new result
 step_found set turned text item rest counts n m word new step.Taken (Some unit) read is letters ends found counted =
     let same = ap (λ (x : Count). turned_counts turned counts ++ x ∷ []) (is unit)
-        ∙ sym (turned-append turned counts (count_with n unit ∷ [])) in
+    ∙ sym (turned-append turned counts (count_with n unit ∷ [])) in
     inr (n, letters_of text word, unit, read, found, subst (IsDistinctTally new) same counted)
 step_found set turned text item rest counts n m word new (step.BadName bad) (Some unit) read is letters ends found (bad_is, before) =
     let long = length-between text word.start word.end letters.order letters.within in
@@ -165,6 +168,6 @@ pub named_step : (set : NameSet) (turned : Bool) (text same : List ℕ) (item : 
     → IsItemStep (names_in set) turned text item rest counts new result
 named_step set turned text same item rest counts n m word new result e read is letters ends counted =
     step_found set turned text item rest counts n m word new result
-        (unit_named (names_in set) (letters_of text word)) read is letters ends refl
+    (unit_named (names_in set) (letters_of text word)) read is letters ends refl
     (subst (λ (l : List ℕ). CountsNamed (unit_named (names_in set) (letters_of l word)) (turned_counts turned counts) m word new result) e
-        counted)
+    counted)

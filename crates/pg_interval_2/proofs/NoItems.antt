@@ -54,7 +54,7 @@ next_if bytes name more (x ∷ xs) is h =
     let skip = are_skipped bytes in
     let first = first_word x xs (after_solid bytes x xs is) in
     let found : words (x ∷ xs) ≡ first.word ∷ words first.rest = ap words first.split
-        ∙ words_in_front first.word first.rest first.some first.solid first.ends in
+    ∙ words_in_front first.word first.rest first.some first.solid first.ends in
     let same : name ∷ more ≡ first.word ∷ words first.rest = sym h ∙ sym (words-after_blanks bytes) ∙ ap words is ∙ found in
     let word : first.word ≡ name = cc in
     record {
@@ -80,7 +80,7 @@ no_name negative whole fraction number bytes name digits read h test =
     let tests = and_parts (nat_lt 0 (length name)) (list_all is_ascii_alphabetic name) test in
     let found = named_read negative whole fraction number h.blanks name h.rest digits h.blank (ltb-true 0 _ tests.0) tests.1 h.ends in
     let clash : NoItem ≡ NamedItem (record { negative = negative; whole = whole; fraction = fraction }) name h.rest = sym read
-        ∙ ap (λ (l : List ℕ). read_item (number ++ l)) h.split ∙ found in cc
+    ∙ ap (λ (l : List ℕ). read_item (number ++ l)) h.split ∙ found in cc
 
 pair_unspelled : (names : Names) (counts : List Count) (total : ℕ) (number bytes : List ℕ) (n : Numeral) (more : List (List ℕ))
     → IsNumber true n.negative n.whole n.fraction number → read_item (number ++ bytes) ≡ NoItem → words bytes ≡ more
@@ -116,18 +116,18 @@ word_case names counts total word rest next (NamedItem n letters behind) found e
     let split : word ++ rest ≡ h.number ++ (h.blanks ++ (letters ++ (behind ++ rest))) =
     ap (λ (l : List ℕ). l ++ rest) h.split ∙ append_assoc h.number (h.blanks ++ (letters ++ behind)) rest
     ∙ ap (λ (l : List ℕ). h.number ++ l) (append_assoc h.blanks (letters ++ behind) rest
-        ∙ ap (λ (l : List ℕ). h.blanks ++ l) (append_assoc letters behind rest)) in
+    ∙ ap (λ (l : List ℕ). h.blanks ++ l) (append_assoc letters behind rest)) in
     let other = named_read n.negative n.whole n.fraction h.number h.blanks letters (behind ++ rest) h.digits h.blank h.some h.ascii
-        (ends_both behind rest h.ends ends) in
+    (ends_both behind rest h.ends ends) in
     let clash : NoItem ≡ NamedItem n letters (behind ++ rest) = sym read ∙ ap read_item split ∙ other in cc
 word_case names counts total word rest next NoItem None ends read h is = refl
 word_case names counts total word rest next NoItem (Some (n, behind)) ends read h is =
     number_case (length behind == 0) names counts total (length word) n next (judge_pair names counts total (length word) (words rest))
-        (λ whole.
+    (λ whole.
     let number = is_number true word n behind is in
     let same : word ≡ number.0 = number.2 ∙ ap (λ (l : List ℕ). number.0 ++ l) (is_whole behind whole) ∙ append-nil number.0 in
     pair_unspelled names counts total word rest n (words rest) (subst (λ (l : List ℕ). IsNumber true n.negative n.whole n.fraction l)
-        (sym same) number.1) read refl)
+    (sym same) number.1) read refl)
 
 -- bytes that begin with no item and no blank
 pub no_item_verdict : (names : Names) (counts : List Count) (total b : ℕ) (bs : List ℕ) → is_blank b ≡ false → read_item (b ∷ bs) ≡ NoItem
@@ -138,7 +138,7 @@ no_item_verdict names counts total b bs solid read =
     let front = ap words first.split ∙ words_in_front first.word first.rest first.some first.solid first.ends in
     ap (verdict names counts total) front ∙ verdict-word names counts total first.word (words first.rest)
     ∙ word_case names counts total first.word first.rest _ (read_item first.word) (read_number true first.word) first.ends
-        (ap read_item (sym first.split) ∙ read) (item_stands first.word) refl
+    (ap read_item (sym first.split) ∙ read) (item_stands first.word) refl
 
 -- a clock in front that counts a unit again
 pub clock_again_verdict : (names : Names) (counts : List Count) (total : ℕ) (bytes rest : List ℕ) (fields : ClockFields)
@@ -148,6 +148,6 @@ clock_again_verdict names counts total bytes rest fields h again =
     let front = ap words h.split ∙ words_in_front h.word rest (clock_some h.word _ h.clock) (clock_no_blanks h.word _ h.clock) h.ends in
     let kind = clock_kind h.word _ h.clock in
     let again' : has_distinct_units (counts ++ clock_counts h.clock.negative h.clock.hours h.clock.minutes h.clock.seconds h.clock.fraction)
-        ≡ false =
+    ≡ false =
     ap (λ (l : List Count). has_distinct_units (counts ++ l)) (sym h.clock.counted) ∙ again in
     ap (verdict names counts total) front ∙ verdict-word names counts total h.word (words rest) ∙ rw (kind, again') refl

@@ -95,7 +95,7 @@ unfolding read_number
 finds_number plus negative whole fraction word rest h d p =
     let body = whole ++ (h.tail ++ rest) in
     let split : word ++ rest ≡ h.sign ++ body = ap (λ (l : List ℕ). l ++ rest) h.joined ∙ append_assoc h.sign (whole ++ h.tail) rest
-        ∙ ap (λ (l : List ℕ). h.sign ++ l) (append_assoc whole h.tail rest) in
+    ∙ ap (λ (l : List ℕ). h.sign ++ l) (append_assoc whole h.tail rest) in
     let signed = sign_of plus negative h.sign body h.signed (digits_no_sign whole fraction h.tail rest h.digits h.point h.some) in
     let sign : read_sign plus (word ++ rest) ≡ (negative, body) = ap (read_sign plus) split ∙ signed in
     rw sign (finds_unsigned negative whole fraction h.tail rest h.digits h.point h.some d p)
@@ -115,7 +115,7 @@ pub is_sign : (plus : Bool) (bytes : List ℕ)
 is_sign plus [] = ([], inl refl, refl)
 is_sign plus (b ∷ bs) =
     sign_if (IsSign plus) (b == 45) (plus && b == 43) false b bs refl (λ h. inr ((and_parts plus (b == 43) h).0, refl)) (inl refl)
-        (eqb-true b 45) (λ h. eqb-true b 43 (and_parts plus (b == 43) h).1)
+    (eqb-true b 45) (λ h. eqb-true b 43 (and_parts plus (b == 43) h).1)
 
 -- what is read behind a sign
 pub record IsUnsigned (negative : Bool) (bytes : List ℕ) (n : Numeral) (rest : List ℕ) : Type 0 where
@@ -135,10 +135,16 @@ is_unsigned negative bytes n rest h =
     let whole = front_digits bytes in
     let split : bytes ≡ (whole ++ behind.0) ++ (read_fraction (after_digits bytes)).1 =
     sym (front_and_after bytes) ∙ ap (λ (l : List ℕ). whole ++ l) behind.2
-        ∙ sym (append_assoc whole behind.0 (read_fraction (after_digits bytes)).1) in
+    ∙ sym (append_assoc whole behind.0 (read_fraction (after_digits bytes)).1) in
     let P : Numeral × List ℕ → Type 0 = λ p. IsUnsigned negative bytes p.0 p.1 in
-    subst P found.1 (record { tail = behind.0; sign = refl; digits = front_are_digits bytes; point = behind.1; some = ltb-true 0 _ found.0;
-        joined = split })
+    subst P found.1 (record {
+      tail = behind.0;
+      sign = refl;
+      digits = front_are_digits bytes;
+      point = behind.1;
+      some = ltb-true 0 _ found.0;
+      joined = split;
+    })
 
 -- what is read is a number
 pub is_number : (plus : Bool) (bytes : List ℕ) (n : Numeral) (rest : List ℕ) → read_number plus bytes ≡ Some (n, rest)
@@ -148,7 +154,17 @@ is_number plus bytes n rest h =
     let sign = is_sign plus bytes in
     let body = is_unsigned (read_sign plus bytes).0 (read_sign plus bytes).1 n rest h in
     let split : bytes ≡ (sign.0 ++ (n.whole ++ body.tail)) ++ rest = sign.2 ∙ ap (λ (l : List ℕ). sign.0 ++ l) body.joined
-        ∙ sym (append_assoc sign.0 (n.whole ++ body.tail) rest) in
-    let P : Bool → Type 0 = λ b. IsSign plus b sign.0 in
-    (sign.0 ++ (n.whole ++ body.tail), record { sign = sign.0; tail = body.tail; signed = subst P (sym body.sign) sign.1;
-        digits = body.digits; point = body.point; some = body.some; joined = refl }, split)
+    ∙ sym (append_assoc sign.0 (n.whole ++ body.tail) rest) in
+    let P : Bool → Type 0 = λ b. IsSign plus b sign.0 in (
+      sign.0 ++ (n.whole ++ body.tail),
+      record {
+        sign = sign.0;
+        tail = body.tail;
+        signed = subst P (sym body.sign) sign.1;
+        digits = body.digits;
+        point = body.point;
+        some = body.some;
+        joined = refl;
+      },
+      split,
+    )

@@ -122,12 +122,12 @@ unfolding clock_steps
 clock_line width micros u =
     let fraction = fraction_line (subsecond_of micros) (subsecond_small micros u) in
     let seconds = append (field_text (seconds_of micros)) (fraction_text (subsecond_of micros))
-        (field_line (seconds_of micros) (seconds_small micros u)) fraction in
+    (field_line (seconds_of micros) (seconds_small micros u)) fraction in
     let minutes = append (field_text (minutes_of micros)) (field_text (seconds_of micros) ++ fraction_text (subsecond_of micros))
-        (field_line (minutes_of micros) (minutes_small micros u)) seconds in
+    (field_line (minutes_of micros) (minutes_small micros u)) seconds in
     append (hours_text width (hours_of micros)) (field_text (minutes_of micros)
-        ++ (field_text (seconds_of micros) ++ fraction_text (subsecond_of micros)))
-        (hours_line width (hours_of micros) (hours_small micros u)) minutes
+    ++ (field_text (seconds_of micros) ++ fraction_text (subsecond_of micros)))
+    (hours_line width (hours_of micros) (hours_small micros u)) minutes
 
 signed_clock_line : (width : ℕ) (micros : ℤ) → IsSmall micros → OneLine (minus (is_negative micros) ++ clock_steps width micros)
 signed_clock_line width micros u = append (minus (is_negative micros)) (clock_steps width micros) (minus_line (is_negative micros))
@@ -140,7 +140,7 @@ unfolding iso_part
 part_line negative n letter small h =
     let digits = append (decimal n) letter (decimal_line n small) h in
     if_line (n == 0) [] (minus negative ++ (decimal n ++ letter)) (lit [] refl)
-        (append (minus negative) (decimal n ++ letter) (minus_line negative) digits)
+    (append (minus negative) (decimal n ++ letter) (minus_line negative) digits)
 
 nonzero_line : (n : ℕ) → n < 2 ^ 64 → OneLine (nonzero_digits n)
 unfolding nonzero_digits
@@ -152,7 +152,7 @@ unfolding iso_decimal
 iso_decimal_line negative seconds micros s m =
     let end : List ℕ = padded_digits 6 micros ++ codes "S" in
     let fraction = append (codes ".") end (lit (codes ".") refl)
-        (append (padded_digits 6 micros) (codes "S") (padded_line 6 micros m) (lit (codes "S") refl)) in
+    (append (padded_digits 6 micros) (codes "S") (padded_line 6 micros m) (lit (codes "S") refl)) in
     let number = append (nonzero_digits seconds) (codes "." ++ end) (nonzero_line seconds s) fraction in
     append (minus negative) (nonzero_digits seconds ++ (codes "." ++ end)) (minus_line negative) number
 
@@ -161,7 +161,7 @@ iso_seconds_line : (negative : Bool) (seconds micros : ℕ) → seconds < 2 ^ 64
 unfolding iso_seconds
 iso_seconds_line negative seconds micros s m =
     if_line (micros == 0) (iso_part negative seconds (codes "S")) (iso_decimal negative seconds micros)
-        (part_line negative seconds (codes "S") s (lit (codes "S") refl)) (iso_decimal_line negative seconds micros s m)
+    (part_line negative seconds (codes "S") s (lit (codes "S") refl)) (iso_decimal_line negative seconds micros s m)
 
 iso_date_line : (months days : ℤ) → IsSmall months → IsSmall days → OneLine (iso_date months days)
 unfolding iso_date
@@ -172,7 +172,7 @@ iso_date_line months days m d =
     let months_in = part_line (is_negative months) (months_of months) (codes "M") (months_small months m) (lit (codes "M") refl) in
     let days_in = part_line (is_negative days) (unsigned_abs days) (codes "D") (abs_small days d) (lit (codes "D") refl) in
     append year (month ++ day) (part_line (is_negative months) (years_of months) (codes "Y") (years_small months m) (lit (codes "Y") refl))
-        (append month day months_in days_in)
+    (append month day months_in days_in)
 
 iso_clock_line : (micros : ℤ) → IsSmall micros
     → OneLine
@@ -185,9 +185,9 @@ iso_clock_line micros u =
     let second : List ℕ = iso_seconds (is_negative micros) (seconds_of micros) (subsecond_of micros) in
     let minutes = part_line (is_negative micros) (minutes_of micros) (codes "M") (minutes_small micros u) (lit (codes "M") refl) in
     let seconds = iso_seconds_line (is_negative micros) (seconds_of micros) (subsecond_of micros) (seconds_small micros u)
-        (subsecond_small micros u) in
+    (subsecond_small micros u) in
     append hour (minute ++ second) (part_line (is_negative micros) (hours_of micros) (codes "H") (hours_small micros u)
-        (lit (codes "H") refl)) (append minute second minutes seconds)
+    (lit (codes "H") refl)) (append minute second minutes seconds)
 
 iso_time_line : (micros : ℤ) → IsSmall micros → OneLine (iso_time micros)
 unfolding iso_time
@@ -199,7 +199,7 @@ unfolding iso_steps
 iso_line months days micros m d u =
     let parts = append (iso_date months days) (iso_time micros) (iso_date_line months days m d) (iso_time_line micros u) in
     if_line (int_eq months (pos 0) && (int_eq days (pos 0) && int_eq micros (pos 0))) (codes "PT0S")
-        (codes "P" ++ (iso_date months days ++ iso_time micros)) (lit (codes "PT0S") refl)
+    (codes "P" ++ (iso_date months days ++ iso_time micros)) (lit (codes "PT0S") refl)
     (append (codes "P") (iso_date months days ++ iso_time micros) (lit (codes "P") refl) parts)
 
 -- ---- words with spaces
@@ -234,7 +234,7 @@ postgres_words_line months days micros m d u =
     let months_in = counted_line (is_negative months) (is_negative months) (months_of months) (codes "mon") (months_small months m) refl in
     let days_in = counted_line (is_negative days) (is_negative days) (unsigned_abs days) (codes "day") (abs_small days d) refl in
     words_then year (month ++ (day ++ clock_words micros)) years
-        (words_then month (day ++ clock_words micros) months_in (words_then day (clock_words micros) days_in (clock_words_line micros u)))
+    (words_then month (day ++ clock_words micros) months_in (words_then day (clock_words micros) days_in (clock_words_line micros u)))
 
 joined_line : (all : List (List ℕ)) → OneLineEach all → OneLine (join_with_byte 32 all)
 joined_line [] h = lit [] refl
@@ -247,7 +247,7 @@ postgres_line : (months days micros : ℤ) → IsSmall months → IsSmall days �
 unfolding postgres_steps
 postgres_line months days micros m d u =
     if_line (int_eq months (pos 0) && (int_eq days (pos 0) && int_eq micros (pos 0))) (codes "00:00:00")
-        (join_with_byte 32 (postgres_words months days micros)) (lit (codes "00:00:00") refl)
+    (join_with_byte 32 (postgres_words months days micros)) (lit (codes "00:00:00") refl)
     (joined_line (postgres_words months days micros) (postgres_words_line months days micros m d u))
 
 spaced_line : (all : List (List ℕ)) → OneLineEach all → OneLine (behind_spaces all)
@@ -271,7 +271,7 @@ unfolding second_words
 second_words_line negative seconds micros s m =
     let number = append (minus negative) (second_digits seconds micros) (minus_line negative) (second_digits_line seconds micros s m) in
     if_words (micros == 0) (unit_words negative seconds (codes "sec"))
-        ((minus negative ++ second_digits seconds micros) ∷ codes "secs" ∷ [])
+    ((minus negative ++ second_digits seconds micros) ∷ codes "secs" ∷ [])
     (counted_line negative false seconds (codes "sec") s refl) (number, (lit (codes "secs") refl, tt))
 
 verbose_date_line : (ago : Bool) (months days : ℤ) → IsSmall months → IsSmall days → OneLine (verbose_date ago months days)
@@ -284,7 +284,7 @@ verbose_date_line ago months days m d =
     let months_in = unit_line sign (months_of months) (codes "mon") (months_small months m) refl in
     let days_in = unit_line (turned_sign ago (is_negative days)) (unsigned_abs days) (codes "day") (abs_small days d) refl in
     append year (month ++ day) (unit_line sign (years_of months) (codes "year") (years_small months m) refl)
-        (append month day months_in days_in)
+    (append month day months_in days_in)
 
 verbose_time_line : (ago : Bool) (micros : ℤ) → IsSmall micros → OneLine (verbose_time ago micros)
 unfolding verbose_time
@@ -295,9 +295,9 @@ verbose_time_line ago micros u =
     let second : List ℕ = behind_spaces (second_words sign (seconds_of micros) (subsecond_of micros)) in
     let minutes = unit_line sign (minutes_of micros) (codes "min") (minutes_small micros u) refl in
     let seconds = spaced_line (second_words sign (seconds_of micros) (subsecond_of micros))
-        (second_words_line sign (seconds_of micros) (subsecond_of micros) (seconds_small micros u) (subsecond_small micros u)) in
+    (second_words_line sign (seconds_of micros) (subsecond_of micros) (seconds_small micros u) (subsecond_small micros u)) in
     append hour (minute ++ second) (unit_line sign (hours_of micros) (codes "hour") (hours_small micros u) refl)
-        (append minute second minutes seconds)
+    (append minute second minutes seconds)
 
 parts_line : (ago : Bool) (months days micros : ℤ) → IsSmall months → IsSmall days → IsSmall micros
     → OneLine (parts_text ago months days micros)
@@ -307,13 +307,13 @@ parts_line ago months days micros m d u =
     let time = append (verbose_time ago micros) (if ago then codes " ago" else []) (verbose_time_line ago micros u) end in
     let behind : List ℕ = verbose_date ago months days ++ (verbose_time ago micros ++ (if ago then codes " ago" else [])) in
     append (codes "@") behind (lit (codes "@") refl) (append (verbose_date ago months days)
-        (verbose_time ago micros ++ (if ago then codes " ago" else [])) (verbose_date_line ago months days m d) time)
+    (verbose_time ago micros ++ (if ago then codes " ago" else [])) (verbose_date_line ago months days m d) time)
 
 verbose_line : (months days micros : ℤ) → IsSmall months → IsSmall days → IsSmall micros → OneLine (verbose_steps months days micros)
 unfolding verbose_steps
 verbose_line months days micros m d u =
     if_line (int_eq months (pos 0) && (int_eq days (pos 0) && int_eq micros (pos 0))) (codes "@ 0")
-        (parts_text (has_ago months days micros) months days micros) (lit (codes "@ 0") refl)
+    (parts_text (has_ago months days micros) months days micros) (lit (codes "@ 0") refl)
     (parts_line (has_ago months days micros) months days micros m d u)
 
 -- ---- the SQL style
@@ -326,9 +326,9 @@ year_month_line : (months : ℤ) → IsSmall months → OneLine (year_month_text
 unfolding year_month_text
 year_month_line months m =
     let month = append (codes "-") (decimal (months_of months)) (lit (codes "-") refl)
-        (decimal_line (months_of months) (months_small months m)) in
+    (decimal_line (months_of months) (months_small months m)) in
     append (decimal (years_of months)) (codes "-" ++ decimal (months_of months))
-        (decimal_line (years_of months) (years_small months m)) month
+    (decimal_line (years_of months) (years_small months m)) month
 
 signed_text_line : (months days micros : ℤ) → IsSmall months → IsSmall days → IsSmall micros → OneLine (signed_text months days micros)
 unfolding signed_text
@@ -337,13 +337,13 @@ signed_text_line months days micros m d u =
     let day : List ℕ = sign_text (is_negative days) ++ decimal (unsigned_abs days) in
     let time : List ℕ = sign_text (is_negative micros) ++ clock_steps 1 micros in
     let dates = append (sign_text (is_negative months)) (year_month_text months) (plus_line (is_negative months))
-        (year_month_line months m) in
+    (year_month_line months m) in
     let days_in = append (sign_text (is_negative days)) (decimal (unsigned_abs days)) (plus_line (is_negative days))
-        (decimal_line (unsigned_abs days) (abs_small days d)) in
+    (decimal_line (unsigned_abs days) (abs_small days d)) in
     let times = append (sign_text (is_negative micros)) (clock_steps 1 micros) (plus_line (is_negative micros)) (clock_line 1 micros u) in
     let behind_days = append (codes " ") time (lit (codes " ") refl) times in
     let behind_date = append (codes " ") (day ++ (codes " " ++ time)) (lit (codes " ") refl)
-        (append day (codes " " ++ time) days_in behind_days) in
+    (append day (codes " " ++ time) days_in behind_days) in
     append date (codes " " ++ (day ++ (codes " " ++ time))) dates behind_date
 
 months_line : (months : ℤ) → IsSmall months → OneLine (months_text months)
@@ -356,9 +356,9 @@ unfolding days_text
 days_line days micros d u =
     let day : List ℕ = minus (is_negative days) ++ decimal (unsigned_abs days) in
     let days_in = append (minus (is_negative days)) (decimal (unsigned_abs days)) (minus_line (is_negative days))
-        (decimal_line (unsigned_abs days) (abs_small days d)) in
+    (decimal_line (unsigned_abs days) (abs_small days d)) in
     append day (codes " " ++ clock_steps 1 micros) days_in (append (codes " ") (clock_steps 1 micros) (lit (codes " ") refl)
-        (clock_line 1 micros u))
+    (clock_line 1 micros u))
 
 time_line : (micros : ℤ) → IsSmall micros → OneLine (time_text micros)
 unfolding time_text
@@ -377,7 +377,7 @@ sql_line months days micros m d u =
     let rest : List ℕ = if has_all_signs months days micros then signed_text months days micros else plain_text months days micros in
     if_line (int_eq months (pos 0) && (int_eq days (pos 0) && int_eq micros (pos 0))) (codes "0") rest (lit (codes "0") refl)
     (if_line (has_all_signs months days micros) (signed_text months days micros) (plain_text months days micros)
-        (signed_text_line months days micros m d u) (plain_line months days micros m d u))
+    (signed_text_line months days micros m d u) (plain_line months days micros m d u))
 
 -- ---- every style
 

@@ -72,7 +72,7 @@ in_order_ends [] from to (c ∷ cs) below stand h = absurd h
 in_order_ends (unit ∷ units) from to (c ∷ cs) below stand (inl first) =
     let here : place_of c.unit ≡ from = ap place_of first.0 ∙ stand.0 in
     let next : place_behind from (place_of c.unit) ≡ suc from = behind_next from (place_of c.unit) (omega (arith, here))
-        ∙ omega (arith, here) in
+    ∙ omega (arith, here) in
     subst (λ (place : ℕ). behind_last place cs ≤ to) (sym next) (in_order_ends units (suc from) to cs below stand.1 first.1)
 in_order_ends (unit ∷ units) from to (c ∷ cs) below stand (inr later) =
     let rest = in_order_ends units (suc from) to (c ∷ cs) below stand.1 later in
@@ -80,7 +80,7 @@ in_order_ends (unit ∷ units) from to (c ∷ cs) below stand (inr later) =
       | inl less ↦ out_of_order (suc from) to c cs below less rest
       | inr next ↦
           let same : place_behind (suc from) (place_of c.unit) ≡ place_behind from (place_of c.unit) = behind_next (suc from)
-              (place_of c.unit) (omega (arith, next)) ∙ sym (behind_next from (place_of c.unit) (omega (arith, next))) in
+          (place_of c.unit) (omega (arith, next)) ∙ sym (behind_next from (place_of c.unit) (omega (arith, next))) in
           subst (λ (place : ℕ). behind_last place cs ≤ to) same rest
     ]
 
@@ -91,8 +91,14 @@ ends_in_order units from to [] below stand h = tt
 ends_in_order [] from to (c ∷ cs) below stand h =
     elim (cases_lt (place_of c.unit) from) [
       | inl less ↦ out_of_order from to c cs below less h
-      | inr next ↦ absurd (omega (arith, stand, next, goes_on from c cs (omega (arith, next)), h,
-          least_grows (place_of c.unit + 1) cs (omega (arith, place_small c.unit))))
+      | inr next ↦ absurd (omega (
+        arith,
+        stand,
+        next,
+        goes_on from c cs (omega (arith, next)),
+        h,
+        least_grows (place_of c.unit + 1) cs (omega (arith, place_small c.unit)),
+      ))
     ]
 ends_in_order (unit ∷ units) from to (c ∷ cs) below stand h =
     elim (cases_lt (place_of c.unit) from) [
@@ -101,14 +107,16 @@ ends_in_order (unit ∷ units) from to (c ∷ cs) below stand h =
           elim (cases_lt from (place_of c.unit)) [
             | inl later ↦
                 let same : place_behind from (place_of c.unit) ≡ place_behind (suc from) (place_of c.unit) = behind_next from
-                    (place_of c.unit) (omega (arith, next)) ∙ sym (behind_next (suc from) (place_of c.unit) (omega (arith, later))) in
+                (place_of c.unit) (omega (arith, next)) ∙ sym (behind_next (suc from) (place_of c.unit) (omega (arith, later))) in
                 inr (ends_in_order units (suc from) to (c ∷ cs) below stand.1 (subst (λ (place : ℕ). behind_last place cs ≤ to) same h))
             | inr here ↦
                 let place : place_of c.unit ≡ from = omega (arith, next, here) in
                 let one : place_behind from (place_of c.unit) ≡ suc from = behind_next from (place_of c.unit) (omega (arith, place))
-                    ∙ omega (arith, place) in
-                inl (same_unit c.unit unit (place ∙ sym stand.0),
-                    ends_in_order units (suc from) to cs below stand.1 (subst (λ (least : ℕ). behind_last least cs ≤ to) one h))
+                ∙ omega (arith, place) in
+                inl (
+                  same_unit c.unit unit (place ∙ sym stand.0),
+                  ends_in_order units (suc from) to cs below stand.1 (subst (λ (least : ℕ). behind_last least cs ≤ to) one h),
+                )
           ]
     ]
 
@@ -127,13 +135,13 @@ pub in_order : (in_time : Bool) (order : Order) (counts : List Count) → Orders
     → AreInOrder (units_in_order in_time) counts
 in_order in_time order counts orders kept =
     ends_in_order (units_in_order in_time) _ _ counts (small in_time) (stands in_time)
-        (subst (λ (least : ℕ). least ≤ end_place in_time) orders (leb-true order.least (end_place in_time) kept))
+    (subst (λ (least : ℕ). least ≤ end_place in_time) orders (leb-true order.least (end_place in_time) kept))
 
 pub kept : (in_time : Bool) (order : Order) (counts : List Count) → Orders in_time order counts → AreInOrder (units_in_order in_time) counts
     → is_kept in_time order ≡ true
 kept in_time order counts orders is =
     le-leb order.least (end_place in_time) (subst (λ (least : ℕ). least ≤ end_place in_time) (sym orders)
-        (in_order_ends (units_in_order in_time) _ _ counts (small in_time) (stands in_time) is))
+    (in_order_ends (units_in_order in_time) _ _ counts (small in_time) (stands in_time) is))
 
 -- one more count
 pub orders_push : (in_time : Bool) (old new : Order) (counts : List Count) (c : Count) → Orders in_time old counts

@@ -26,7 +26,7 @@ bad_name text bytes at start end same zero (s, e, bad, starts, ends) =
     let first : s ≡ start = omega arith in
     let last : e ≡ end = omega arith in
     subst (λ (l : List ℕ). IsPostgresBadName l start end) same (subst (λ (n : ℕ). IsPostgresBadName bytes start n) last
-        (subst (λ (n : ℕ). IsPostgresBadName bytes n e) first bad))
+    (subst (λ (n : ℕ). IsPostgresBadName bytes n e) first bad))
 
 pub no_items : (text bytes : List ℕ) (at : ℕ) → bytes ≡ text → IsMisread postgres_names at bytes NoItems
     → HasNoShape IsPostgres text × HasNoBadName postgres_names text

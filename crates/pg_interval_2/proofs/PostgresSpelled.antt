@@ -73,7 +73,7 @@ part_join : (negative : Bool) (n : ℕ) (name : List ℕ) (unit : TimeUnit) → 
     → IsJoin (IsItem postgres_names) (named_words negative n name) (part_items negative n unit)
 part_join negative n name unit small one more =
     number_join postgres_names negative n (counted_name negative n name) unit small
-        (counted_unit postgres_names negative n name unit one more)
+    (counted_unit postgres_names negative n name unit one more)
 
 pub all_counts-part : (negative : Bool) (n : ℕ) (unit : TimeUnit) → all_counts (part_items negative n unit) ≡ part_counts negative n unit
 all_counts-part negative n unit =
@@ -140,7 +140,7 @@ clock_join micros small =
 all_counts-clock : (micros : ℤ) → all_counts (clock_items micros) ≡ clock_part micros
 all_counts-clock micros =
     cond_two (int_eq micros (pos 0)) (λ (items : List (List Count)) (counts : List Count). all_counts items ≡ counts) _ _ _ _ (λ _. refl)
-        (λ _. append-nil _)
+    (λ _. append-nil _)
 
 -- ---- the whole text
 
@@ -157,8 +157,8 @@ distinct : (months days micros : ℤ) → IsTrue (has_distinct_units (postgres_c
 distinct months days micros =
     distinct_units 0 (postgres_counts months days micros)
     (rw (append_assoc, append_assoc) (rises_front (years_of months == 0) _ _
-        (rises_front (months_of months == 0) _ _ (rises_lower _ _ _ (omega arith)
-        (rises_front (unsigned_abs days == 0) _ _ (rises_clock micros))))))
+    (rises_front (months_of months == 0) _ _ (rises_lower _ _ _ (omega arith)
+    (rises_front (unsigned_abs days == 0) _ _ (rises_clock micros))))))
 
 -- the counts of four runs of items
 counts_of_four : (a b c d : List (List Count)) (x y z w : List Count) → all_counts a ≡ x → all_counts b ≡ y → all_counts c ≡ z
@@ -166,7 +166,7 @@ counts_of_four : (a b c d : List (List Count)) (x y z w : List Count) → all_co
     → (x ++ (y ++ z)) ++ w ≡ all_counts (a ++ (b ++ (c ++ d)))
 counts_of_four a b c d x y z w is_a is_b is_c is_d =
     rw (all_counts-append a (b ++ (c ++ d)), all_counts-append b (c ++ d), all_counts-append c d, is_a, is_b, is_c, is_d)
-        (simp append_assoc)
+    (simp append_assoc)
 
 nonzero_items : (months days micros : ℤ) → unsigned_abs months ≤ 2 ^ 63 → unsigned_abs days ≤ 2 ^ 63 → unsigned_abs micros ≤ 2 ^ 63
     → AreItems postgres_names (postgres_words months days micros) (postgres_counts months days micros)
@@ -175,9 +175,9 @@ nonzero_items months days micros small_months small_days small_micros = (
       ++ (part_items (is_negative days) (unsigned_abs days) Day ++ clock_items micros)),
   IsJoin-append _ _ _ _ _ (part_join (is_negative months) (years_of months) (codes "year") Year (omega arith) year_names.0 year_names.1)
       (IsJoin-append _ _ _ _ _ (part_join (is_negative months) (months_of months) (codes "mon") Month
-          (omega arith) month_names.0 month_names.1)
+      (omega arith) month_names.0 month_names.1)
       (IsJoin-append _ _ _ _ _ (part_join (is_negative days) (unsigned_abs days) (codes "day") Day (omega arith) day_names.0 day_names.1)
-          (clock_join micros small_micros))),
+      (clock_join micros small_micros))),
   counts_of_four (part_items (is_negative months) (years_of months) Year) (part_items (is_negative months) (months_of months) Month)
       (part_items (is_negative days) (unsigned_abs days) Day) (clock_items micros) _ _ _ _
       (all_counts-part (is_negative months) (years_of months) Year) (all_counts-part (is_negative months) (months_of months) Month)
@@ -205,8 +205,12 @@ zero_clock = record {
 }
 
 zero_items : AreItems postgres_names (codes "00:00:00" ∷ []) []
-zero_items = ([] ∷ [], IsJoin-one (IsItem postgres_names) (codes "00:00:00" ∷ []) [] (inr (codes "00:00:00", zero_clock, refl)), refl,
-    distinct_pairs [] refl)
+zero_items = (
+  [] ∷ [],
+  IsJoin-one (IsItem postgres_names) (codes "00:00:00" ∷ []) [] (inr (codes "00:00:00", zero_clock, refl)),
+  refl,
+  distinct_pairs [] refl,
+)
 
 zero_spelled : (months days micros : ℤ) → int_eq months (pos 0) && (int_eq days (pos 0) && int_eq micros (pos 0)) ≡ true
     → IsPostgres (codes "00:00:00") (postgres_counts months days micros)
@@ -225,4 +229,4 @@ unfolding postgres_steps
 postgres_spelled months days micros small_months small_days small_micros =
     cond_both _ _ _ (λ text. IsPostgres text (postgres_counts months days micros)) (zero_spelled months days micros)
     (λ _. rw (words-join (postgres_words months days micros) (AreWords-postgres_words months days micros small_months small_days
-        small_micros)) (nonzero_items months days micros small_months small_days small_micros))
+    small_micros)) (nonzero_items months days micros small_months small_days small_micros))

@@ -68,7 +68,7 @@ no_blank-fraction : (micros : ℕ) → micros < 2 ^ 64 → NoBlanks (fraction_te
 unfolding fraction_text
 no_blank-fraction micros small =
     cond_both (micros == 0) _ _ (λ text. NoBlanks text) (λ _. tt)
-        (λ _. no_blanks-append (codes ".") (padded_digits 6 micros) (refl, tt) (no_blank-padded 6 micros small))
+    (λ _. no_blanks-append (codes ".") (padded_digits 6 micros) (refl, tt) (no_blank-padded 6 micros small))
 
 no_blank-clock : (width : ℕ) (micros : ℤ) → unsigned_abs micros ≤ 2 ^ 63 → NoBlanks (clock_steps width micros)
 unfolding clock_steps hours_text
@@ -76,14 +76,18 @@ no_blank-clock width micros small =
     no_blanks-append (padded_digits width (hours_of micros)) _ (no_blank-padded width (hours_of micros) (omega arith))
     (no_blanks-append (field_text (minutes_of micros)) _ (no_blank-field (minutes_of micros) (omega arith))
     (no_blanks-append (field_text (seconds_of micros)) _ (no_blank-field (seconds_of micros) (omega arith))
-        (no_blank-fraction (subsecond_of micros) (omega arith))))
+    (no_blank-fraction (subsecond_of micros) (omega arith))))
 
 clock_some : (width : ℕ) (micros : ℤ) → unsigned_abs micros ≤ 2 ^ 63 → 0 < length (clock_steps width micros)
 unfolding clock_steps hours_text
 clock_some width micros small =
-    omega (arith, length-append (padded_digits width (hours_of micros))
-        (field_text (minutes_of micros) ++ (field_text (seconds_of micros) ++ fraction_text (subsecond_of micros))),
-        length-padded width (hours_of micros), decimal_nonempty (hours_of micros) (omega arith))
+    omega (
+      arith,
+      length-append (padded_digits width (hours_of micros))
+          (field_text (minutes_of micros) ++ (field_text (seconds_of micros) ++ fraction_text (subsecond_of micros))),
+      length-padded width (hours_of micros),
+      decimal_nonempty (hours_of micros) (omega arith),
+    )
 
 pub time_words : (micros : ℤ) → unsigned_abs micros ≤ 2 ^ 63 → AreWords (clock_words micros)
 unfolding clock_words
@@ -105,4 +109,4 @@ pub AreWords-postgres_words : (months days micros : ℤ) → unsigned_abs months
     → AreWords (postgres_words months days micros)
 AreWords-postgres_words months days micros small_months small_days small_micros =
     AreWords-append _ _ (year_words months small_months) (AreWords-append _ _ (month_words months small_months)
-        (AreWords-append _ _ (day_words days small_days) (time_words micros small_micros)))
+    (AreWords-append _ _ (day_words days small_days) (time_words micros small_micros)))

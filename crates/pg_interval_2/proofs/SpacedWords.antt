@@ -10,7 +10,7 @@ pub behind_spaces-append : (xs ys : List (List ℕ)) → behind_spaces (xs ++ ys
 behind_spaces-append [] ys = refl
 behind_spaces-append (x ∷ xs) ys =
     ap (λ (l : List ℕ). 32 ∷ (x ++ l)) (behind_spaces-append xs ys)
-        ∙ ap (λ (l : List ℕ). 32 ∷ l) (sym (append_assoc x (behind_spaces xs) (behind_spaces ys)))
+    ∙ ap (λ (l : List ℕ). 32 ∷ l) (sym (append_assoc x (behind_spaces xs) (behind_spaces ys)))
 
 spaces_end : (ws : List (List ℕ)) (rest : List ℕ) → EndsWord rest → EndsWord (behind_spaces ws ++ rest)
 spaces_end [] rest ends = ends

@@ -54,4 +54,4 @@ words-join ((b ∷ bs) ∷ []) are = ap words (sym (append-nil (b ∷ bs))) ∙ 
 words-join ((b ∷ bs) ∷ next ∷ more) are =
     words-first b bs (32 ∷ join_with_byte 32 (next ∷ more)) are.1 refl
     ∙ ap (λ (rest : List (List ℕ)). (b ∷ bs) ∷ rest) (words-blank 32 (join_with_byte 32 (next ∷ more)) refl
-        ∙ words-join (next ∷ more) are.2)
+    ∙ words-join (next ∷ more) are.2)

@@ -41,7 +41,7 @@ begins [] word more clear h = cc
 begins (b ∷ bs) word more clear h =
     let found = first_word b bs clear in
     let all : words (b ∷ bs) ≡ found.word ∷ words found.rest = ap words found.split
-        ∙ words_in_front found.word found.rest found.some found.solid found.ends in
+    ∙ words_in_front found.word found.rest found.some found.solid found.ends in
     let same : found.word ∷ words found.rest ≡ word ∷ more = sym all ∙ h in
     let word_is : found.word ≡ word = cc in
     record {
@@ -62,7 +62,7 @@ nothing_if [] clear h = refl
 nothing_if (b ∷ bs) clear h =
     let found = first_word b bs clear in
     let all : words (b ∷ bs) ≡ found.word ∷ words found.rest = ap words found.split
-        ∙ words_in_front found.word found.rest found.some found.solid found.ends in
+    ∙ words_in_front found.word found.rest found.some found.solid found.ends in
     let clash : found.word ∷ words found.rest ≡ [] = sym all ∙ h in cc
 
 pub no_words : (bytes : List ℕ) → words bytes ≡ [] → after_blanks bytes ≡ []

@@ -30,7 +30,7 @@ unfolding read_field
 field_stands bytes r h =
     let found = cond_some _ _ _ h in
     subst (λ (p : List ℕ × List ℕ). AreSomeDigits p.0 × (bytes ≡ p.0 ++ p.1)) found.1
-        ((ltb-true 0 _ found.0, front_are_digits bytes), sym (front_and_after bytes))
+    ((ltb-true 0 _ found.0, front_are_digits bytes), sym (front_and_after bytes))
 
 -- ---- seconds
 
@@ -69,14 +69,14 @@ colon_stands : (negative : Bool) (bs : List ℕ) (r : (List ℕ × List ℕ) × 
 unfolding read_seconds
 colon_stands negative bs r h =
     option_and_then_some _ (read_field bs) r h (λ field read last. let stands = field_stands bs field read in short_stand negative bs field
-        r stands.0 stands.1 last)
+    r stands.0 stands.1 last)
 
 seconds_if : (t negative : Bool) (b : ℕ) (bs : List ℕ) (r : Option (List ℕ × List ℕ) × List ℕ) → (t ≡ true → b ≡ 58)
     → cond t (option_map (λ r. (Some r.0, r.1)) (read_seconds bs)) (Some (None, b ∷ bs)) ≡ Some r → SecondsStand negative (b ∷ bs) r
 seconds_if true negative b bs r colon h =
     let here = colon refl in
     mapped_some _ (read_seconds bs) r h (λ q read same. subst (λ (c : ℕ). SecondsStand negative (c ∷ bs) r) (sym here)
-        (subst (SecondsStand negative (58 ∷ bs)) same (colon_stands negative bs q read)))
+    (subst (SecondsStand negative (58 ∷ bs)) same (colon_stands negative bs q read)))
 seconds_if false negative b bs r colon h = subst (SecondsStand negative (b ∷ bs)) (same_Some _ _ h) ([], inl (refl, refl), refl)
 
 seconds_stand : (negative : Bool) (bytes : List ℕ) (r : Option (List ℕ × List ℕ) × List ℕ) → read_perhaps_seconds bytes ≡ Some r
@@ -97,7 +97,7 @@ IsBody (YearMonth negative years months) body = AreSomeDigits years × AreSomeDi
 IsBody (Days negative days) body = AreSomeDigits days × (body ≡ days ++ [])
 IsBody (Time negative hours minutes seconds) body =
     AreSomeDigits hours × AreSomeDigits minutes × ((piece : List ℕ) × HasSeconds negative piece (seconds_counts negative seconds)
-        × (body ≡ hours ++ (codes ":" ++ (minutes ++ piece))))
+    × (body ≡ hours ++ (codes ":" ++ (minutes ++ piece))))
 
 -- first digits and what follows them are the body of a word and what follows it
 abbrev BodyStands : Bool → List ℕ → SqlWord × List ℕ → Type 0
@@ -138,7 +138,7 @@ days_stand : (negative : Bool) (digits bytes : List ℕ) (r : SqlWord × List �
     → BodyStands negative (digits ++ bytes) r
 days_stand negative digits bytes r field h =
     subst (BodyStands negative (digits ++ bytes)) (same_Some _ _ h)
-        (digits ++ [], (field, refl), refl, ap (λ (l : List ℕ). l ++ bytes) (sym (append-nil digits)))
+    (digits ++ [], (field, refl), refl, ap (λ (l : List ℕ). l ++ bytes) (sym (append-nil digits)))
 
 behind_if : (t u negative : Bool) (digits : List ℕ) (b : ℕ) (bs : List ℕ) (r : SqlWord × List ℕ) → AreSomeDigits digits
     → (t ≡ true → b ≡ 45)

@@ -39,7 +39,7 @@ year_month-sum t range =
     record {
       months = AddsUp-same Months _ _ _
           (AddsUp-append Months (years ∷ []) _ _ _ (field_sum Months years (years_of months) 0 months year_digits (rounded-nil _)
-              (signed-abs months) (omega arith) fits)
+          (signed-abs months) (omega arith) fits)
           (field_sum Months rest (months_of months) 0 months month_digits (rounded-nil _) (signed-abs months) (omega arith) fits))
           (signed_two months (12 * years_of months + 0) (months_of months) (omega arith));
       days = AddsUp-append Days (years ∷ []) _ (pos 0) _ (field_nothing Days years (years_of months) 0 year_digits (rounded-nil _) refl)
@@ -71,7 +71,7 @@ signed-sum : (t : Interval) → IsInRange t
 signed-sum t range =
     SumsTo-append _ _ _ _ _ (year_month-sum t range)
     (SumsTo-append _ _ _ _ (record { months = pos 0; days = t.days; microseconds = t.microseconds }) (days-sum t range)
-        (three_counts-sum (is_negative t.microseconds) 1 t range (signed-abs t.microseconds))
+    (three_counts-sum (is_negative t.microseconds) 1 t range (signed-abs t.microseconds))
     (omega (arith, ints)) (omega (arith, ints)) (omega (arith, ints)))
     (omega (arith, ints)) (omega (arith, ints)) (omega (arith, ints))
 
@@ -131,7 +131,7 @@ plain-sum t range one =
     (λ some.
     let serves = one_sign t.months t.days t.microseconds (not-true _ some) (no_opposites t.months t.days t.microseconds one) in
     SumsTo-append _ _ _ _ _ (days-sum t range) (three_counts-sum (is_negative t.days) 1 t range serves) (omega (arith, ints, months))
-        (omega (arith, ints)) (omega (arith, ints)))
+    (omega (arith, ints)) (omega (arith, ints)))
     (λ no_days.
     let days = int_eq-zero t.days (not-false _ no_days) in
     SumsTo-same _ _ _ (three_counts-sum (is_negative t.microseconds) 1 t range (signed-abs t.microseconds)) (sym months) (sym days) refl))
@@ -144,7 +144,7 @@ sql-sum t range =
     let inner = and_parts _ _ outer.1 in
     SumsTo-nil t (int_eq-zero t.months outer.0) (int_eq-zero t.days inner.0) (int_eq-zero t.microseconds inner.1))
     (λ _. cond_both (has_all_signs t.months t.days t.microseconds) _ _ (λ counts. SumsTo counts t) (λ _. signed-sum t range)
-        (λ one. plain-sum t range one))
+    (λ one. plain-sum t range one))
 
 spelled : (t : Interval) → IsInRange t → IsSql (sql_steps t.months t.days t.microseconds) (sql_counts t.months t.days t.microseconds)
 spelled t range = sql_spelled t.months t.days t.microseconds (abs_fits Months t.months (fits_32 t.months range.months))

@@ -24,21 +24,21 @@ body_solid : (default : Bool) (sign body : List ℕ) (word : SqlWord) → IsSign
     → IsSolid (sign ++ body)
 body_solid default sign body (YearMonth negative years months) signed is =
     subst (λ (l : List ℕ). IsSolid (sign ++ l)) (sym is.2) (solid default negative sign years (codes "-" ++ months) signed is.0
-        (refl, digits_no_blanks months is.1.1))
+    (refl, digits_no_blanks months is.1.1))
 body_solid default sign body (Days negative days) signed is = subst (λ (l : List ℕ). IsSolid (sign ++ l)) (sym is.1)
     (solid default negative sign days [] signed is.0 tt)
 body_solid default sign body (Time negative hours minutes seconds) signed is =
     let behind = is.2 in
     subst (λ (l : List ℕ). IsSolid (sign ++ l)) (sym behind.2)
     (solid default negative sign hours (codes ":" ++ (minutes ++ behind.0)) signed is.0
-        (refl, no_blanks-append minutes behind.0 (digits_no_blanks minutes is.1.1) (seconds_clear negative behind.0 _ behind.1)))
+    (refl, no_blanks-append minutes behind.0 (digits_no_blanks minutes is.1.1) (seconds_clear negative behind.0 _ behind.1)))
 
 words_are : (default : Bool) (bytes : List ℕ) (r : SqlWord × List ℕ) (h : StandsWord default bytes r)
     → words bytes ≡ (h.sign ++ h.body) ∷ words r.1
 words_are default bytes r h =
     let clear = body_solid default h.sign h.body r.0 h.signed h.is in
     ap words h.split ∙ words_in_front (h.sign ++ h.body) h.after clear.0 clear.1 h.ends
-        ∙ ap (λ (ws : List (List ℕ)). (h.sign ++ h.body) ∷ ws) (sym (words-after_blanks h.after) ∙ ap words h.behind)
+    ∙ ap (λ (ws : List (List ℕ)). (h.sign ++ h.body) ∷ ws) (sym (words-after_blanks h.after) ∙ ap words h.behind)
 
 is_year_month :
     (bytes rest : List ℕ) (negative : Bool) (years months : List ℕ) (h : StandsWord false bytes (YearMonth negative years months, rest))
@@ -116,7 +116,7 @@ time_ends : (default : Bool) (bytes : List ℕ) (before counts : List Count)
     → TimeEnds default bytes before counts
 time_ends default bytes before counts h =
     option_and_then_some (last_time before) (read_word default bytes) counts h
-        (λ r read last. last_ends default bytes before counts r (word_stands default bytes r read) last)
+    (λ r read last. last_ends default bytes before counts r (word_stands default bytes r read) last)
 
 by_words : (text : List ℕ) (all : List (List ℕ)) (counts : List Count) → words (after_blanks text) ≡ all → AreSqlWords all counts
     → IsSql text counts
@@ -136,9 +136,16 @@ date_and_days text b rest negative years months counts h (Days n days, last) the
     let second = words_are false (b ∷ rest) (Days n days, last) then ∙ ap (λ (ws : List (List ℕ)). (then.sign ++ then.body) ∷ ws) third in
     by_words text ((h.sign ++ h.body) ∷ (then.sign ++ then.body) ∷ ends.word ∷ []) counts
     (words_are false (after_blanks text) (YearMonth negative years months, b ∷ rest) h
-        ∙ ap (λ (ws : List (List ℕ)). (h.sign ++ h.body) ∷ ws) second)
-    (n, word_counts (YearMonth negative years months), word_counts (Days n days), ends.time_counts,
-        is_year_month (after_blanks text) (b ∷ rest) negative years months h, are_days (b ∷ rest) last n days then, ends.time, ends.counted)
+    ∙ ap (λ (ws : List (List ℕ)). (h.sign ++ h.body) ∷ ws) second) (
+      n,
+      word_counts (YearMonth negative years months),
+      word_counts (Days n days),
+      ends.time_counts,
+      is_year_month (after_blanks text) (b ∷ rest) negative years months h,
+      are_days (b ∷ rest) last n days then,
+      ends.time,
+      ends.counted,
+    )
 
 -- ---- zero
 
@@ -148,11 +155,20 @@ one_byte [] [] (d ∷ []) [] some h = (d, refl, refl)
 one_byte [] [] (d ∷ []) (c ∷ after) some h = absurd (omega arith)
 one_byte [] [] (d ∷ e ∷ days) after some h = absurd (omega arith)
 one_byte [] [] [] after some h = absurd (omega arith)
-one_byte [] (c ∷ sign) days after some h = absurd (omega (arith, length-append (sign ++ (days ++ [])) after,
-    length-append sign (days ++ []), length-append days []))
+one_byte [] (c ∷ sign) days after some h = absurd (omega (
+  arith,
+  length-append (sign ++ (days ++ [])) after,
+  length-append sign (days ++ []),
+  length-append days [],
+))
 one_byte (c ∷ blanks) sign days after some h =
-    absurd (omega (arith, length-append blanks ((sign ++ (days ++ [])) ++ after), length-append (sign ++ (days ++ [])) after,
-        length-append sign (days ++ []), length-append days []))
+    absurd (omega (
+      arith,
+      length-append blanks ((sign ++ (days ++ [])) ++ after),
+      length-append (sign ++ (days ++ [])) after,
+      length-append sign (days ++ []),
+      length-append days [],
+    ))
 
 zero_digit : (d : ℕ) → AreDigits (d ∷ []) → number_of (d ∷ []) ≡ 0 → d ≡ 48
 zero_digit d digits none = omega (arith, digit_is_alone d digits.0)
@@ -186,7 +202,7 @@ date_found text counts negative years months [] h e =
     (inl (subst (IsYearMonth (h.sign ++ h.body)) (same_Some _ _ e) (is_year_month (after_blanks text) [] negative years months h)))
 date_found text counts negative years months (b ∷ rest) h e =
     option_and_then_some _ (read_word false (b ∷ rest)) counts e
-        (λ r read then. date_and_days text b rest negative years months counts h r (word_stands false (b ∷ rest) r read) then)
+    (λ r read then. date_and_days text b rest negative years months counts h r (word_stands false (b ∷ rest) r read) then)
 
 days_found : (text : List ℕ) (counts : List Count) (negative : Bool) (days rest : List ℕ)
     → StandsWord false (after_blanks text) (Days negative days, rest) → behind_days text negative days rest ≡ Some counts
@@ -197,9 +213,14 @@ days_found text counts negative days (b ∷ rest) h e =
     let ends = time_ends negative (b ∷ rest) (word_counts (Days negative days)) counts e in
     by_words text ((h.sign ++ h.body) ∷ ends.word ∷ []) counts
     (words_are false (after_blanks text) (Days negative days, b ∷ rest) h
-        ∙ ap (λ (ws : List (List ℕ)). (h.sign ++ h.body) ∷ ws) ends.words_are)
-    (negative, word_counts (Days negative days), ends.time_counts, are_days (after_blanks text) (b ∷ rest) negative days h, ends.time,
-        ends.counted)
+    ∙ ap (λ (ws : List (List ℕ)). (h.sign ++ h.body) ∷ ws) ends.words_are) (
+      negative,
+      word_counts (Days negative days),
+      ends.time_counts,
+      are_days (after_blanks text) (b ∷ rest) negative days h,
+      ends.time,
+      ends.counted,
+    )
 
 words_found : (text : List ℕ) (counts : List Count) (r : SqlWord × List ℕ) → StandsWord false (after_blanks text) r
     → read_words text r ≡ Some counts
@@ -214,7 +235,7 @@ pub is_sql : (text : List ℕ) (counts : List Count) → read_sql text ≡ Some 
 unfolding read_sql
 is_sql text counts h =
     option_and_then_some (read_words text) (read_word false (after_blanks text)) counts h
-        (λ r read then. words_found text counts r (word_stands false (after_blanks text) r read) then)
+    (λ r read then. words_found text counts r (word_stands false (after_blanks text) r read) then)
 
 pub not_sql : (text : List ℕ) → read_sql text ≡ None → HasNoShape IsSql text
 not_sql text none counts is = let clash : Some counts ≡ None = sym (sql_read text counts is) ∙ none in cc

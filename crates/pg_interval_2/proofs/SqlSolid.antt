@@ -22,15 +22,16 @@ sign_clear default false sign (inr none) = rw none.0 tt
 pub solid : (default negative : Bool) (sign field tail : List ℕ) → IsSignOr default negative sign → AreSomeDigits field → NoBlanks tail
     → IsSolid (sign ++ (field ++ tail))
 solid default negative sign field tail signed digits clear =
-    let some = digits.0 in
-    (omega (arith, some, length-append sign (field ++ tail), length-append field tail),
-        no_blanks-append sign (field ++ tail) (sign_clear default negative sign signed)
-        (no_blanks-append field tail (digits_no_blanks field digits.1) clear))
+    let some = digits.0 in (
+      omega (arith, some, length-append sign (field ++ tail), length-append field tail),
+      no_blanks-append sign (field ++ tail) (sign_clear default negative sign signed)
+          (no_blanks-append field tail (digits_no_blanks field digits.1) clear),
+    )
 
 pub year_month_solid : (word : List ℕ) (counts : List Count) → IsYearMonth word counts → IsSolid word
 year_month_solid word counts h =
     subst IsSolid (sym h.joined) (solid false h.negative h.sign h.years (codes "-" ++ h.months) h.signed h.year_field
-        (refl, digits_no_blanks h.months h.month_field.1))
+    (refl, digits_no_blanks h.months h.month_field.1))
 
 pub days_solid : (negative : Bool) (word : List ℕ) (counts : List Count) → IsDays negative word counts → IsSolid word
 days_solid negative word counts h =
@@ -41,11 +42,16 @@ pub seconds_clear : (negative : Bool) (piece : List ℕ) (counts : List Count) �
 seconds_clear negative piece counts (inl none) = rw none.0 tt
 seconds_clear negative piece counts (inr h) =
     let joined = h.joined in
-    rw joined (refl, no_blanks-append h.seconds h.tail (digits_no_blanks h.seconds h.second_field.1)
-        (point_no_blanks h.fraction h.tail h.point))
+    rw joined (
+      refl,
+      no_blanks-append h.seconds h.tail (digits_no_blanks h.seconds h.second_field.1)
+          (point_no_blanks h.fraction h.tail h.point),
+    )
 
 pub time_solid : (default : Bool) (word : List ℕ) (counts : List Count) → IsSqlTime default word counts → IsSolid word
 time_solid default word counts h =
-    subst IsSolid (sym h.joined) (solid default h.negative h.sign h.hours (codes ":" ++ (h.minutes ++ h.piece)) h.signed h.hour_field
-    (refl, no_blanks-append h.minutes h.piece (digits_no_blanks h.minutes h.minute_field.1)
-        (seconds_clear h.negative h.piece h.second_counts h.seconds)))
+    subst IsSolid (sym h.joined) (solid default h.negative h.sign h.hours (codes ":" ++ (h.minutes ++ h.piece)) h.signed h.hour_field (
+      refl,
+      no_blanks-append h.minutes h.piece (digits_no_blanks h.minutes h.minute_field.1)
+          (seconds_clear h.negative h.piece h.second_counts h.seconds),
+    ))

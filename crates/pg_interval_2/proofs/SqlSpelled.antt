@@ -80,7 +80,7 @@ days_are negative sign days signed small = record {
 short_micros : (micros : ℕ) → micros < 1_000_000 → length (micros_digits micros) ≤ 6
 short_micros micros below =
     cond_both (micros == 0) _ _ (λ (digits : List ℕ). length digits ≤ 6) (λ _. omega arith)
-        (λ _. omega (arith, length-padded 6 micros, length_decimal_micros micros below))
+    (λ _. omega (arith, length-padded 6 micros, length_decimal_micros micros below))
 
 time_is : (default negative : Bool) (sign : List ℕ) (micros : ℤ) → IsSignOr default negative sign → unsigned_abs micros ≤ 2 ^ 63
     → IsSqlTime default (sign ++ clock_steps 1 micros) (three_counts negative 1 micros)
@@ -129,10 +129,17 @@ signed_spelled months days micros small_months small_days small_micros =
     let solid_day = days_solid _ _ _ day in
     let solid_time = time_solid _ _ _ time in
     spelled_by ((sign_text (is_negative months) ++ year_month_text months) ∷ (sign_text (is_negative days) ++ decimal (unsigned_abs days)) ∷
-        (sign_text (is_negative micros) ++ clock_steps 1 micros) ∷ []) _
-    (solid_date.0, solid_date.1, (solid_day.0, solid_day.1, (solid_time.0, solid_time.1, tt)))
-    (is_negative days, year_month_counts (is_negative months) months, day_counts (is_negative days) days,
-        three_counts (is_negative micros) 1 micros, date, day, time, refl)
+    (sign_text (is_negative micros) ++ clock_steps 1 micros) ∷ []) _
+    (solid_date.0, solid_date.1, (solid_day.0, solid_day.1, (solid_time.0, solid_time.1, tt))) (
+      is_negative days,
+      year_month_counts (is_negative months) months,
+      day_counts (is_negative days) days,
+      three_counts (is_negative micros) 1 micros,
+      date,
+      day,
+      time,
+      refl,
+    )
 
 months_spelled : (months : ℤ) → unsigned_abs months ≤ 2 ^ 63 → IsSql (months_text months) (year_month_counts (is_negative months) months)
 unfolding months_text
@@ -150,7 +157,7 @@ days_spelled days micros small_days small_micros =
     let solid_day = days_solid _ _ _ day in
     let solid_time = time_solid _ _ _ time in
     spelled_by ((minus (is_negative days) ++ decimal (unsigned_abs days)) ∷ clock_steps 1 micros ∷ []) _
-        (solid_day.0, solid_day.1, (solid_time.0, solid_time.1, tt))
+    (solid_day.0, solid_day.1, (solid_time.0, solid_time.1, tt))
     (is_negative days, day_counts (is_negative days) days, three_counts (is_negative days) 1 micros, day, time, refl)
 
 time_spelled : (micros : ℤ) → unsigned_abs micros ≤ 2 ^ 63 → IsSql (time_text micros) (three_counts (is_negative micros) 1 micros)
@@ -164,13 +171,13 @@ time_spelled micros small =
 abbrev pub plain_counts : ℤ → ℤ → ℤ → List Count
 plain_counts months days micros =
     if not (int_eq months (pos 0)) then year_month_counts (is_negative months) months else if not (int_eq days (pos 0)) then
-        (day_counts (is_negative days) days ++ three_counts (is_negative days) 1 micros) else three_counts (is_negative micros) 1 micros
+    (day_counts (is_negative days) days ++ three_counts (is_negative days) 1 micros) else three_counts (is_negative micros) 1 micros
 
 abbrev pub sql_counts : ℤ → ℤ → ℤ → List Count
 sql_counts months days micros =
     if int_eq months (pos 0) && (int_eq days (pos 0) && int_eq micros (pos 0)) then [] else if has_all_signs months days micros then
-        (year_month_counts (is_negative months) months ++ (day_counts (is_negative days) days
-        ++ three_counts (is_negative micros) 1 micros)) else plain_counts months days micros
+    (year_month_counts (is_negative months) months ++ (day_counts (is_negative days) days
+    ++ three_counts (is_negative micros) 1 micros)) else plain_counts months days micros
 
 plain_spelled : (months days micros : ℤ) → unsigned_abs months ≤ 2 ^ 63 → unsigned_abs days ≤ 2 ^ 63 → unsigned_abs micros ≤ 2 ^ 63
     → IsSql (plain_text months days micros) (plain_counts months days micros)
@@ -178,7 +185,7 @@ unfolding plain_text
 plain_spelled months days micros small_months small_days small_micros =
     cond_two (not (int_eq months (pos 0))) IsSql _ _ _ _ (λ _. months_spelled months small_months) (λ _.
     cond_two (not (int_eq days (pos 0))) IsSql _ _ _ _ (λ _. days_spelled days micros small_days small_micros)
-        (λ _. time_spelled micros small_micros))
+    (λ _. time_spelled micros small_micros))
 
 -- the written text spells these counts
 pub sql_spelled : (months days micros : ℤ) → unsigned_abs months ≤ 2 ^ 63 → unsigned_abs days ≤ 2 ^ 63 → unsigned_abs micros ≤ 2 ^ 63
@@ -187,4 +194,4 @@ unfolding sql_steps
 sql_spelled months days micros small_months small_days small_micros =
     cond_two (int_eq months (pos 0) && (int_eq days (pos 0) && int_eq micros (pos 0))) IsSql _ _ _ _ (λ _. inl (refl, refl)) (λ _.
     cond_two (has_all_signs months days micros) IsSql _ _ _ _ (λ _. signed_spelled months days micros small_months small_days small_micros)
-        (λ _. plain_spelled months days micros small_months small_days small_micros))
+    (λ _. plain_spelled months days micros small_months small_days small_micros))

@@ -65,7 +65,7 @@ pub year_month_read : (word rest : List ℕ) (counts : List Count) (h : IsYearMo
 year_month_read word rest counts h ends =
     let split : word ++ rest ≡ h.sign ++ (h.years ++ (codes "-" ++ (h.months ++ rest))) =
     ap (λ (l : List ℕ). l ++ rest) h.joined ∙ append_assoc h.sign (h.years ++ (codes "-" ++ h.months)) rest
-        ∙ ap (λ (l : List ℕ). h.sign ++ l) (append_assoc h.years (codes "-" ++ h.months) rest) in
+    ∙ ap (λ (l : List ℕ). h.sign ++ l) (append_assoc h.years (codes "-" ++ h.months) rest) in
     let first = word_read false h.negative h.sign h.years (codes "-" ++ (h.months ++ rest)) h.signed h.year_field refl in
     let behind = months_read h.negative h.years h.months rest h.month_field ends in
     ap (read_word false) split ∙ first ∙ rw behind (word_ends rest (YearMonth h.negative h.years h.months) ends)

@@ -65,7 +65,7 @@ pub no_a : (bytes before first : List ℕ) → bytes ≡ before ++ 111 ∷ [] �
     → Lacks bytes (codes "ago")
 no_a bytes before first o g lacks front e =
     let less = append_cancel_right before (front ++ (97 ∷ 103 ∷ [])) (111 ∷ [])
-        (sym o ∙ e ∙ sym (append_assoc front (97 ∷ 103 ∷ []) (111 ∷ []))) in
+    (sym o ∙ e ∙ sym (append_assoc front (97 ∷ 103 ∷ []) (111 ∷ []))) in
     let least = append_cancel_right first (front ++ (97 ∷ [])) (103 ∷ []) (sym g ∙ less ∙ sym (append_assoc front (97 ∷ []) (103 ∷ []))) in
     lacks front least
 

@@ -67,10 +67,20 @@ spaced word (next ∷ more) = ap (λ (l : List ℕ). word ++ (32 ∷ l)) (spaced
 seven : (y m d h i s e : List (List ℕ))
     → behind_spaces (y ++ (m ++ (d ++ (h ++ (i ++ (s ++ e))))))
     ≡ (behind_spaces y ++ (behind_spaces m ++ behind_spaces d))
-        ++ ((behind_spaces h ++ (behind_spaces i ++ behind_spaces s)) ++ behind_spaces e)
+    ++ ((behind_spaces h ++ (behind_spaces i ++ behind_spaces s)) ++ behind_spaces e)
 seven y m d h i s e =
-    rw (behind_spaces-append, behind_spaces-append, behind_spaces-append, behind_spaces-append, behind_spaces-append, behind_spaces-append,
-        append_assoc, append_assoc, append_assoc, append_assoc) refl
+    rw (
+      behind_spaces-append,
+      behind_spaces-append,
+      behind_spaces-append,
+      behind_spaces-append,
+      behind_spaces-append,
+      behind_spaces-append,
+      append_assoc,
+      append_assoc,
+      append_assoc,
+      append_assoc,
+    ) refl
 
 end_same : (ago : Bool) → behind_spaces (if ago then (codes "ago" ∷ []) else []) ≡ (if ago then codes " ago" else [])
 end_same true = refl
@@ -91,9 +101,9 @@ verbose_in_steps t =
     let time_sign : Bool = turned_sign ago (is_negative t.microseconds) in
     behind_at (is_zero t) _ _
     (seven (unit_words month_sign (years_of t.months) (codes "year")) (unit_words month_sign (months_of t.months) (codes "mon"))
-        (unit_words (turned_sign ago (is_negative t.days)) (unsigned_abs t.days) (codes "day"))
-        (unit_words time_sign (hours_of t.microseconds) (codes "hour")) (unit_words time_sign (minutes_of t.microseconds) (codes "min"))
-        (verbose.second_words time_sign (seconds_of t.microseconds) (subsecond_of t.microseconds)) (if ago then (codes "ago" ∷ []) else [])
+    (unit_words (turned_sign ago (is_negative t.days)) (unsigned_abs t.days) (codes "day"))
+    (unit_words time_sign (hours_of t.microseconds) (codes "hour")) (unit_words time_sign (minutes_of t.microseconds) (codes "min"))
+    (verbose.second_words time_sign (seconds_of t.microseconds) (subsecond_of t.microseconds)) (if ago then (codes "ago" ∷ []) else [])
     ∙ ap (λ (l : List ℕ). verbose_date ago t.months t.days ++ (verbose_time ago t.microseconds ++ l)) (end_same ago))
 
 -- ---- the SQL style

@@ -13,7 +13,7 @@ both_turned : (turned : Bool) (counts : List Count) (fields : ClockFields)
     → turned_counts turned counts ++ clock_of (turned_fields turned fields) ≡ turned_counts turned (counts ++ clock_of fields)
 both_turned turned counts fields =
     ap (λ (l : List Count). turned_counts turned counts ++ l) (clock-turned turned fields)
-        ∙ sym (turned-append turned counts (clock_of fields))
+    ∙ sym (turned-append turned counts (clock_of fields))
 
 -- a clock that was read is the step that its counts tell
 pub clock_counted : (names : Names) (turned : Bool) (text rest : List ℕ) (item : NextItem) (fields : ClockFields) (counts : List Count)
@@ -23,5 +23,10 @@ pub clock_counted : (names : Names) (turned : Bool) (text rest : List ℕ) (item
 clock_counted names turned text rest item fields counts new true read counted =
     inl (fields, read, subst (IsDistinctTally new) (both_turned turned counts fields) counted)
 clock_counted names turned text rest item fields counts new false read again =
-    inr (fields, rest, read, sym (distinct-turned turned (counts ++ clock_of fields))
-        ∙ sym (ap has_distinct_units (both_turned turned counts fields)) ∙ again)
+    inr (
+      fields,
+      rest,
+      read,
+      sym (distinct-turned turned (counts ++ clock_of fields))
+          ∙ sym (ap has_distinct_units (both_turned turned counts fields)) ∙ again,
+    )

@@ -41,8 +41,13 @@ nonzero-turned turned (c ∷ cs) = nonzero_if (is_nonzero c) turned c (filter is
 
 -- a clock with its sign turned
 abbrev pub turned_fields : Bool → ClockFields → ClockFields
-turned_fields turned f = record { negative = turned_sign turned f.negative; hours = f.hours; minutes = f.minutes; seconds = f.seconds;
-    fraction = f.fraction }
+turned_fields turned f = record {
+  negative = turned_sign turned f.negative;
+  hours = f.hours;
+  minutes = f.minutes;
+  seconds = f.seconds;
+  fraction = f.fraction;
+}
 
 pub clock-turned : (turned : Bool) (fields : ClockFields) → clock_of (turned_fields turned fields) ≡ turned_counts turned (clock_of fields)
 clock-turned turned f = nonzero-turned turned (count_of f.negative f.hours [] Hour ∷ count_of f.negative f.minutes [] Minute ∷ count_of

@@ -39,4 +39,4 @@ pub set_names : (set : NameSet) → AreNames (names_in set)
 set_names set word unit h =
     let named = contains_named set word unit h in
     let split = and_parts (nat_lt 0 (length word)) (list_all is_ascii_alphabetic word)
-        (contains_passes is_name (names_in set unit) word (set_letters set unit) h) in (named, ltb-true 0 _ split.0, split.1)
+    (contains_passes is_name (names_in set unit) word (set_letters set unit) h) in (named, ltb-true 0 _ split.0, split.1)

@@ -42,4 +42,4 @@ pub distinct_units : (low : ℕ) (counts : List Count) → RisesFrom low counts 
 distinct_units low [] rises = refl
 distinct_units low (c ∷ cs) rises =
     and_from _ _ (ap not (unit_below (place_of c.unit) (suc (place_of c.unit)) cs (omega arith) rises.1))
-        (distinct_units (suc (place_of c.unit)) cs rises.1)
+    (distinct_units (suc (place_of c.unit)) cs rises.1)

@@ -121,11 +121,11 @@ distinct_pairs (c ∷ cs) h =
     let apart = fresh_all c.unit cs (not-true _ split.0) in
     AllPairs-cons (λ (a b : Count). a.unit ≢ b.unit) c cs
     (All-weaker (λ (d : Count). d.unit ≢ c.unit) (λ (d : Count). c.unit ≢ d.unit) (λ d ne same. ne (sym same)) cs apart)
-        (distinct_pairs cs split.1)
+    (distinct_pairs cs split.1)
 
 pub pairs_distinct : (counts : List Count) → AllPairs (λ c d. c.unit ≢ d.unit) counts → has_distinct_units counts ≡ true
 pairs_distinct [] h = refl
 pairs_distinct (c ∷ cs) h =
     let apart : All (λ (d : Count). d.unit ≢ c.unit) cs = λ k d lt same. h 0 (suc k) d (omega arith) (omega (arith, lt)) (sym same) in
     and_from _ _ (ap not (all_fresh c.unit cs apart)) (pairs_distinct cs
-        (λ i j d lt within. h (suc i) (suc j) d (omega (arith, lt)) (omega (arith, within))))
+    (λ i j d lt within. h (suc i) (suc j) d (omega (arith, lt)) (omega (arith, within))))

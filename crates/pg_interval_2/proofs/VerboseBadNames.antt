@@ -101,13 +101,13 @@ body_at_bad bytes body from to counts bad same (inl zero) =
     sym (bad_verdict verbose_names are_names bytes from to bad) ∙ ap (verdict verbose_names [] 0) (same ∙ zero.0) ∙ zero_verdict in cc
 body_at_bad bytes body from to counts bad same (inr items) =
     no_shape_at_bad_name verbose_names are_names bytes from to counts bad
-        (subst (λ (all : List (List ℕ)). AreItems verbose_names all counts) (sym same) items)
+    (subst (λ (all : List (List ℕ)). AreItems verbose_names all counts) (sym same) items)
 
 pub no_shape_at_bad : (text : List ℕ) (start end : ℕ) (counts : List Count) → IsVerboseBadName text start end → IsVerbose text counts → ⊥
 no_shape_at_bad text start end counts a h =
     let same = one_frame text a.before h.before a.body h.body a.ago h.ago a.framed h.framed a.whole (whole_text text counts h) in
     body_at_bad (whole_body a.ago a.body a.framed.after) h.body a.from a.to h.body_counts
-        (whole_bad a.ago a.body a.framed.after a.from a.to a.framed.blank_after a.bad)
+    (whole_bad a.ago a.body a.framed.after a.from a.to a.framed.blank_after a.bad)
     (ap words same.whole ∙ whole_words h.ago h.body h.framed.after h.framed.blank_after) h.spelled
 
 pub one_bad : (text : List ℕ) (s e t f : ℕ) → IsVerboseBadName text s e → IsVerboseBadName text t f → (s ≡ t) × (e ≡ f)

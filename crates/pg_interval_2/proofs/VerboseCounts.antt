@@ -34,7 +34,7 @@ zero_verdict = let kind = number_kind false (codes "0") [] (codes "0") zero_numb
 zero_alone : (all : List (List ℕ)) (counts : List Count) → all ≡ codes "0" ∷ [] → AreItems verbose_names all counts → ⊥
 zero_alone all counts zero items =
     let clash : Unspelled ≡ Spelled counts = sym zero_verdict ∙ ap (verdict verbose_names [] 0) (sym zero)
-        ∙ items_verdict verbose_names are_names all counts items in cc
+    ∙ items_verdict verbose_names are_names all counts items in cc
 
 one_body : (x y : List ℕ) (a b : List Count) → words x ≡ words y → IsBody x a → IsBody y b → a ≡ b
 one_body x y a b same (inl h) (inl k) = h.1 ∙ sym k.1
@@ -51,9 +51,9 @@ whole_text text counts h none = no_ago text h.before h.body h.body_counts (subst
 pub one_list : HasOneList IsVerbose
 one_list text a b ha hb =
     let same = one_frame text ha.before hb.before ha.body hb.body ha.ago hb.ago ha.framed hb.framed (whole_text text a ha)
-        (whole_text text b hb) in
+    (whole_text text b hb) in
     let bodies : words ha.body ≡ words hb.body =
     sym (whole_words ha.ago ha.body ha.framed.after ha.framed.blank_after) ∙ ap words same.whole
-        ∙ whole_words hb.ago hb.body hb.framed.after hb.framed.blank_after in
+    ∙ whole_words hb.ago hb.body hb.framed.after hb.framed.blank_after in
     ha.counted ∙ ap₂ turned_counts same.ago (one_body ha.body hb.body ha.body_counts hb.body_counts bodies ha.spelled hb.spelled)
-        ∙ sym hb.counted
+    ∙ sym hb.counted

@@ -60,7 +60,7 @@ turned_seconds : (turned negative : Bool) (seconds micros : ℕ)
     → turned_counts turned (second_counts (turned_sign turned negative) seconds micros) ≡ second_counts negative seconds micros
 turned_seconds turned negative seconds micros =
     turned_choice (micros == 0) turned _ _ _ _ (turned_part turned negative seconds Second)
-        (turned_one turned negative (decimal seconds) (micros_behind micros) Second)
+    (turned_one turned negative (decimal seconds) (micros_behind micros) Second)
 
 turned_two : (turned : Bool) (xs ys us vs : List Count) → turned_counts turned xs ≡ us → turned_counts turned ys ≡ vs
     → turned_counts turned (xs ++ ys) ≡ us ++ vs
@@ -74,7 +74,7 @@ turned_all ago months days micros =
     (turned_two ago _ _ _ _ (turned_part ago (is_negative days) (unsigned_abs days) Day)
     (turned_two ago _ _ _ _ (turned_part ago (is_negative micros) (hours_of micros) Hour)
     (turned_two ago _ _ _ _ (turned_part ago (is_negative micros) (minutes_of micros) Minute)
-        (turned_seconds ago (is_negative micros) (seconds_of micros) (subsecond_of micros))))))
+    (turned_seconds ago (is_negative micros) (seconds_of micros) (subsecond_of micros))))))
 
 -- ---- the sums
 
@@ -84,9 +84,9 @@ second_counts-sum : (part : Part) (negative : Bool) (seconds micros : ℕ) → s
 second_counts-sum part negative seconds micros small below fits =
     cond_both (micros == 0) _ _ (λ counts. AddsUp part counts (signed negative (magnitude part Second seconds micros)))
     (λ zero_is. let none : micros ≡ 0 = eqb-true micros 0 zero_is in rw none
-        (part_counts-sum part negative seconds Second small (rw none at fits)))
+    (part_counts-sum part negative seconds Second small (rw none at fits)))
     (λ _. AddsUp-one part _ seconds micros (number_of-decimal seconds small)
-        (rounded-trimmed 1_000_000 (padded_digits 6 micros) ∙ rounded-padded micros below) fits)
+    (rounded-trimmed 1_000_000 (padded_digits 6 micros) ∙ rounded-padded micros below) fits)
 
 has_seconds : (micros : ℤ) → unsigned_abs micros ≤ 2 ^ 63
     → HasSeconds micros (second_counts (is_negative micros) (seconds_of micros) (subsecond_of micros))
@@ -97,7 +97,7 @@ counts-sum : (t : Interval) → IsInRange t → SumsTo (verbose_counts false t.m
 counts-sum t range =
     let small = abs_fits Micros t.microseconds (fits_64 t.microseconds range.microseconds) in
     rw (append_assoc, append_assoc) at (SumsTo-date_time _ _ t (date_counts-sum t range)
-        (time_with-sum t _ range (has_seconds t.microseconds small)))
+    (time_with-sum t _ range (has_seconds t.microseconds small)))
 
 sums : (t : Interval) → IsInRange t → SumsTo (written_counts t.months t.days t.microseconds) t
 sums t range =

@@ -123,10 +123,14 @@ zero_tally front bytes at ago tally p zero tallies =
 pub items_tally : (front bytes : List ℕ) (at : ℕ) (ago : Bool) (read : Result Tally Misread) → Passed front bytes at
     → IfOk read (IsItemsTally verbose_names ago bytes)
     → IfOk read (IsFrontTally front ago)
-items_tally front bytes at ago (Ok tally) p (counts, items, tallies) =
-    (p.before, p.gap ++ bytes, counts, front_at front bytes at p,
-        inr (subst (λ (all : List (List ℕ)). AreItems verbose_names all counts) (sym (words-blanks p.gap bytes p.blank_gap)) items),
-        tallies)
+items_tally front bytes at ago (Ok tally) p (counts, items, tallies) = (
+  p.before,
+  p.gap ++ bytes,
+  counts,
+  front_at front bytes at p,
+  inr (subst (λ (all : List (List ℕ)). AreItems verbose_names all counts) (sym (words-blanks p.gap bytes p.blank_gap)) items),
+  tallies,
+)
 items_tally front bytes at ago (Err e) p h = tt
 
 -- the bytes behind the `@` are these
@@ -252,7 +256,7 @@ ago_lacks false after h = h
 tail_lacks : (text : List ℕ) (end : ℕ) (ago : Bool) (e : IsEnding text end ago) → lacks_at (e.gap ++ (ago_or_none ago ++ e.after)) ≡ true
 tail_lacks text end ago e =
     blanks_lack e.gap _ e.blank_gap (ago_lacks ago e.after (ap lacks_at (sym (append-nil e.after))
-        ∙ blanks_lack e.after [] e.blank_after refl))
+    ∙ blanks_lack e.after [] e.blank_after refl))
 
 -- a frame of the text has its `@` before the end of the body, and its words behind it
 framed_words :
@@ -261,11 +265,14 @@ framed_words :
     → (bytes : List ℕ) × IsBehindAt (take end text) before bytes × (words body ≡ words bytes)
 framed_words text end ago e before body turned f whole =
     let found = split_at (take end text) (e.gap ++ (ago_or_none ago ++ e.after)) before (body ++ (ago_or_none turned ++ f.after))
-        (tail_lacks text end ago e) (sym e.split ∙ f.joined) in
+    (tail_lacks text end ago e) (sym e.split ∙ f.joined) in
     let at : IsBehindAt (take end text) before found.0 = record { blank = f.blank_before; split = found.1 } in
-    let same = one_frame text before before body (found.0 ++ e.gap) turned ago f (frame text end ago e before found.0 at) whole e.whole in
-    (found.0, at, sym (whole_words turned body f.after f.blank_after) ∙ ap words same.whole
-        ∙ whole_words ago (found.0 ++ e.gap) e.after e.blank_after ∙ words_before found.0 e.gap e.blank_gap)
+    let same = one_frame text before before body (found.0 ++ e.gap) turned ago f (frame text end ago e before found.0 at) whole e.whole in (
+      found.0,
+      at,
+      sym (whole_words turned body f.after f.blank_after) ∙ ap words same.whole
+          ∙ whole_words ago (found.0 ++ e.gap) e.after e.blank_after ∙ words_before found.0 e.gap e.blank_gap,
+    )
 
 no_body : (body bytes : List ℕ) (counts : List Count) → words body ≡ words bytes → verdict verbose_names [] 0 (words bytes) ≡ Unspelled
     → (words bytes ≡ codes "0" ∷ [] → ⊥) → IsBody body counts
@@ -273,7 +280,7 @@ no_body : (body bytes : List ℕ) (counts : List Count) → words body ≡ words
 no_body body bytes counts same judged other (inl zero) = other (sym same ∙ zero.0)
 no_body body bytes counts same judged other (inr items) =
     let clash : Unspelled ≡ Spelled counts = sym judged ∙ ap (verdict verbose_names [] 0) (sym same)
-        ∙ items_verdict verbose_names are_names (words body) counts items in cc
+    ∙ items_verdict verbose_names are_names (words body) counts items in cc
 
 pub no_items : (text : List ℕ) (end : ℕ) (ago : Bool) → IsEnding text end ago → IsFrontMisread (take end text) NoItems
     → HasNoShape IsVerbose text × ((start stop : ℕ) → IsVerboseBadName text start stop → ⊥)

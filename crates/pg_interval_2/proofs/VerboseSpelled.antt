@@ -53,13 +53,17 @@ unfolding second_digits
 no_blank-second seconds micros small below =
     no_blanks-append (decimal seconds) _ (digits_no_blanks (decimal seconds) (digits_decimal seconds small))
     (no_blanks-append (codes ".") (micros_behind micros) (refl, tt)
-        (digits_no_blanks (micros_behind micros) (digits-trimmed (padded_digits 6 micros) (digits-padded 6 micros below))))
+    (digits_no_blanks (micros_behind micros) (digits-trimmed (padded_digits 6 micros) (digits-padded 6 micros below))))
 
 some-second : (negative : Bool) (seconds micros : ℕ) → seconds < 2 ^ 64 → 0 < length (minus negative ++ second_digits seconds micros)
 unfolding second_digits
 some-second negative seconds micros small =
-    omega (arith, length-append (minus negative) (decimal seconds ++ (codes "." ++ micros_behind micros)),
-        length-append (decimal seconds) (codes "." ++ micros_behind micros), decimal_nonempty seconds small)
+    omega (
+      arith,
+      length-append (minus negative) (decimal seconds ++ (codes "." ++ micros_behind micros)),
+      length-append (decimal seconds) (codes "." ++ micros_behind micros),
+      decimal_nonempty seconds small,
+    )
 
 second_are_words : (negative : Bool) (seconds micros : ℕ) → seconds < 2 ^ 64 → micros < 2 ^ 64
     → AreWords (second_words negative seconds micros)
@@ -81,7 +85,7 @@ unit_join : (negative : Bool) (n : ℕ) (name : List ℕ) (unit : TimeUnit) → 
     → IsJoin (IsItem verbose_names) (unit_words negative n name) (part_items negative n unit)
 unit_join negative n name unit small names =
     number_join verbose_names negative n (counted_name false n name) unit small
-        (counted_unit verbose_names false n name unit names.0 names.1)
+    (counted_unit verbose_names false n name unit names.0 names.1)
 
 year_names : (unit_named verbose_names (codes "year") ≡ Some Year) × (unit_named verbose_names (codes "year" ++ codes "s") ≡ Some Year)
 unfolding unit_named
@@ -115,7 +119,7 @@ second_counts negative seconds micros =
 abbrev second_items : Bool → ℕ → ℕ → List (List Count)
 second_items negative seconds micros =
     if micros == 0 then part_items negative seconds Second else
-        ((count_of negative (decimal seconds) (micros_behind micros) Second ∷ []) ∷ [])
+    ((count_of negative (decimal seconds) (micros_behind micros) Second ∷ []) ∷ [])
 
 positive : (n : ℕ) → (n == 0) ≡ false → 0 < n
 positive n h = grind (arith)
@@ -138,14 +142,17 @@ second_join : (negative : Bool) (seconds micros : ℕ) → seconds < 2 ^ 64 → 
 unfolding second_words
 second_join negative seconds micros small below =
     cond_two (micros == 0) (IsJoin (IsItem verbose_names)) _ _ _ _ (λ _. unit_join negative seconds (codes "sec") Second small second_names)
-    (λ some. IsJoin-one (IsItem verbose_names) _ _ (inl (count_of negative (decimal seconds) (micros_behind micros) Second,
-        second_named negative seconds micros small below some, refl)))
+    (λ some. IsJoin-one (IsItem verbose_names) _ _ (inl (
+      count_of negative (decimal seconds) (micros_behind micros) Second,
+      second_named negative seconds micros small below some,
+      refl,
+    )))
 
 all_counts-second : (negative : Bool) (seconds micros : ℕ)
     → all_counts (second_items negative seconds micros) ≡ second_counts negative seconds micros
 all_counts-second negative seconds micros =
     cond_two (micros == 0) (λ (items : List (List Count)) (counts : List Count). all_counts items ≡ counts) _ _ _ _
-        (λ _. all_counts-part negative seconds Second) (λ _. refl)
+    (λ _. all_counts-part negative seconds Second) (λ _. refl)
 
 -- ---- the whole text
 
@@ -163,8 +170,13 @@ six_pieces : (a b c d e f : List (List ℕ)) (rest : List ℕ)
     → (behind_spaces a ++ (behind_spaces b ++ behind_spaces c)) ++ ((behind_spaces d ++ (behind_spaces e ++ behind_spaces f)) ++ rest)
     ≡ behind_spaces (a ++ (b ++ (c ++ (d ++ (e ++ f))))) ++ rest
 six_pieces a b c d e f rest =
-    rw (behind_spaces-append a (b ++ (c ++ (d ++ (e ++ f)))), behind_spaces-append b (c ++ (d ++ (e ++ f))),
-        behind_spaces-append c (d ++ (e ++ f)), behind_spaces-append d (e ++ f), behind_spaces-append e f)
+    rw (
+      behind_spaces-append a (b ++ (c ++ (d ++ (e ++ f)))),
+      behind_spaces-append b (c ++ (d ++ (e ++ f))),
+      behind_spaces-append c (d ++ (e ++ f)),
+      behind_spaces-append d (e ++ f),
+      behind_spaces-append e f,
+    )
     (simp append_assoc)
 
 pieces : (ago : Bool) (months days micros : ℤ) (rest : List ℕ)
@@ -172,11 +184,11 @@ pieces : (ago : Bool) (months days micros : ℤ) (rest : List ℕ)
 unfolding verbose_date verbose_time
 pieces ago months days micros rest =
     six_pieces (unit_words (turned_sign ago (is_negative months)) (years_of months) (codes "year"))
-        (unit_words (turned_sign ago (is_negative months)) (months_of months) (codes "mon"))
+    (unit_words (turned_sign ago (is_negative months)) (months_of months) (codes "mon"))
     (unit_words (turned_sign ago (is_negative days)) (unsigned_abs days) (codes "day"))
-        (unit_words (turned_sign ago (is_negative micros)) (hours_of micros) (codes "hour"))
+    (unit_words (turned_sign ago (is_negative micros)) (hours_of micros) (codes "hour"))
     (unit_words (turned_sign ago (is_negative micros)) (minutes_of micros) (codes "min"))
-        (second_words (turned_sign ago (is_negative micros)) (seconds_of micros) (subsecond_of micros)) rest
+    (second_words (turned_sign ago (is_negative micros)) (seconds_of micros) (subsecond_of micros)) rest
 
 -- the counts of the written text, each sign turned or not
 abbrev pub verbose_counts : Bool → ℤ → ℤ → ℤ → List Count
@@ -191,15 +203,15 @@ verbose_counts ago months days micros =
 rises_second : (negative : Bool) (seconds micros : ℕ) → RisesFrom 6 (second_counts negative seconds micros)
 rises_second negative seconds micros =
     cond_both (micros == 0) _ _ (RisesFrom 6) (λ _. cond_both (seconds == 0) _ _ (RisesFrom 6) (λ _. tt) (λ _. (omega arith, tt)))
-        (λ _. (omega arith, tt))
+    (λ _. (omega arith, tt))
 
 distinct : (ago : Bool) (months days micros : ℤ) → IsTrue (has_distinct_units (verbose_counts ago months days micros))
 distinct ago months days micros =
     distinct_units 0 (verbose_counts ago months days micros)
     (rises_front (years_of months == 0) _ _ (rises_front (months_of months == 0) _ _
-        (rises_lower _ _ _ (omega arith) (rises_front (unsigned_abs days == 0) _ _
+    (rises_lower _ _ _ (omega arith) (rises_front (unsigned_abs days == 0) _ _
     (rises_front (hours_of micros == 0) _ _ (rises_front (minutes_of micros == 0) _ _
-        (rises_second (turned_sign ago (is_negative micros)) (seconds_of micros) (subsecond_of micros))))))))
+    (rises_second (turned_sign ago (is_negative micros)) (seconds_of micros) (subsecond_of micros))))))))
 
 -- words in front of words, and what they come to
 record Spells (all : List (List ℕ)) (counts : List Count) : Type 0 where
@@ -240,15 +252,15 @@ words_spell : (ago : Bool) (months days micros : ℤ) → unsigned_abs months �
     → Spells (verbose_words ago months days micros) (verbose_counts ago months days micros)
 words_spell ago months days micros small_months small_days small_micros =
     spells-append _ _ _ _ (unit_spells _ (years_of months) (codes "year") Year (omega arith) (omega arith)
-        (refl, (refl, (refl, (refl, tt)))) year_names)
+    (refl, (refl, (refl, (refl, tt)))) year_names)
     (spells-append _ _ _ _ (unit_spells _ (months_of months) (codes "mon") Month (omega arith) (omega arith)
-        (refl, (refl, (refl, tt))) month_names)
+    (refl, (refl, (refl, tt))) month_names)
     (spells-append _ _ _ _ (unit_spells _ (unsigned_abs days) (codes "day") Day (omega arith) (omega arith)
-        (refl, (refl, (refl, tt))) day_names)
+    (refl, (refl, (refl, tt))) day_names)
     (spells-append _ _ _ _ (unit_spells _ (hours_of micros) (codes "hour") Hour (omega arith) (omega arith)
-        (refl, (refl, (refl, (refl, tt)))) hour_names)
+    (refl, (refl, (refl, (refl, tt)))) hour_names)
     (spells-append _ _ _ _ (unit_spells _ (minutes_of micros) (codes "min") Minute (omega arith) (omega arith)
-        (refl, (refl, (refl, tt))) minute_names)
+    (refl, (refl, (refl, tt))) minute_names)
     (second_spells _ (seconds_of micros) (subsecond_of micros) (omega arith) (omega arith))))))
 
 -- the words as a body, behind which `ago` and nothing else stands, or nothing
@@ -274,10 +286,18 @@ words_spelled ago months days micros small_months small_days small_micros =
       body = behind_spaces all ++ cond {A = List ℕ} ago (codes " ") [];
       ago = ago;
       body_counts = verbose_counts ago months days micros;
-      framed = record { after = []; blank_before = refl; blank_after = refl;
-          joined = ap (λ (l : List ℕ). 64 ∷ l) (pieces ago months days micros _) ∙ ago_joined ago (behind_spaces all) };
-      spelled = inr (rw (ago_words ago all spells.words) (spells.items, spells.join, sym spells.counted,
-          distinct_pairs _ (distinct ago months days micros)));
+      framed = record {
+        after = [];
+        blank_before = refl;
+        blank_after = refl;
+        joined = ap (λ (l : List ℕ). 64 ∷ l) (pieces ago months days micros _) ∙ ago_joined ago (behind_spaces all);
+      };
+      spelled = inr (rw (ago_words ago all spells.words) (
+        spells.items,
+        spells.join,
+        sym spells.counted,
+        distinct_pairs _ (distinct ago months days micros),
+      ));
       counted = refl;
     }
 

@@ -42,7 +42,7 @@ pub glued_kind : (negative : Bool) (whole fraction number letters : List ℕ) �
 unfolding word_kind
 glued_kind negative whole fraction number letters h some l =
     let read = ap read_item (ap (λ (x : List ℕ). number ++ x) (sym (append-nil letters)))
-        ∙ named_read negative whole fraction number [] letters [] h refl some l tt in rw read refl
+    ∙ named_read negative whole fraction number [] letters [] h refl some l tt in rw read refl
 
 pub number_kind : (negative : Bool) (whole fraction number : List ℕ) → IsNumber true negative whole fraction number
     → word_kind number ≡ NumberWord (record { negative = negative; whole = whole; fraction = fraction })
@@ -81,9 +81,9 @@ fresh_behind [] c ys h = refl
 fresh_behind (x ∷ xs) c ys h =
     let split = first_alone x (xs ++ (c ∷ ys)) h in
     let behind = (or_parts (counts_unit x.unit xs) (counts_unit x.unit (c ∷ ys)) (sym (counts_unit-append x.unit xs (c ∷ ys)) ∙ split.0)).1
-        in
+    in
     let other = same_both (place_of c.unit) (place_of x.unit) (or_parts (place_of c.unit == place_of x.unit)
-        (counts_unit x.unit ys) behind).0 in
+    (counts_unit x.unit ys) behind).0 in
     let below = fresh_behind xs c ys split.1 in
     rw (other, below) refl
 
@@ -110,7 +110,7 @@ abbrev pub judge_pair : Names → List Count → ℕ → ℕ → List (List ℕ)
 judge_pair names counts ink length_of [] n = Unspelled
 judge_pair names counts ink length_of (name ∷ more) n =
     if is_name name then judge_unit counts (ink + length_of) name n (unit_named names name)
-        (λ cs. verdict names (counts ++ cs) (ink + length_of + length name) more) else Unspelled
+    (λ cs. verdict names (counts ++ cs) (ink + length_of + length name) more) else Unspelled
 
 -- a word and what follows it
 pub verdict-word : (names : Names) (counts : List Count) (ink : ℕ) (word : List ℕ) (more : List (List ℕ))
@@ -135,7 +135,7 @@ clock_item names word more cs counts ink h distinct =
     let kind = clock_kind word cs h in
     let counted = h.counted in
     let distinct' : has_distinct_units (counts ++ clock_counts h.negative h.hours h.minutes h.seconds h.fraction)
-        ≡ true = ap (λ (l : List Count). has_distinct_units (counts ++ l)) (sym counted) ∙ distinct in
+    ≡ true = ap (λ (l : List Count). has_distinct_units (counts ++ l)) (sym counted) ∙ distinct in
     verdict-word names counts ink word more ∙ rw (kind, distinct', counted) refl
 
 glued_item : (names : Names) (c : Count) (number name : List ℕ) (more : List (List ℕ)) (counts : List Count) (ink : ℕ)
@@ -161,7 +161,7 @@ advance_item : (names : Names) → AreNames names → (item more : List (List �
     → verdict names counts ink (item ++ more) ≡ verdict names (counts ++ cs) (ink + total_length item) more
 advance_item names letters item more cs counts rest ink (inl (c, named, one)) distinct =
     let both_distinct : has_distinct_units (counts ++ (c ∷ rest))
-        ≡ true = ap (λ (l : List Count). has_distinct_units (counts ++ (l ++ rest))) (sym one) ∙ distinct in
+    ≡ true = ap (λ (l : List Count). has_distinct_units (counts ++ (l ++ rest))) (sym one) ∙ distinct in
     let fresh = fresh_behind counts c rest both_distinct in
     let name = letters named.name c.unit named.unit in
     elim named.spelled [
@@ -179,14 +179,14 @@ pub advance : (names : Names) → AreNames names → (front more : List (List �
     → verdict names counts ink (front ++ more) ≡ verdict names (counts ++ all_counts items) (ink + total_length front) more
 advance names letters front more [] counts ink h distinct =
     rw h (ap (λ (l : List Count). verdict names l ink more) (sym (append-nil counts))
-        ∙ elsewhere names (counts ++ []) ink (ink + 0) more (omega arith))
+    ∙ elsewhere names (counts ++ []) ink (ink + 0) more (omega arith))
 advance names letters front more (cs ∷ items) counts ink h distinct =
     let split : front ++ more ≡ h.0 ++ (h.1 ++ more) = ap (λ (l : List (List ℕ)). l ++ more) h.4 ∙ append_assoc h.0 h.1 more in
     let item = advance_item names letters h.0 (h.1 ++ more) cs counts (all_counts items) ink h.2 distinct in
     let regrouped = append_assoc counts cs (all_counts items) in
     let below = advance names letters h.1 more items (counts ++ cs) (ink + total_length h.0) h.3
-        (ap has_distinct_units regrouped ∙ distinct) in
+    (ap has_distinct_units regrouped ∙ distinct) in
     let lengths = ap total_length h.4 ∙ total_length-append h.0 h.1 in
     ap (λ (l : List (List ℕ)). verdict names counts ink l) split ∙ item ∙ below
     ∙ ap (λ (l : List Count). verdict names l (ink + total_length h.0 + total_length h.1) more) regrouped
-        ∙ elsewhere names (counts ++ (cs ++ all_counts items)) _ _ more (omega (arith, lengths))
+    ∙ elsewhere names (counts ++ (cs ++ all_counts items)) _ _ more (omega (arith, lengths))

@@ -33,7 +33,7 @@ part_counts negative n unit = if n == 0 then [] else (record { negative = negati
 abbrev pub seconds_counts : Bool → ℕ → ℕ → List Count
 seconds_counts negative seconds micros =
     if micros == 0 then part_counts negative seconds Second else
-        (record { negative = negative; whole = nonzero_digits seconds; fraction = padded_digits 6 micros; unit = Second } ∷ [])
+    (record { negative = negative; whole = nonzero_digits seconds; fraction = padded_digits 6 micros; unit = Second } ∷ [])
 
 -- no seconds, as they are written of zero
 abbrev pub zero_count : Count
@@ -73,14 +73,14 @@ pub seconds_counts-sum : (part : Part) (negative : Bool) (seconds micros : ℕ) 
 seconds_counts-sum part negative seconds micros small below fits =
     cond_both (micros == 0) _ _ (λ counts. AddsUp part counts (signed negative (magnitude part Second seconds micros)))
     (λ zero_is. let none : micros ≡ 0 = eqb-true micros 0 zero_is in rw none
-        (part_counts-sum part negative seconds Second small (rw none at fits)))
+    (part_counts-sum part negative seconds Second small (rw none at fits)))
     (λ _. AddsUp-one part _ seconds micros (whole_seconds seconds small) (rounded-padded micros below) fits)
 
 -- the counts of years, months and days
 abbrev pub date_counts : ℤ → ℤ → List Count
 date_counts months days =
     part_counts (is_negative months) (years_of months) Year ++ (part_counts (is_negative months) (months_of months) Month
-        ++ part_counts (is_negative days) (unsigned_abs days) Day)
+    ++ part_counts (is_negative days) (unsigned_abs days) Day)
 
 -- the counts of hours and minutes, and those of seconds behind them
 abbrev pub time_with : ℤ → List Count → List Count
@@ -101,7 +101,7 @@ uncounted : (part : Part) (negative : Bool) (n : ℕ) (unit : TimeUnit) → n < 
     → AddsUp part (part_counts negative n unit) (pos 0)
 uncounted part negative n unit small none =
     AddsUp-same part _ _ _ (part_counts-sum part negative n unit small (rw none (fits_type-signed_zero part negative)))
-        (rw none (signed-zero negative))
+    (rw none (signed-zero negative))
 
 date_counts-months : (months days : ℤ) → IsTrue (fits_type Months months) → IsTrue (fits_type Days days)
     → AddsUp Months (date_counts months days) months
@@ -173,8 +173,11 @@ pub date_counts-sum : (t : Interval) → IsInRange t → SumsTo (date_counts t.m
 date_counts-sum t range =
     let months : IsTrue (fits_type Months t.months) = fits_32 t.months range.months in
     let days : IsTrue (fits_type Days t.days) = fits_32 t.days range.days in
-    record { months = date_counts-months t.months t.days months days; days = date_counts-days t.months t.days months days;
-        micros = date_counts-micros t.months t.days months days }
+    record {
+      months = date_counts-months t.months t.days months days;
+      days = date_counts-days t.months t.days months days;
+      micros = date_counts-micros t.months t.days months days;
+    }
 
 pub time_with-sum : (t : Interval) (seconds : List Count) → IsInRange t → HasSeconds t.microseconds seconds
     → SumsTo (time_with t.microseconds seconds) (time_of t)
@@ -190,4 +193,4 @@ pub time_counts-sum : (t : Interval) → IsInRange t → SumsTo (time_counts t.m
 time_counts-sum t range =
     let small : unsigned_abs t.microseconds ≤ 2 ^ 63 = abs_fits Micros t.microseconds (fits_64 t.microseconds range.microseconds) in
     time_with-sum t _ range (λ part. seconds_counts-sum part (is_negative t.microseconds) (seconds_of t.microseconds)
-        (subsecond_of t.microseconds) (omega arith) (omega arith))
+    (subsecond_of t.microseconds) (omega arith) (omega arith))

@@ -62,7 +62,7 @@ date_exact text rest date i n =
     let bound = same_bound _ _ _ _ _ _ i.years.number i.months.number i.days.number i.days.most in
     let days = is_within_them 1 _ (number_of i.day_text) (omega (arith, i.days.number, i.days.least)) bound in
     let months = is_within_them 1 12 (number_of i.month_text) (omega (arith, i.months.number, i.months.least))
-        (omega (arith, i.months.number, i.months.most)) in
+    (omega (arith, i.months.number, i.months.most)) in
     record {
       pass = none_fails (date_rows i.year_text (i.month_text ++ (45 ∷ (i.day_text ++ rest)))) (
         month.is,

@@ -23,8 +23,13 @@ is_within_them lo hi n p q = grind (arith, nat_tests)
 
 pub field_made : (count lo hi : ℕ) (text : List ℕ) → AreDigits text → has_length count text ≡ true → lo ≤ number_of text
     → number_of text ≤ hi → IsField count lo hi text (number_of text)
-field_made count lo hi text digits long least most = record { long = length_is count text long; digits = digits; number = refl;
-    least = least; most = most }
+field_made count lo hi text digits long least most = record {
+  long = length_is count text long;
+  digits = digits;
+  number = refl;
+  least = least;
+  most = most;
+}
 
 pub two_made : (hi : ℕ) (text : List ℕ) → AreDigits text → has_length 2 text ≡ true → nat_le (number_of text) hi ≡ true
     → IsField 2 0 hi text (number_of text)

@@ -43,9 +43,9 @@ nine_split ds len e =
           let all : len ≡ length ds = omega (arith, e, few) in
           let left : 9 ≡ length ds + (9 - length ds) = omega (arith, few) in
           let front : take (length ds + (9 - length ds)) (ds ++ replicate 9 48) ≡ ds
-              ++ take (9 - length ds) (replicate 9 48) = take-append-add ds (replicate 9 48) (9 - length ds) in
+          ++ take (9 - length ds) (replicate 9 48) = take-append-add ds (replicate 9 48) (9 - length ds) in
           ap (λ (n : ℕ). take n (ds ++ replicate 9 48)) left ∙ front
-              ∙ rw (take-replicate {X = ℕ} (9 - length ds) 9 48 (omega arith), all, take_all (length ds) ds (omega arith)) refl
+          ∙ rw (take-replicate {X = ℕ} (9 - length ds) 9 48 (omega arith), all, take_all (length ds) ds (omega arith)) refl
       | inr many ↦
           let nine_of : len ≡ 9 = omega (arith, e, many) in
           rw nine_of (take-append-le 9 ds (replicate 9 48) many ∙ sym (append-nil (take 9 ds)))
@@ -72,12 +72,12 @@ one_more bytes len v d front within few is e f =
     let split = drop_more bytes len 0 within in
     let more_front : front_digits (drop len bytes) ≡ (b ∷ []) ++ front_digits (drop (len + 1) bytes) = ap front_digits split ∙ rw is refl in
     let all : AreDigits (take len bytes) = digits_left (take len bytes) (front_digits (drop len bytes))
-        (subst AreDigits front (front_are_digits bytes)) in
+    (subst AreDigits front (front_are_digits bytes)) in
     let long = length-take-le len bytes (omega (arith, within)) in
     let one : number_of (b ∷ []) ≡ digit_value b = number_of-cons b [] ∙ omega arith in
     let taken = take_more bytes len 0 within in
     let more : number_of (take (len + 1) bytes) ≡ number_of (take len bytes) * 10 ^ 1 + number_of (b ∷ []) = ap number_of taken
-        ∙ number_of-append (take len bytes) (b ∷ []) in
+    ∙ number_of-append (take len bytes) (b ∷ []) in
     let front_small : number_of (take len bytes) < 10 ^ len = rw long at (number_of-lt (take len bytes) all) in
     let most : len ≤ 8 = omega (arith, few) in
     let bound : 10 ^ len ≤ 10 ^ 8 = pow-le-pow_right {n = 10} (omega arith) most in

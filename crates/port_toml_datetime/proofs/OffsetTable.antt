@@ -31,7 +31,7 @@ numeric_offset_sound negative text h =
     let last = end_sound (after 3 text) w.1.1.1.1.0 in
     let whole : after 2 text ≡ token 2 text = minute.joined ∙ ap (λ (l : List ℕ). token 2 text ++ l) last ∙ append-nil (token 2 text) in
     let split : text ≡ token 0 text ++ (58 ∷ token 2 text) = hour.joined
-        ∙ ap (λ (l : List ℕ). token 0 text ++ l) (mark ∙ ap (λ (l : List ℕ). 58 ∷ l) whole) in
+    ∙ ap (λ (l : List ℕ). token 0 text ++ l) (mark ∙ ap (λ (l : List ℕ). 58 ∷ l) whole) in
     record {
       negative = negative;
       hour_text = token 0 text;
@@ -102,7 +102,7 @@ offset_if t b bs = cond {A = Option Offset} t (Some (numeric_offset_of (is_of (c
 
 sign_if : (t : Bool) (b : ℕ) (bs : List ℕ) → is_one_of (codes "Zz+-") b ≡ true → is_one_of (codes "+-") b ≡ t
     → first_failing (cond {A = List Row} t (numeric_offset_rows (after_token (b ∷ bs))) (end_row (after_token (b ∷ bs)) ∷ [])) ≡ None
-        → IsPerhapsOffset (b ∷ bs) (offset_if t b bs)
+    → IsPerhapsOffset (b ∷ bs) (offset_if t b bs)
 sign_if true b bs h k a =
     elim (sign b k) [
       | inl plus ↦ let f = rw plus at a in rw plus (inr (numeric_offset_of false bs, inr (numeric_offset_sound false bs f), refl))

@@ -11,8 +11,11 @@ or_some (d ∷ ds) some = refl
 pub some_pushed : (front all : List ℕ) (n : ℕ) → n ≢ 0 → n < 2 ^ 32 → all ≡ front ++ trimmed_digits (padded_digits 9 n)
     → all ≡ front ++ fraction_text n
 unfolding fraction_text
-some_pushed front all n some fits e = rw (e, or_some (trimmed_digits (padded_digits 9 n))
-    (trimmed_some 9 n (omega (arith, some)) (omega (arith, fits)))) refl
+some_pushed front all n some fits e = rw (
+  e,
+  or_some (trimmed_digits (padded_digits 9 n))
+      (trimmed_some 9 n (omega (arith, some)) (omega (arith, fits))),
+) refl
 
 pub zero_pushed : (front all : List ℕ) (n : ℕ) → n ≡ 0 → all ≡ front ++ codes "0" → all ≡ front ++ fraction_text n
 unfolding fraction_text

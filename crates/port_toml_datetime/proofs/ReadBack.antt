@@ -42,9 +42,9 @@ filled text ds nine r =
     let j : ℕ = 9 - r.0 in
     let e : 9 ≡ r.0 + j = omega (arith, l, nine, length-replicate {A = ℕ} r.0 48) in
     let zeros : replicate 9 48 ≡ replicate r.0 48 ++ replicate j 48 = ap (λ (n : ℕ). replicate n 48) e
-        ∙ sym {A = List ℕ} (replicate-append-replicate {A = ℕ} r.0 j 48) in
+    ∙ sym {A = List ℕ} (replicate-append-replicate {A = ℕ} r.0 j 48) in
     let split : text ++ replicate 9 48 ≡ ds ++ replicate j 48 = ap (λ (x : List ℕ). text ++ x) zeros
-        ∙ sym (append_assoc text (replicate r.0 48) (replicate j 48)) ∙ ap (λ (x : List ℕ). x ++ replicate j 48) (sym r.1) in
+    ∙ sym (append_assoc text (replicate r.0 48) (replicate j 48)) ∙ ap (λ (x : List ℕ). x ++ replicate j 48) (sym r.1) in
     rw split (take_at ds (replicate j 48) 9 nine)
 
 some_digit : (text : List ℕ) → 0 < length (or_zero text)
@@ -56,7 +56,7 @@ unfolding nanoseconds fraction_text
 fraction_back n small =
     let f = padded_field 9 0 (10 ^ 9) n (omega arith) small (omega arith) (omega arith) (omega arith) in
     let fills = zero_fills (trimmed_digits (padded_digits 9 n)) (padded_digits 9 n) (omega (arith, f.long))
-        (trimmed_fills (padded_digits 9 n)) in
+    (trimmed_fills (padded_digits 9 n)) in
     let text : List ℕ = or_zero (trimmed_digits (padded_digits 9 n)) in
     let whole = filled text (padded_digits 9 n) f.long fills in
     record {
@@ -95,11 +95,25 @@ seconds_back : (s n : Option ℕ) → AreRealSeconds s n → IsPerhapsSeconds (p
 seconds_back None None a = inl (refl, refl, refl)
 seconds_back None (Some n) a = absurd a
 seconds_back (Some s) None a =
-    inr (record { digits = padded_digits 2 s; fraction = []; number = s; field = two_field 0 60 s (omega arith) (omega arith) a;
-        fractions = inl (refl, refl); joined = ap (λ (l : List ℕ). 58 ∷ l) (sym (append-nil (padded_digits 2 s))); value = refl })
+    inr (record {
+      digits = padded_digits 2 s;
+      fraction = [];
+      number = s;
+      field = two_field 0 60 s (omega arith) (omega arith) a;
+      fractions = inl (refl, refl);
+      joined = ap (λ (l : List ℕ). 58 ∷ l) (sym (append-nil (padded_digits 2 s)));
+      value = refl;
+    })
 seconds_back (Some s) (Some n) a =
-    inr (record { digits = padded_digits 2 s; fraction = codes "." ++ fraction_text n; number = s;
-        field = two_field 0 60 s (omega arith) (omega arith) a.0; fractions = inr (fraction_back n a.1); joined = refl; value = refl })
+    inr (record {
+      digits = padded_digits 2 s;
+      fraction = codes "." ++ fraction_text n;
+      number = s;
+      field = two_field 0 60 s (omega arith) (omega arith) a.0;
+      fractions = inr (fraction_back n a.1);
+      joined = refl;
+      value = refl;
+    })
 
 time_back : (t : Time) → IsRealTime t → IsPartialTime (partial_time_text t) t
 unfolding partial_time_text
@@ -152,15 +166,41 @@ offset_back (Custom (negsuc n)) near =
 
 parts_back : (d : Option Date) (t : Option Time) (o : Option Offset) → AreWellFormed d t o
     → IsDatetime (part_text full_date_text d ++ (delimiter_text d t ++ (part_text partial_time_text t ++ part_text time_offset_text o)))
-        (datetime_of d t o)
+    (datetime_of d t o)
 parts_back (Some d) (Some t) (Some o) w =
-    inl (record { date_text = full_date_text d; delimiter = codes "T"; time_text = partial_time_text t; offset_text = time_offset_text o;
-        date = d; time = t; offset = Some o; dates = date_back d w.0; delimits = inl refl; times = time_back t w.1; offsets =
-        inr (o, offset_back o w.2, refl); joined = refl; made = refl })
+    inl (record {
+      date_text = full_date_text d;
+      delimiter = codes "T";
+      time_text = partial_time_text t;
+      offset_text = time_offset_text o;
+      date = d;
+      time = t;
+      offset = Some o;
+      dates = date_back d w.0;
+      delimits = inl refl;
+      times = time_back t w.1;
+      offsets =
+          inr (o, offset_back o w.2, refl);
+      joined = refl;
+      made = refl;
+    })
 parts_back (Some d) (Some t) None w =
-    inl (record { date_text = full_date_text d; delimiter = codes "T"; time_text = partial_time_text t; offset_text = []; date = d;
-        time = t; offset = None; dates = date_back d w.0; delimits = inl refl; times = time_back t w.1; offsets = inl (refl, refl); joined =
-        refl; made = refl })
+    inl (record {
+      date_text = full_date_text d;
+      delimiter = codes "T";
+      time_text = partial_time_text t;
+      offset_text = [];
+      date = d;
+      time = t;
+      offset = None;
+      dates = date_back d w.0;
+      delimits = inl refl;
+      times = time_back t w.1;
+      offsets = inl (refl, refl);
+      joined =
+          refl;
+      made = refl;
+    })
 parts_back (Some d) None None w = inr (inl (d, rw (append-nil (full_date_text d)) (date_back d w), refl))
 parts_back None (Some t) None w = inr (inr (t, rw (append-nil (partial_time_text t)) (time_back t w), refl))
 parts_back (Some d) None (Some o) w = absurd w

@@ -42,7 +42,7 @@ full_time_sound date date_text delimiter text is delimits h =
     let offset = offset_sound (after_time (after 2 text)) both.1 in
     let split : text ≡ (token 0 text ++ (58 ∷ clock.0)) ++ after_time (after 2 text) =
     hour.joined ∙ ap (λ (l : List ℕ). token 0 text ++ l) (mark ∙ ap (λ (l : List ℕ). 58 ∷ l) clock.2)
-        ∙ sym (append_assoc (token 0 text) (58 ∷ clock.0) (after_time (after 2 text))) in
+    ∙ sym (append_assoc (token 0 text) (58 ∷ clock.0) (after_time (after 2 text))) in
     record {
       date_text = date_text;
       delimiter = delimiter;
@@ -81,9 +81,9 @@ not_both text rest h e = let no : true ≡ false = rw e at h in cc
 start_if : (t : Bool) (text : List ℕ) → is_of (58 ∷ []) (first_token (after_token text)) ≡ t → IsFront text
     → is_of (codes "-:") (first_token (after_token text)) ≡ true
     → first_failing (cond {A = List Row} t (local_time_rows (token 0 text) (after 2 text)) (dated_rows (token 0 text) (after 2 text)))
-        ≡ None
+    ≡ None
     → IsDatetime text (cond {A = Datetime} t (datetime_of None (Some (time_of (token 0 text) (after 2 text))) None)
-        (tail_of (date_of (token 0 text) (after 2 text)) (after_date (after 2 text))))
+    (tail_of (date_of (token 0 text) (after 2 text)) (after_date (after 2 text))))
 unfolding local_time_rows dated_rows
 start_if true text e first m h =
     let both = none_in_both (time_rows (token 0 text) (after 2 text)) (end_row (after_time (after 2 text)) ∷ []) h in
@@ -92,9 +92,13 @@ start_if true text e first m h =
     let last = end_sound (after_time (after 2 text)) (all_hold (end_row (after_time (after 2 text)) ∷ []) both.1).0 in
     let whole : after 2 text ≡ clock.0 = clock.2 ∙ ap (λ (l : List ℕ). clock.0 ++ l) last ∙ append-nil clock.0 in
     let split : text ≡ token 0 text ++ (58 ∷ clock.0) = first.joined
-        ∙ ap (λ (l : List ℕ). token 0 text ++ l) (mark ∙ ap (λ (l : List ℕ). 58 ∷ l) whole) in
-    inr (inr (time_of (token 0 text) (after 2 text), subst (λ (l : List ℕ). IsPartialTime l (time_of (token 0 text) (after 2 text)))
-        (sym split) clock.1, refl))
+    ∙ ap (λ (l : List ℕ). token 0 text ++ l) (mark ∙ ap (λ (l : List ℕ). 58 ∷ l) whole) in
+    inr (inr (
+      time_of (token 0 text) (after 2 text),
+      subst (λ (l : List ℕ). IsPartialTime l (time_of (token 0 text) (after 2 text)))
+          (sym split) clock.1,
+      refl,
+    ))
 start_if false text e first m h =
     elim (either_sound 45 58 (after_token text) refl refl refl refl m) [
       | inl mark ↦
@@ -103,11 +107,11 @@ start_if false text e first m h =
           let rest = after_date (after 2 text) in
           let split : text ≡ (token 0 text ++ (45 ∷ (token 2 text ++ (45 ∷ token 4 text)))) ++ rest =
           first.joined ∙ ap (λ (l : List ℕ). token 0 text ++ l) (mark ∙ ap (λ (l : List ℕ). 45 ∷ l) date.joined)
-              ∙ sym (three (token 0 text) (45 ∷ []) (token 2 text) (token 4 text) rest) in
+          ∙ sym (three (token 0 text) (45 ∷ []) (token 2 text) (token 4 text) rest) in
           let value = tail_of (date_of (token 0 text) (after 2 text)) rest in
           subst (λ (l : List ℕ). IsDatetime l value) (sym split)
-              (tail_sound (date_of (token 0 text) (after 2 text))
-              (token 0 text ++ (45 ∷ (token 2 text ++ (45 ∷ token 4 text)))) rest date.is both.1)
+          (tail_sound (date_of (token 0 text) (after 2 text))
+          (token 0 text ++ (45 ∷ (token 2 text ++ (45 ∷ token 4 text)))) rest date.is both.1)
       | inr colon ↦ absurd (not_both (after_token text) _ e colon)
     ]
 
@@ -185,7 +189,7 @@ unfolding checks dated_rows value_of
 dated date date_text text value i t =
     let behind_year : List ℕ = i.month_text ++ (45 ∷ (i.day_text ++ text)) in
     let split : date_text ++ text ≡ i.year_text ++ (45 ∷ behind_year) = ap (λ (l : List ℕ). l ++ text) i.joined
-        ∙ three i.year_text (45 ∷ []) i.month_text i.day_text text in
+    ∙ three i.year_text (45 ∷ []) i.month_text i.day_text text in
     let year = field_run 4 0 9999 i.year_text (45 ∷ behind_year) date.year i.years (omega arith) refl in
     let second : after 2 (i.year_text ++ (45 ∷ behind_year)) ≡ behind_year = ap after_token year.follows in
     let read = date_exact date_text text date i t.first in
@@ -200,7 +204,7 @@ unfolding checks local_time_rows value_of
 local_time time text i =
     let tail : List ℕ = i.minute_text ++ (i.second_text ++ []) in
     let split : text ≡ i.hour_text ++ (58 ∷ tail) = i.joined ∙ ap (λ (l : List ℕ). i.hour_text ++ (58 ∷ (i.minute_text ++ l)))
-        (sym (append-nil i.second_text)) in
+    (sym (append-nil i.second_text)) in
     let hour = field_run 2 0 23 i.hour_text (58 ∷ tail) time.hour i.hours (omega arith) refl in
     let clock = time_exact text [] time i no_rest in
     rw split (record {
@@ -212,7 +216,7 @@ pub table_exact : (text : List ℕ) (value : Datetime) → IsDatetime text value
 table_exact text value (inl m) =
     let read = full_time_exact m.date m.time m.offset m.time_text m.offset_text m.times m.offsets in
     rw (m.joined, m.made) (dated m.date m.date_text (m.delimiter ++ (m.time_text ++ m.offset_text)) _ m.dates
-        (delimited m.date m.delimiter _ _ m.delimits read))
+    (delimited m.date m.delimiter _ _ m.delimits read))
 table_exact text value (inr (inl (date, is, made))) = rw made (subst (λ (l : List ℕ). Passes l (datetime_of (Some date) None None))
     (append-nil text) (dated date text [] _ is (nothing_behind date)))
 table_exact text value (inr (inr (time, is, made))) = rw made (local_time time text is)

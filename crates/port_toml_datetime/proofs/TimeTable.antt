@@ -21,7 +21,7 @@ use Rattle.port_toml_datetime.proofs.FieldFacts.{is_length, two_made, field_run,
 point_if : (t : Bool) (text : List ℕ) → is_of (46 ∷ []) (first_token text) ≡ t
     → where_there is_digits (cond {A = Option (List ℕ)} t (Some (token 1 text)) None) ≡ true
     → (piece : List ℕ) × IsPerhapsSecondFraction piece (option_map nanoseconds (cond {A = Option (List ℕ)} t (Some (token 1 text)) None))
-        × (text ≡ piece ++ cond t (after 2 text) text)
+    × (text ≡ piece ++ cond t (after 2 text) text)
 point_if true text e h =
     let run = run_sound (after_token text) h in (
       46 ∷ token 1 text,
@@ -32,7 +32,7 @@ point_if false text e h = ([], inl (refl, refl), refl)
 
 fraction_sound : (second : Bool) (text : List ℕ) → where_there is_digits (fraction second text) ≡ true
     → (piece : List ℕ) × IsPerhapsSecondFraction piece (option_map nanoseconds (fraction second text))
-        × (text ≡ piece ++ after_fraction second text)
+    × (text ≡ piece ++ after_fraction second text)
 fraction_sound false text h = ([], inl (refl, refl), refl)
 fraction_sound true text h = point_if (is_of (46 ∷ []) (first_token text)) text refl h
 
@@ -45,17 +45,24 @@ after_if t text = cond {A = List ℕ} t (after 2 text) text
 
 colon_if : (t : Bool) (text : List ℕ) → is_of (58 ∷ []) (first_token text) ≡ t → where_there is_digits (second_if t text) ≡ true
     → where_there is_digits (fraction (is_some (second_if t text)) (after_if t text)) ≡ true
-        → where_there (has_length 2) (second_if t text) ≡ true
+    → where_there (has_length 2) (second_if t text) ≡ true
     → where_there (λ (n : ℕ). nat_le n 60) (option_map number_of (second_if t text)) ≡ true
     → (piece : List ℕ) × IsPerhapsSeconds piece (option_map number_of (second_if t text))
-        (option_map nanoseconds (fraction (is_some (second_if t text)) (after_if t text)))
+    (option_map nanoseconds (fraction (is_some (second_if t text)) (after_if t text)))
     × (text ≡ piece ++ after_fraction (is_some (second_if t text)) (after_if t text))
 colon_if true text e h f two most =
     let run = run_sound (after_token text) h in
     let more = fraction_sound true (after 2 text) f in (
       58 ∷ (token 1 text ++ more.0),
-      inr (record { digits = token 1 text; fraction = more.0; number = number_of (token 1 text);
-          field = two_made 60 (token 1 text) run.digits two most; fractions = more.1; joined = refl; value = refl }),
+      inr (record {
+        digits = token 1 text;
+        fraction = more.0;
+        number = number_of (token 1 text);
+        field = two_made 60 (token 1 text) run.digits two most;
+        fractions = more.1;
+        joined = refl;
+        value = refl;
+      }),
       mark_sound 58 text refl refl e ∙ ap (λ (l : List ℕ). 58 ∷ l)
           (run.joined ∙ ap (λ (l : List ℕ). token 1 text ++ l) more.2 ∙ sym (append_assoc (token 1 text) more.0 _)),
     )
@@ -132,9 +139,9 @@ seconds_exact piece rest second value (inl none) s =
     })
 seconds_exact piece rest second value (inr f) s =
     let split : piece ++ rest ≡ 58 ∷ (f.digits ++ (f.fraction ++ rest)) = ap (λ (l : List ℕ). l ++ rest) f.joined
-        ∙ ap (λ (l : List ℕ). 58 ∷ l) (append_assoc f.digits f.fraction rest) in
+    ∙ ap (λ (l : List ℕ). 58 ∷ l) (append_assoc f.digits f.fraction rest) in
     let run = field_run 2 0 60 f.digits (f.fraction ++ rest) f.number f.field (omega arith)
-        (fraction_first f.fraction rest value f.fractions s) in
+    (fraction_first f.fraction rest value f.fractions s) in
     let more = fraction_exact f.fraction rest value f.fractions s in
     rw split (record {
       digits = run.is;
@@ -165,7 +172,7 @@ pub time_exact : (text rest : List ℕ) (time : Time) (i : IsPartialTime text ti
 unfolding time_rows time_of after_time
 time_exact text rest time i st =
     let minute = field_run 2 0 59 i.minute_text (i.second_text ++ rest) time.minute i.minutes (omega arith)
-        (seconds_first i.second_text rest time.second time.nanosecond i.seconds st) in
+    (seconds_first i.second_text rest time.second time.nanosecond i.seconds st) in
     let s = seconds_exact i.second_text rest time.second time.nanosecond i.seconds st in
     record {
       pass = none_fails (time_rows i.hour_text (i.minute_text ++ (i.second_text ++ rest))) (

@@ -22,8 +22,11 @@ pub run_exact : (digits rest : List ℕ) → 0 < length digits → AreDigits dig
 run_exact [] rest some d n = absurd (omega arith)
 run_exact (c ∷ cs) rest some d n =
     let yes = test_from_digit c d.0 in
-    record { is = rw (yes, yes) refl; first = rw yes (ap (λ (ds : List ℕ). c ∷ ds) (front_of cs rest d.1 n));
-        follows = rw yes (after_of cs rest d.1 n) }
+    record {
+      is = rw (yes, yes) refl;
+      first = rw yes (ap (λ (ds : List ℕ). c ∷ ds) (front_of cs rest d.1 n));
+      follows = rw yes (after_of cs rest d.1 n);
+    }
 
 -- what a token of digits is
 pub record IsFront (text : List ℕ) : Type 0 where

@@ -16,8 +16,13 @@ use Rattle.port_toml_datetime.specs.WellFormed.{IsRealDay, AreRealSeconds, IsRea
 use Rattle.port_toml_datetime.proofs.FractionFacts.{nine_short}
 
 real_day : (text : List ℕ) (date : Date) → IsFullDate text date → IsRealDay date
-real_day text date i = record { year = i.years.most; month = i.months.least; months = i.months.most; day = i.days.least;
-    days = i.days.most }
+real_day text date i = record {
+  year = i.years.most;
+  month = i.months.least;
+  months = i.months.most;
+  day = i.days.least;
+  days = i.days.most;
+}
 
 some_seconds : (s : ℕ) (piece : List ℕ) (value : Option ℕ) → s ≤ 60 → IsPerhapsSecondFraction piece value → AreRealSeconds (Some s) value
 some_seconds s piece value most (inl none) = rw none.1 most
@@ -28,8 +33,11 @@ real_seconds piece second value (inl none) = rw (none.1, none.2) tt
 real_seconds piece second value (inr f) = rw f.value (some_seconds f.number f.fraction value f.field.most f.fractions)
 
 real_time : (text : List ℕ) (time : Time) → IsPartialTime text time → IsRealTime time
-real_time text time i = record { hour = i.hours.most; minute = i.minutes.most;
-    seconds = real_seconds i.second_text time.second time.nanosecond i.seconds }
+real_time text time i = record {
+  hour = i.hours.most;
+  minute = i.minutes.most;
+  seconds = real_seconds i.second_text time.second time.nanosecond i.seconds;
+}
 
 signed_in_range : (negative : Bool) (n : ℕ) → n ≤ 1439 → IsOffsetInRange (Custom (signed negative n))
 signed_in_range false n h = h

@@ -48,8 +48,12 @@ one_more IsPiece a b c before between after left more all x order is s p = (
 
 pub all_put : {C : Type 0} (IsPiece : List ℕ → C → Type 0) (a b : Option (List ℕ)) (before after : List ℕ) (left all : List C) → left ≡ []
     → IsSoFar IsPiece a b before after left all → Puts (λ text. IsJoin IsPiece text all) a b before after
-all_put IsPiece a b before after left all is s = (s.0, subst (λ (l : List ℕ). IsJoin IsPiece l all) (append-nil s.0)
-    (s.2 [] (subst (IsJoin IsPiece []) (sym is) refl)), s.1)
+all_put IsPiece a b before after left all is s = (
+  s.0,
+  subst (λ (l : List ℕ). IsJoin IsPiece l all) (append-nil s.0)
+      (s.2 [] (subst (IsJoin IsPiece []) (sym is) refl)),
+  s.1,
+)
 
 -- the sink failed at the next text, and those behind it have a text too
 pub fails_at : {C : Type 0} (IsPiece : List ℕ → C → Type 0) (a b c : Option (List ℕ)) (before between : List ℕ) (left more all : List C)

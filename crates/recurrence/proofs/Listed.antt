@@ -72,7 +72,7 @@ all_steps start step found is k zero = (tt, refl)
 all_steps start step found is k (suc n) =
     let later = all_steps start step found is (k + 1) n in
     one_more start step k n (at_start found step k) (instants_from found step (k + 1) n) (stop_from found step (k + 1) n)
-        (is k) later.0 later.1
+    (is k) later.0 later.1
 
 ends_as : (start : ℤ) (step : Interval) (last count : ℕ) (stop : Option ℕ) → EndsFrom start step 0 (last + 1) count stop
     → Ends start step last count stop
@@ -120,7 +120,7 @@ one_list laws start step k zero (x ∷ xs) (y ∷ ys) a b p q h g = absurd (some
 one_list laws start step k (suc n) (x ∷ xs) (y ∷ ys) a b p q h g =
     let head = in_some (one_answer laws start step k (Some x) (Some y) p.0 q.0) in
     let tail = one_list laws start step (k + 1) n xs ys a b p.1 q.1 (tail_ends start step k n (length xs) a h)
-        (tail_ends start step k n (length ys) b g) in
+    (tail_ends start step k n (length ys) b g) in
     (ap₂ (λ (z : ℤ) (zs : List ℤ). z ∷ zs) head tail.0, tail.1)
 
 ends_from : (start : ℤ) (step : Interval) (last count : ℕ) (stop : Option ℕ) → Ends start step last count stop

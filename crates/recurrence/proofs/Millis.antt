@@ -68,23 +68,25 @@ times_whole (suc k) z q h = let before = times_whole k z q h in
 in_parts : (day start_day days micros r m start : ℤ) (time : ℕ) → start ≡ start_day *ℤ pos 86_400_000_000_000 +ℤ pos time
     → start ≡ m *ℤ pos 1_000_000 → micros ≡ r *ℤ pos 1000
     → (day *ℤ pos 86_400_000_000_000 +ℤ pos time) +ℤ (days *ℤ pos 86_400_000_000_000 +ℤ micros *ℤ pos 1000)
-        ≡ ((((day -ℤ start_day) *ℤ pos 86_400_000 +ℤ m) +ℤ days *ℤ pos 86_400_000) +ℤ r) *ℤ pos 1_000_000
+    ≡ ((((day -ℤ start_day) *ℤ pos 86_400_000 +ℤ m) +ℤ days *ℤ pos 86_400_000) +ℤ r) *ℤ pos 1_000_000
 in_parts day start_day days micros r m start time s w t = omega (arith, ints, s, w, t)
 
 led_by : (start : ℤ) (step : Interval) (k : ℕ) (day start_day instant r m : ℤ) (nanos : ℕ)
     → instant ≡ (day *ℤ pos 86_400_000_000_000 +ℤ pos nanos) +ℤ nanos_of step k → start ≡ start_day *ℤ pos 86_400_000_000_000 +ℤ pos nanos
     → start ≡ m *ℤ pos 1_000_000 → pos k *ℤ step.microseconds ≡ r *ℤ pos 1000 → IsInMillis instant
-led_by start step k day start_day instant r m nanos ends begins millis times =
-    (((((day -ℤ start_day) *ℤ pos 86_400_000 +ℤ m) +ℤ (pos k *ℤ step.days) *ℤ pos 86_400_000) +ℤ r), ends
-        ∙ in_parts day start_day (pos k *ℤ step.days) (pos k *ℤ step.microseconds) r m start nanos begins millis times)
+led_by start step k day start_day instant r m nanos ends begins millis times = (
+  ((((day -ℤ start_day) *ℤ pos 86_400_000 +ℤ m) +ℤ (pos k *ℤ step.days) *ℤ pos 86_400_000) +ℤ r),
+  ends
+      ∙ in_parts day start_day (pos k *ℤ step.days) (pos k *ℤ step.microseconds) r m start nanos begins millis times,
+)
 
 led_millis : (start : ℤ) (step : Interval) (k : ℕ) (year instant : ℤ) → LeadsTo start step k year instant → IsInMillis start
     → IsWholeMillis step → IsInMillis instant
 led_millis start step k year instant lead millis whole =
     let times = times_whole k step.microseconds whole.0 whole.1 in
     led_by start step k (day_of (YMD year lead.month (held_day year lead.month lead.day)))
-        (day_of (YMD lead.start_year lead.start_month lead.day)) instant times.0 millis.0 lead.nanos lead.ends lead.begins.within.same
-        millis.1 times.1
+    (day_of (YMD lead.start_year lead.start_month lead.day)) instant times.0 millis.0 lead.nanos lead.ends lead.begins.within.same
+    millis.1 times.1
 
 one_writable : AreCalendarDates → (start : ℤ) (step : Interval) (k : ℕ) (x : ℤ) → IsAt start step k (Some x) → IsInMillis start
     → IsWholeMillis step → IsWritable x
@@ -94,5 +96,7 @@ one_writable laws start step k x (year, lead, civil, within) millis whole =
 pub all_writable : AreCalendarDates → (start : ℤ) (step : Interval) (k : ℕ) (instants : List ℤ) → AreAt start step k instants
     → IsInMillis start → IsWholeMillis step → AreWritable instants
 all_writable laws start step k [] h millis whole = tt
-all_writable laws start step k (x ∷ more) h millis whole = (one_writable laws start step k x h.0 millis whole,
-    all_writable laws start step (k + 1) more h.1 millis whole)
+all_writable laws start step k (x ∷ more) h millis whole = (
+  one_writable laws start step k x h.0 millis whole,
+  all_writable laws start step (k + 1) more h.1 millis whole,
+)

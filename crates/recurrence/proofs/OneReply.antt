@@ -36,14 +36,14 @@ text_in (Err cause) = []
 one_line : AreOne → (instant : ℤ) (a b : List ℕ) → IsInstantLine a instant → IsInstantLine b instant → a ≡ b
 one_line ones instant a b (text, is, whole) (text₂, is₂, whole₂) =
     whole ∙ (ap (λ (l : List ℕ). l ++ codes "\n") (ap text_in (ones.writing IsoDateTime (Instant instant) (Ok text) (Ok text₂) is is₂))
-        ∙ sym whole₂)
+    ∙ sym whole₂)
 
 one_series_reply : AreOne → (last : ℕ) (start : ℤ) (step : Interval) (a b : List ℕ) → IsSeriesReply last start step a
     → IsSeriesReply last start step b → a ≡ b
 one_series_reply ones last start step a b h k =
     let same = one_series ones.dates start step last h.instants k.instants h.stop k.stop h.series k.series in
     let text = one_join IsInstantLine (one_line ones) k.instants h.text k.text
-        (subst (IsJoin IsInstantLine h.text) same.0 h.written) k.written in
+    (subst (IsJoin IsInstantLine h.text) same.0 h.written) k.written in
     h.joined ∙ (ap₂ (λ (s : List ℕ) (o : Option ℕ). s ++ stop_text o) text same.1 ∙ sym k.joined)
 
 -- ---- the step
@@ -102,14 +102,14 @@ one_count ones last start step a b (inl h) (inr k) = absurd (omega (arith, h.0, 
 one_count ones last start step a b (inr h) (inl k) = absurd (omega (arith, h.0, k.0))
 one_count ones last start step a b (inr (few, moment, is, reply)) (inr (few₂, moment₂, is₂, reply₂)) =
     one_start ones last moment₂ step a b (subst (λ (m : Result Value Cause). IsStartReply last m step a)
-        (ones.reading IsoDateTime start moment moment₂ is is₂) reply) reply₂
+    (ones.reading IsoDateTime start moment moment₂ is is₂) reply) reply₂
 
 same_parts : (digits start step digits₂ start₂ step₂ out : List ℕ) → (digits ≡ digits₂) × (start ≡ start₂) × (step ≡ step₂)
     → IsCountReply (number_of digits) start step out → IsCountReply (number_of digits₂) start₂ step₂ out
 same_parts digits start step digits₂ start₂ step₂ out same h =
     subst (λ (d : List ℕ). IsCountReply (number_of d) start₂ step₂ out) same.0
-        (subst (λ (s : List ℕ). IsCountReply (number_of digits) s step₂ out) same.1
-        (subst (λ (t : List ℕ). IsCountReply (number_of digits) start t out) same.2 h))
+    (subst (λ (s : List ℕ). IsCountReply (number_of digits) s step₂ out) same.1
+    (subst (λ (t : List ℕ). IsCountReply (number_of digits) start t out) same.2 h))
 
 pub one_reply : AreOne → (line a b : List ℕ) → IsReply a line → IsReply b line → a ≡ b
 one_reply ones line a b (inl h) (inl k) = h.1 ∙ sym k.1
@@ -117,7 +117,7 @@ one_reply ones line a b (inl h) (inr (digits, start, step, asked, is)) = absurd 
 one_reply ones line a b (inr (digits, start, step, asked, is)) (inl k) = absurd (k.0 digits start step asked)
 one_reply ones line a b (inr (digits, start, step, asked, is)) (inr (digits₂, start₂, step₂, asked₂, is₂)) =
     one_count ones (number_of digits₂) start₂ step₂ a b (same_parts digits start step digits₂ start₂ step₂ a
-        (one_request line digits start step digits₂ start₂ step₂ asked.1 asked₂.1) is) is₂
+    (one_request line digits start step digits₂ start₂ step₂ asked.1 asked₂.1) is) is₂
 
 pub one_output : AreOne → (lines : List (List ℕ)) (a b : List ℕ) → AreReplies lines a → AreReplies lines b → a ≡ b
 one_output ones lines a b h k = one_join IsReply (one_reply ones) lines a b h k

@@ -66,10 +66,10 @@ pub without_months : (start : ℤ) (step : Interval) (k : ℕ) (x : ℤ) → ste
 without_months start step k x none (year, lead, civil, within) =
     let exists = lead.begins.exists in
     let again = same_again lead.start_year year lead.start_month lead.month (pos k *ℤ step.months)
-        (times_zero k step.months none) exists.0 exists.1 lead.months in
+    (times_zero k step.months none) exists.0 exists.1 lead.months in
     let date = same_date lead.start_year year lead.start_month lead.month lead.day again.0 again.1 exists.3 in
     lead.ends ∙ ap (λ (z : ℤ). z +ℤ nanos_of step k) (ap (λ (day : ℤ). day *ℤ pos 86_400_000_000_000 +ℤ pos lead.nanos) date
-        ∙ sym lead.begins.within.same)
+    ∙ sym lead.begins.within.same)
 
 even_by : (start a b day_k micro_k days micros day_next micro_next : ℤ)
     → a ≡ start +ℤ (day_k *ℤ pos 86_400_000_000_000 +ℤ micro_k *ℤ pos 1000)
@@ -82,8 +82,8 @@ pub even : (start : ℤ) (step : Interval) (k : ℕ) (a b : ℤ) → step.months
     → IsAt start step (k + 1) (Some b) → b ≡ a +ℤ (step.days *ℤ pos 86_400_000_000_000 +ℤ step.microseconds *ℤ pos 1000)
 even start step k a b none h g =
     even_by start a b (pos k *ℤ step.days) (pos k *ℤ step.microseconds) step.days step.microseconds (pos (k + 1) *ℤ step.days)
-        (pos (k + 1) *ℤ step.microseconds) (without_months start step k a none h) (without_months start step (k + 1) b none g)
-        (more_times k step.days) (more_times k step.microseconds)
+    (pos (k + 1) *ℤ step.microseconds) (without_months start step k a none h) (without_months start step (k + 1) b none g)
+    (more_times k step.days) (more_times k step.microseconds)
 
 -- ---- a step of zero
 
@@ -100,8 +100,11 @@ repeats_on start step k year month day nanos months still date = record {
   nanos = nanos;
   month = month;
   begins = date;
-  months = record { first = date.exists.0; last = date.exists.1;
-      same = let none = times_zero k step.months months in omega (arith, ints, none) };
+  months = record {
+    first = date.exists.0;
+    last = date.exists.1;
+    same = let none = times_zero k step.months months in omega (arith, ints, none);
+  };
   ends = stays start (day_of (YMD year month day)) (day_of (YMD year month (held_day year month day))) (nanos_of step k) nanos date.within
       (same_date year year month month day refl refl date.exists.3) still;
 }
@@ -112,9 +115,12 @@ repeats laws start step k months days micros civil =
     let c = each_civil_instant start (civil_bounds laws start civil) in
     let d = c.0.date in
     let date : IsOnDate start d.year d.month d.day (time_nanos c.0.time) = subst
-        (λ (z : ℤ). IsOnDate z d.year d.month d.day (time_nanos c.0.time)) c.1 (on_date laws c.0) in
-    (d.year, repeats_on start step k d.year d.month d.day (time_nanos c.0.time) months (no_nanos step k days micros) date, date.civil,
-        civil)
+    (λ (z : ℤ). IsOnDate z d.year d.month d.day (time_nanos c.0.time)) c.1 (on_date laws c.0) in (
+      d.year,
+      repeats_on start step k d.year d.month d.day (time_nanos c.0.time) months (no_nanos step k days micros) date,
+      date.civil,
+      civil,
+    )
 
 -- ---- months alone
 
@@ -131,8 +137,11 @@ lead_date : (start : ℤ) (step : Interval) (k : ℕ) (year x : ℤ) (lead : Lea
 lead_date start step k year x lead civil none = record {
   civil = civil;
   exists = held_exists year lead.month lead.day lead.months.first lead.months.last lead.begins.exists.2;
-  within = record { below = lead.begins.within.below; same = without_rest x
-      (day_of (YMD year lead.month (held_day year lead.month lead.day))) (nanos_of step k) lead.nanos lead.ends none };
+  within = record {
+    below = lead.begins.within.below;
+    same = without_rest x
+        (day_of (YMD year lead.month (held_day year lead.month lead.day))) (nanos_of step k) lead.nanos lead.ends none;
+  };
 }
 
 -- the date to which months alone lead
@@ -142,7 +151,7 @@ IsMonthsLater months year month day nanos later_year later_month later_day later
 
 same_later : (months year year₂ later later₂ : ℤ) (month month₂ day day₂ nanos nanos₂ later_month later_month₂ later_day later_nanos : ℕ)
     → year ≡ year₂ → month ≡ month₂ → day ≡ day₂ → nanos ≡ nanos₂ → later ≡ later₂ → later_month ≡ later_month₂
-        → held_day later later_month day ≡ later_day → nanos ≡ later_nanos
+    → held_day later later_month day ≡ later_day → nanos ≡ later_nanos
     → IsMonthLater months year month later later_month
     → IsMonthsLater months year₂ month₂ day₂ nanos₂ later₂ later_month₂ later_day later_nanos
 same_later months year year₂ later later₂ month month₂ day day₂ nanos nanos₂ later_month later_month₂ later_day later_nanos y m d n l lm
@@ -157,8 +166,8 @@ months_alone laws start step k x year later_year month day nanos later_month lat
     (led_year, lead, civil, within) from to =
     let start_is = one_date laws start lead.start_year year lead.start_month lead.day lead.nanos month day nanos lead.begins from in
     let end_is = one_date laws x led_year later_year lead.month
-        (held_day led_year lead.month lead.day) lead.nanos later_month later_day later_nanos
-        (lead_date start step k led_year x lead civil (no_nanos step k days micros)) to in
+    (held_day led_year lead.month lead.day) lead.nanos later_month later_day later_nanos
+    (lead_date start step k led_year x lead civil (no_nanos step k days micros)) to in
     same_later (pos k *ℤ step.months) lead.start_year year led_year later_year lead.start_month month lead.day day lead.nanos nanos
-        lead.month later_month later_day later_nanos start_is.0 start_is.1 start_is.2 start_is.3 end_is.0 end_is.1 end_is.2 end_is.3
-        lead.months
+    lead.month later_month later_day later_nanos start_is.0 start_is.1 start_is.2 start_is.3 end_is.0 end_is.1 end_is.2 end_is.3
+    lead.months

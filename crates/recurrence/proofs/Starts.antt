@@ -67,9 +67,12 @@ civil_bounds laws z (day, nanos, within, civil) = civil_range z day nanos within
 
 pub is_civil : AreCalendarDates → (z : ℤ) → IsCivilNanos z → IsCivilInstant z
 is_civil laws z h =
-    let c = each_civil_instant z h in
-    (epoch_day c.0.date, time_nanos c.0.time, record { below = time_nanos_bound c.0.time; same = sym c.1 ∙ civil_nanos-parts c.0 },
-        (laws.civil (epoch_day c.0.date)).1 (epoch_day_range c.0.date))
+    let c = each_civil_instant z h in (
+      epoch_day c.0.date,
+      time_nanos c.0.time,
+      record { below = time_nanos_bound c.0.time; same = sym c.1 ∙ civil_nanos-parts c.0 },
+      (laws.civil (epoch_day c.0.date)).1 (epoch_day_range c.0.date),
+    )
 
 pub date_is_civil : AreCalendarDates → (z year : ℤ) (month day nanos : ℕ) → IsOnDate z year month day nanos → IsCivilInstant z
 date_is_civil laws z year month day nanos h =
@@ -83,8 +86,11 @@ on_date laws c =
     record {
       civil = omega (arith, ints);
       exists = laws.exists c.date;
-      within = record { below = time_nanos_bound c.time; same = civil_nanos-parts c
-          ∙ ap (λ (day : ℤ). day *ℤ pos 86_400_000_000_000 +ℤ pos (time_nanos c.time)) (sym (laws.day c.date)) };
+      within = record {
+        below = time_nanos_bound c.time;
+        same = civil_nanos-parts c
+            ∙ ap (λ (day : ℤ). day *ℤ pos 86_400_000_000_000 +ℤ pos (time_nanos c.time)) (sym (laws.day c.date));
+      };
     }
 
 -- ---- where the months lead
@@ -97,8 +103,12 @@ later_by months year later month later_month some later_some e = omega (arith, i
 month_later : (d : CivilDate) (months : ℤ) → IsMonthLater months d.year d.month (shifted_year d months) (shifted_month d months)
 month_later d months =
     let within = shifted_month_in d months in
-    record { first = within.0; last = within.1; same = later_by months d.year (shifted_year d months) d.month
-        (shifted_month d months) d.month_in.0 within.0 (shifted_number d months) }
+    record {
+      first = within.0;
+      last = within.1;
+      same = later_by months d.year (shifted_year d months) d.month
+          (shifted_month d months) d.month_in.0 within.0 (shifted_number d months);
+    }
 
 pub same_month : (months year a b : ℤ) (month m n : ℕ) → IsMonthLater months year month a m → IsMonthLater months year month b n → (a ≡ b)
     × (m ≡ n)
@@ -138,7 +148,7 @@ leads laws c step k = record {
 
 shifted_date : (d : CivilDate) (months : ℤ) → IsYear (shifted_year d months) → AreCalendarDates
     → day_of (YMD (shifted_year d months) (shifted_month d months) (held_day (shifted_year d months) (shifted_month d months) d.day))
-        ≡ add_months d months
+    ≡ add_months d months
 shifted_date d months year laws =
     let civil = shifted_civil d months year in
     let later : CivilDate = record {
@@ -193,24 +203,28 @@ in_year : AreCalendarDates → (c : CivilDateTime) (step : Interval) (k : ℕ) �
 unfolding civil_or_none
 in_year laws c step k year true e =
     let lead = subst (LeadsTo (civil_nanos c) step k (shifted_year c.date (months_of step k))) (moved_is laws c step k year)
-        (leads laws c step k) in
+    (leads laws c step k) in
     rw e (shifted_year c.date (months_of step k), lead, civil_year _ year, is_civil laws (moved c step k) (between_is _ _ _ e))
 in_year laws c step k year false e =
     let lead = subst (LeadsTo (civil_nanos c) step k (shifted_year c.date (months_of step k))) (moved_is laws c step k year)
-        (leads laws c step k) in
-    rw e (inr (shifted_year c.date (months_of step k), moved c step k,
-        lead, λ both. true≢false (sym (between_true _ _ _ (civil_bounds laws (moved c step k) both.1)) ∙ e)))
+    (leads laws c step k) in
+    rw e (inr (
+      shifted_year c.date (months_of step k),
+      moved c step k,
+      lead,
+      λ both. true≢false (sym (between_true _ _ _ (civil_bounds laws (moved c step k) both.1)) ∙ e),
+    ))
 
 from_civil : AreCalendarDates → (c : CivilDateTime) (step : Interval) (k : ℕ) (t : Bool)
     → is_civil_year (shifted_year c.date (months_of step k)) ≡ t → IsAt (civil_nanos c) step k (at_from c step k)
 from_civil laws c step k true e =
     let year = between_is _ _ _ e in
     subst (IsAt (civil_nanos c) step k) (sym (in_civil_year c step k year))
-        (in_year laws c step k year (is_civil_instant (moved c step k)) refl)
+    (in_year laws c step k year (is_civil_instant (moved c step k)) refl)
 from_civil laws c step k false e =
     let out : IsYear (shifted_year c.date (months_of step k)) → ⊥ = λ year. true≢false (sym (between_true _ _ _ year) ∙ e) in
     subst (IsAt (civil_nanos c) step k) (sym (no_civil_year c step k out))
-        (inr (shifted_year c.date (months_of step k), landed c step k, leads laws c step k, λ both. out (is_year _ both.0)))
+    (inr (shifted_year c.date (months_of step k), landed c step k, leads laws c step k, λ both. out (is_year _ both.0)))
 
 pub at_is : AreCalendarDates → (start : ℤ) (step : Interval) (k : ℕ) (found : Option CivilDateTime) → (IsSome found ↔ IsCivilNanos start)
     → IfSome found (λ c. civil_nanos c ≡ start) → IsAt start step k (at_start found step k)
@@ -233,9 +247,11 @@ pub one_lead : AreCalendarDates → (start : ℤ) (step : Interval) (k : ℕ) (y
 one_lead laws start step k year year₂ instant instant₂ h g =
     let same = one_date laws start h.start_year g.start_year h.start_month h.day h.nanos g.start_month g.day g.nanos h.begins g.begins in
     let months = later_from _ h.start_year g.start_year year₂ h.start_month g.start_month g.month same.0 same.1 g.months in
-    let month = same_month _ h.start_year year year₂ h.start_month h.month g.month h.months months in
-    (month.0, h.ends ∙ (same_end year year₂ (nanos_of step k) h.month h.day h.nanos g.month g.day g.nanos month.0 month.1 same.2 same.3
-        ∙ sym g.ends))
+    let month = same_month _ h.start_year year year₂ h.start_month h.month g.month h.months months in (
+      month.0,
+      h.ends ∙ (same_end year year₂ (nanos_of step k) h.month h.day h.nanos g.month g.day g.nanos month.0 month.1 same.2 same.3
+          ∙ sym g.ends),
+    )
 
 some_or_none : AreCalendarDates → (start : ℤ) (step : Interval) (k : ℕ) (instant : ℤ) → IsAt start step k (Some instant)
     → IsAt start step k None → ⊥

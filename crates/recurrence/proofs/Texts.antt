@@ -60,7 +60,7 @@ at_moment laws c z is whole =
     let second = c.time.second_in in
     let subsec = c.time.subsec_in in
     let times : clock_of (utc c).time ≡ time_nanos c.time = clock_same c.time.hour c.time.minute c.time.second c.time.subsec_nanosecond
-        whole in
+    whole in
     record {
       year = c.date.year;
       month = c.date.month;

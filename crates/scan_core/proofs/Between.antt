@@ -19,9 +19,9 @@ pub between_split : (text : List ℕ) (start mid end : ℕ) → start ≤ mid �
 between_split text start mid end first last =
     let parts : end - start ≡ (mid - start) + (end - mid) = omega arith in
     let there : drop (mid - start) (drop start text) ≡ drop mid text = drop-drop (mid - start) start text
-        ∙ ap (λ (n : ℕ). drop n text) (omega arith) in
+    ∙ ap (λ (n : ℕ). drop n text) (omega arith) in
     rw parts (take-add (mid - start) (end - mid) (drop start text)
-        ∙ ap (λ (l : List ℕ). between start mid text ++ take (end - mid) l) there)
+    ∙ ap (λ (l : List ℕ). between start mid text ++ take (end - mid) l) there)
 
 -- a byte at the start
 pub between_cons : (text : List ℕ) (at end : ℕ) → at < end → end ≤ length text
@@ -36,7 +36,7 @@ pub between_push : (text : List ℕ) (start at : ℕ) → start ≤ at → at < 
 between_push text start at order within =
     between_split text start at (at + 1) order (omega arith)
     ∙ ap (λ (l : List ℕ). between start at text ++ l) (between_cons text at (at + 1) (omega arith) (omega arith)
-        ∙ ap (λ (l : List ℕ). get_or text at 0 ∷ l) (between_none text (at + 1)))
+    ∙ ap (λ (l : List ℕ). get_or text at 0 ∷ l) (between_none text (at + 1)))
 
 -- a byte before the start
 pub between_before : (text : List ℕ) (at end : ℕ) → 0 < at → at ≤ end → end ≤ length text

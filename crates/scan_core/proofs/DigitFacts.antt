@@ -40,7 +40,7 @@ number_after n [] = omega arith
 number_after n (d ∷ ds) =
     let v = digit_value d in
     rw (pow-suc 10 (length ds)) (weighed n v (10 ^ length ds) (number_of ds) _ _ (number_after (n * 10 + v) ds)
-        (number_after (0 * 10 + v) ds))
+    (number_after (0 * 10 + v) ds))
 
 after-append : (n : ℕ) (xs ys : List ℕ) → digits_value_after 10 n (xs ++ ys) ≡ digits_value_after 10 (digits_value_after 10 n xs) ys
 after-append n [] ys = refl

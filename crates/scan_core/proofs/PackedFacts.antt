@@ -32,7 +32,7 @@ pub letter_modulo : (value n l : ℕ) → value ≡ n % 2 ^ 64 → (value * 256 
 letter_modulo value n l same =
     mod-add-mod (value * 256) (2 ^ 64) l ∙ (ap (λ (v : ℕ). (v * 256 + l) % 2 ^ 64) same
     ∙ (sym (mod-add-mod (n % 2 ^ 64 * 256) (2 ^ 64) l) ∙ (ap (λ (v : ℕ). (v + l) % 2 ^ 64) (mul-mod_first n 256 (2 ^ 64))
-        ∙ mod-add-mod (n * 256) (2 ^ 64) l)))
+    ∙ mod-add-mod (n * 256) (2 ^ 64) l)))
 
 -- the letters behind a number stand at its end
 packed_apart : (n : ℕ) (xs : List ℕ) → packed_behind n xs ≡ packed xs + n * 256 ^ length xs

@@ -103,10 +103,10 @@ padded_pair width n w fits =
     let hundredth : n / 10 / 10 ≡ n / 100 = omega arith in
     let narrower : (width - 1) - 1 ≡ width - 2 = omega arith in
     let pair : padded_digits 2 (n % 100) ≡ (48 + n / 10 % 10) ∷ ((48 + n % 10) ∷ []) = padded_two (n % 100) (omega arith)
-        ∙ ap₂ (λ (t d : ℕ). (48 + t) ∷ ((48 + d) ∷ [])) tens ones in
+    ∙ ap₂ (λ (t d : ℕ). (48 + t) ∷ ((48 + d) ∷ [])) tens ones in
     let front : padded_digits (width - 1) (n / 10) ≡ padded_digits (width - 2) (n / 100)
-        ++ ((48 + n / 10 % 10) ∷ []) = padded_last (width - 1) (n / 10) (omega (arith, w)) (omega (arith, fits))
-        ∙ ap₂ (λ (k t : ℕ). padded_digits k t ++ ((48 + n / 10 % 10) ∷ [])) narrower hundredth in
+    ++ ((48 + n / 10 % 10) ∷ []) = padded_last (width - 1) (n / 10) (omega (arith, w)) (omega (arith, fits))
+    ∙ ap₂ (λ (k t : ℕ). padded_digits k t ++ ((48 + n / 10 % 10) ∷ [])) narrower hundredth in
     padded_last width n (omega (arith, w)) fits
     ∙ ap (λ (l : List ℕ). l ++ ((48 + n % 10) ∷ [])) front
     ∙ append_assoc (padded_digits (width - 2) (n / 100)) ((48 + n / 10 % 10) ∷ []) ((48 + n % 10) ∷ [])

@@ -31,7 +31,7 @@ cut-le scale ds all =
     let p = 10 ^ length ds in
     let few = mul-le-mul_right scale (number_of-lt ds all) in
     let below : number_of ds * scale / p < scale + 1 = div_below (number_of ds * scale) p (scale + 1) (power-pos (length ds))
-        (omega (arith, power-pos (length ds))) in
+    (omega (arith, power-pos (length ds))) in
     omega arith
 
 -- what a step of the carry holds fits 64 bits
@@ -76,8 +76,8 @@ rounded-le scale ds all =
     let p = 10 ^ length ds in
     let few = mul-le-mul_right scale (number_of-lt ds all) in
     let below : (2 * number_of ds * scale + p) / (2 * p) < scale
-        + 1 = div_below (2 * number_of ds * scale + p) (2 * p) (scale + 1) (omega (arith, power-pos (length ds)))
-        (omega (arith, power-pos (length ds))) in
+    + 1 = div_below (2 * number_of ds * scale + p) (2 * p) (scale + 1) (omega (arith, power-pos (length ds)))
+    (omega (arith, power-pos (length ds))) in
     omega arith
 
 pub rounded_six : (ds : List ℕ) → length ds ≡ 6 → rounded 1_000_000 ds ≡ number_of ds

@@ -108,5 +108,5 @@ pub some_passed : (test : ℕ → Bool) (bytes : List ℕ) (old new : Place) (mo
     → (length bytes ≡ most) ⊎ ((length bytes ≤ most) × (leading test (ahead new) ≡ [])) → take most (leading test (ahead old)) ≡ bytes
 some_passed test bytes old new most m (inl full) =
     ap (take most) m.front ∙ ap (λ (n : ℕ). take n (bytes ++ leading test (ahead new))) (sym full)
-        ∙ take_front bytes (leading test (ahead new))
+    ∙ take_front bytes (leading test (ahead new))
 some_passed test bytes old new most m (inr none) = ap (take most) (among_all test bytes old new m none.1) ∙ take_all most bytes none.0

@@ -84,7 +84,7 @@ main_or_part_fits : (part : Part) (c : Count) → AreDigits c.fraction → (part
 main_or_part_fits part c digits =
     rw (share-steps part c)
     (main_or_fits part c.unit c.negative (number_of c.whole) (rounded (scale_of c.unit) c.fraction)
-        (rounded-le (scale_of c.unit) c.fraction digits))
+    (rounded-le (scale_of c.unit) c.fraction digits))
 
 -- a part beside the main one fits
 pub other_part_fits : (part : Part) (c : Count) → AreDigits c.fraction → part ≢ main_part c.unit → fits_type part (share part c) ≡ true

@@ -40,9 +40,11 @@ pub zero_dropped : (width n : ℕ) → 0 < n → n < 2 ^ 64 → n % 10 ≡ 0
     × (length (padded_digits width n) ≡ length (padded_digits (width - 1) (n / 10)) + 1)
 zero_dropped width n some fits none =
     let split = padded_more width n (omega (arith, some, none)) fits in
-    let last = rw none at split in
-    (ap trimmed_digits last ∙ trimmed_zero (padded_digits (width - 1) (n / 10)), ap length last
-        ∙ length_push (padded_digits (width - 1) (n / 10)) 48)
+    let last = rw none at split in (
+      ap trimmed_digits last ∙ trimmed_zero (padded_digits (width - 1) (n / 10)),
+      ap length last
+          ∙ length_push (padded_digits (width - 1) (n / 10)) 48,
+    )
 
 -- the digits are kept where the last is no zero
 pub kept : (width n : ℕ) → n < 2 ^ 64 → n % 10 ≢ 0 → trimmed_digits (padded_digits width n) ≡ padded_digits width n
@@ -106,7 +108,7 @@ tens v s p =
     let over : 2 * (v * 10) * s + p * 10 ≡ 10 * (2 * v * s + p) = omega arith in
     let under : 2 * (p * 10) ≡ 10 * (2 * p) = omega arith in
     rw (over, under) (sym (div-div-eq-div-mul (10 * (2 * v * s + p)) 10 (2 * p))
-        ∙ ap (λ (x : ℕ). x / (2 * p)) (mul-div_cancel_left (2 * v * s + p) (omega arith)))
+    ∙ ap (λ (x : ℕ). x / (2 * p)) (mul-div_cancel_left (2 * v * s + p) (omega arith)))
 
 rounded-zero_behind : (scale : ℕ) (ds : List ℕ) → rounded scale (ds ++ (48 ∷ [])) ≡ rounded scale ds
 unfolding rounded

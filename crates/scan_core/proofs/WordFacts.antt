@@ -123,7 +123,7 @@ words-behind (x ∷ []) b rest h = let blank = h in rw blank (behind_one (is_bla
     (words-blank b rest h))
 words-behind (x ∷ y ∷ front) b rest h =
     behind_two (is_blank x) (is_blank y) x (words (y ∷ (front ++ (b ∷ rest)))) (words (y ∷ front)) (words rest)
-        (words-behind (y ∷ front) b rest h)
+    (words-behind (y ∷ front) b rest h)
     (λ solid. let some = word_begins y front solid in onto_join x some.0 (words (y ∷ front)) some.1 (words rest) some.2)
 
 -- words on both sides of a place where a word may begin
@@ -132,4 +132,4 @@ words-closed front rest (inl none) = rw none refl
 words-closed front rest (inr (before, b, blank, split)) =
     let alone : words front ≡ words before = ap words split ∙ words-behind before b [] blank ∙ append-nil (words before) in
     ap words (ap (λ (l : List ℕ). l ++ rest) split ∙ append_assoc before (b ∷ []) rest) ∙ words-behind before b rest blank
-        ∙ ap (λ (l : List (List ℕ)). l ++ words rest) (sym alone)
+    ∙ ap (λ (l : List (List ℕ)). l ++ words rest) (sym alone)

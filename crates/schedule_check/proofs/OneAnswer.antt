@@ -62,7 +62,7 @@ of_one : HasOneReading → (start length : List ℕ) (line : ℕ) (a b : Result 
     → IsSlotOf start length line b → a ≡ b
 of_one one start length line a b h k =
     from_one one k.0 length line a b (subst (λ (t : Result ℕ Cause). IsSlotFrom t length line a)
-        (as_one one Toml file_time.held start h.0 k.0 h.1 k.1) h.2) k.2
+    (as_one one Toml file_time.held start h.0 k.0 h.1 k.1) h.2) k.2
 
 pub one_slot : HasOneReading → (text : List ℕ) (line : ℕ) (a b : Result Slot Fault) → IsSlot text line a → IsSlot text line b → a ≡ b
 one_slot one text line a b (inl h) (inl k) = h.1 ∙ sym k.1
@@ -71,7 +71,7 @@ one_slot one text line a b (inr h) (inl k) = absurd (k.0 h.0 h.1 h.2)
 one_slot one text line a b (inr h) (inr k) =
     let parts = split_one 9 h.0 k.0 h.1 k.1 h.2.split.first k.2.split.first (sym h.2.split.joined ∙ k.2.split.joined) in
     of_one one k.0 k.1 line a b (subst (λ (l : List ℕ). IsSlotOf k.0 l line a) parts.1
-        (subst (λ (s : List ℕ). IsSlotOf s h.1 line a) parts.0 h.3)) k.3
+    (subst (λ (s : List ℕ). IsSlotOf s h.1 line a) parts.0 h.3)) k.3
 
 -- ---- one list of slots, and one first fault
 
@@ -96,7 +96,7 @@ read_one one n (text ∷ texts) xs ys h k =
 fault_one : HasOneReading → (n : ℕ) (before other : List (List ℕ)) (line line' : List ℕ) (after after' : List (List ℕ)) (xs ys : List Slot)
     (f g : Fault)
     → before ++ line ∷ after ≡ other ++ line' ∷ after' → AreRead IsSlot n before xs → AreRead IsSlot n other ys
-        → IsSlot line (n + length before) (Err f) → IsSlot line' (n + length other) (Err g)
+    → IsSlot line (n + length before) (Err f) → IsSlot line' (n + length other) (Err g)
     → (length before ≡ length other) × (f ≡ g)
 fault_one one n [] [] line line' after after' xs ys f g same h k bad bad' =
     let here : line ≡ line' = cc in
@@ -104,11 +104,11 @@ fault_one one n [] [] line line' after after' xs ys f g same h k bad bad' =
 fault_one one n [] (text ∷ other) line line' after after' xs ys f g same h k bad bad' =
     let here : line ≡ text = cc in
     absurd (never k.0 f (one_slot one text n (Ok k.0) (Err f) k.2
-        (subst (λ (l : List ℕ). IsSlot l n (Err f)) here (subst (λ (m : ℕ). IsSlot line m (Err f)) (omega arith) bad))))
+    (subst (λ (l : List ℕ). IsSlot l n (Err f)) here (subst (λ (m : ℕ). IsSlot line m (Err f)) (omega arith) bad))))
 fault_one one n (text ∷ before) [] line line' after after' xs ys f g same h k bad bad' =
     let here : line' ≡ text = cc in
     absurd (never h.0 g (one_slot one text n (Ok h.0) (Err g) h.2
-        (subst (λ (l : List ℕ). IsSlot l n (Err g)) here (subst (λ (m : ℕ). IsSlot line' m (Err g)) (omega arith) bad'))))
+    (subst (λ (l : List ℕ). IsSlot l n (Err g)) here (subst (λ (m : ℕ). IsSlot line' m (Err g)) (omega arith) bad'))))
 fault_one one n (text ∷ before) (text' ∷ other) line line' after after' xs ys f g same h k bad bad' =
     let tails : before ++ line ∷ after ≡ other ++ line' ∷ after' = cc in
     let rest = fault_one one (n + 1) before other line line' after after' h.1 k.1 f g tails h.3 k.3
@@ -120,7 +120,7 @@ one_fault : HasOneReading → (texts : List (List ℕ)) (n m : ℕ) (f g : Fault
 one_fault one texts n m f g h k =
     let both = fault_one one 1 h.before k.before h.line k.line h.after k.after h.values k.values f g (sym h.split ∙ k.split) h.read k.read
     (subst (λ (i : ℕ). IsSlot h.line i (Err f)) (let c = h.counted in omega (arith, c)) h.faulty)
-        (subst (λ (i : ℕ). IsSlot k.line i (Err g)) (let c = k.counted in omega (arith, c)) k.faulty) in
+    (subst (λ (i : ℕ). IsSlot k.line i (Err g)) (let c = k.counted in omega (arith, c)) k.faulty) in
     (let a = h.counted in let b = k.counted in let e = both.0 in omega (arith, a, b, e), both.1)
 
 read_at : (n : ℕ) (before : List (List ℕ)) (line : List ℕ) (after : List (List ℕ)) (xs : List Slot)
@@ -134,7 +134,7 @@ not_both : HasOneReading → (texts : List (List ℕ)) (xs : List Slot) (n : ℕ
 not_both one texts xs n f read h =
     let good = read_at 1 h.before h.line h.after xs (subst (λ (l : List (List ℕ)). AreRead IsSlot 1 l xs) h.split read) in
     never good.0 f (one_slot one h.line n (Ok good.0) (Err f) (subst (λ (m : ℕ). IsSlot h.line m (Ok good.0))
-        (let c = h.counted in omega (arith, c)) good.1) h.faulty)
+    (let c = h.counted in omega (arith, c)) good.1) h.faulty)
 
 -- ---- one order, and one first clash
 
@@ -201,7 +201,7 @@ one_answer one input (Err (Clash a b)) (Ok ys) h k = absurd (k.1 h.2.0 h.2.1
 one_answer one input (Err (Clash a b)) (Err (Refused m g)) h k = absurd (not_both one (lines input) h.1.slots m g h.1.read k)
 one_answer one input (Err (Clash a b)) (Err (Clash c d)) h k =
     let same = clash_lines input k.0 a b c d k.1 (subst (λ (l : List Slot). IsClashOf l a b) (schedule_one one input h.0 k.0 h.1 k.1) h.2)
-        k.2 in
+    k.2 in
     let x = same.0 in let y = same.1 in cc
 one_answer one input (Err NoMemory) b h k = absurd h
 one_answer one input a (Err NoMemory) h k = absurd k
@@ -224,7 +224,7 @@ apart_or slots i j d order proper free less inside =
     let up = starts_rise slots order i j none (omega arith) inside in
     let own = proper j none inside in
     let told : (get_or slots i none).end ≤ (get_or slots j none).start = apart_by (get_or slots i none) (get_or slots j none) up own
-        (λ clash. free i j (less, inside, clash)) in
+    (λ clash. free i j (less, inside, clash)) in
     (rw (first, second) told, rw second own)
 
 pub slots_apart : (input : List ℕ) (ordered : List Slot) → Checks input (Ok ordered) → AllPairs (λ (a b : Slot). a.end ≤ b.start) ordered

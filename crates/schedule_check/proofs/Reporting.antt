@@ -61,7 +61,7 @@ one_more_line (s ∷ slots) zero d inside = append-nil (slot_line s)
 one_more_line (s ∷ slots) (suc n) d inside =
     ap (λ (m : ℕ). slot_lines (take m (s ∷ slots))) (next n)
     ∙ (ap (λ (l : List ℕ). slot_line s ++ l) (one_more_line slots n d (omega arith))
-        ∙ sym (append_assoc (slot_line s) (slot_lines (take n slots)) (slot_line (get_or slots n d))))
+    ∙ sym (append_assoc (slot_line s) (slot_lines (take n slots)) (slot_line (get_or slots n d))))
 
 -- the lines of so many slots, and those of the others
 lines_cut : (slots : List Slot) (n : ℕ) → slot_lines slots ≡ slot_lines (take n slots) ++ slot_lines (drop n slots)
@@ -69,12 +69,12 @@ lines_cut slots zero = refl
 lines_cut [] (suc n) = refl
 lines_cut (s ∷ slots) (suc n) =
     ap (λ (l : List ℕ). slot_line s ++ l) (lines_cut slots n) ∙ sym
-        (append_assoc (slot_line s) (slot_lines (take n slots)) (slot_lines (drop n slots)))
+    (append_assoc (slot_line s) (slot_lines (take n slots)) (slot_lines (drop n slots)))
 
 -- a front of what waits and the lines of some slots is a front of what waits and all lines
 pub front_of_lines : (a b : Option (List ℕ)) (before : List ℕ) (slots : List Slot) (n : ℕ) (d : Slot) → n < length slots
     → AppendsFront a b (before ++ (slot_lines (take n slots) ++ slot_line (get_or slots n d)))
-        → AppendsFront a b (before ++ slot_lines slots)
+    → AppendsFront a b (before ++ slot_lines slots)
 front_of_lines a b before slots n d inside h =
     let last : List ℕ = slot_lines (drop (n + 1) slots) in
     let all : slot_lines slots ≡ (slot_lines (take n slots) ++ slot_line (get_or slots n d)) ++ last =

@@ -31,10 +31,18 @@ IsTail (Some text) place = IsPlaceText text place
 pub lines_by : (words : List ℕ) (from to : Form) (place : Place) → AskLines words from to place → (rest : Option (List ℕ))
     × AreForms words from to rest × IsTail rest place
 lines_by words from to Whole h = (None, h ∙ (sym (append-nil (names from to)) ∙ spelled from to []), tt)
-lines_by words from to (Field n) h = (Some (codes "field " ++ decimal (n + 1)), h.1
-    ∙ spelled from to (codes " field " ++ decimal (n + 1)), (h.0, refl))
-lines_by words from to (Word n) h = (Some (codes "word " ++ decimal (n + 1)), h.1
-    ∙ spelled from to (codes " word " ++ decimal (n + 1)), (h.0, refl))
+lines_by words from to (Field n) h = (
+  Some (codes "field " ++ decimal (n + 1)),
+  h.1
+      ∙ spelled from to (codes " field " ++ decimal (n + 1)),
+  (h.0, refl),
+)
+lines_by words from to (Word n) h = (
+  Some (codes "word " ++ decimal (n + 1)),
+  h.1
+      ∙ spelled from to (codes " word " ++ decimal (n + 1)),
+  (h.0, refl),
+)
 
 pub lines_of : (words : List ℕ) (from to : Form) (rest : Option (List ℕ)) (place : Place) → AreForms words from to rest → IsTail rest place
     → AskLines words from to place
@@ -42,12 +50,16 @@ lines_of words from to None Whole are tail = are ∙ (sym (spelled from to []) �
 lines_of words from to None (Field n) are tail = absurd tail
 lines_of words from to None (Word n) are tail = absurd tail
 lines_of words from to (Some text) Whole are tail = absurd tail
-lines_of words from to (Some text) (Field n) are tail =
-    (tail.0, are ∙ (ap (λ (l : List ℕ). name_of from ++ (32 ∷ (name_of to ++ (32 ∷ l)))) tail.1
-        ∙ sym (spelled from to (codes " field " ++ decimal (n + 1)))))
-lines_of words from to (Some text) (Word n) are tail =
-    (tail.0, are ∙ (ap (λ (l : List ℕ). name_of from ++ (32 ∷ (name_of to ++ (32 ∷ l)))) tail.1
-        ∙ sym (spelled from to (codes " word " ++ decimal (n + 1)))))
+lines_of words from to (Some text) (Field n) are tail = (
+  tail.0,
+  are ∙ (ap (λ (l : List ℕ). name_of from ++ (32 ∷ (name_of to ++ (32 ∷ l)))) tail.1
+      ∙ sym (spelled from to (codes " field " ++ decimal (n + 1)))),
+)
+lines_of words from to (Some text) (Word n) are tail = (
+  tail.0,
+  are ∙ (ap (λ (l : List ℕ). name_of from ++ (32 ∷ (name_of to ++ (32 ∷ l)))) tail.1
+      ∙ sym (spelled from to (codes " word " ++ decimal (n + 1)))),
+)
 
 pub text_by : (words : List ℕ) (from to : Form) (text : List ℕ) → AskText words from to text → AreForms words from to (Some text)
 text_by words from to text h = h.0 ∙ spelled from to (codes " " ++ text)
@@ -164,7 +176,7 @@ read_lines_are words from to text asked are only by f t place = (
   λ is.
       let h = (by f t place).0 is in
       lines_of words f t (Some text) place (subst (λ (x : Form). AreForms words x t (Some text)) (sym h.0)
-          (subst (λ (x : Form). AreForms words from x (Some text)) (sym h.1) are)) h.2,
+      (subst (λ (x : Form). AreForms words from x (Some text)) (sym h.1) are)) h.2,
   λ ask.
       let k = lines_by words f t place ask in
       let same = only f t k.0 k.1 in
@@ -173,12 +185,12 @@ read_lines_are words from to text asked are only by f t place = (
 
 pub read_text_is : (words : List ℕ) (from to : Form) (text : List ℕ) (asked : Asked) → AreForms words from to (Some text)
     → ((f t : Form) (start : ℕ) → asked ≡ Text f t start → (f ≡ from) × (t ≡ to) × (start ≤ length words) × (text ≡ drop start words)
-        × (BeginsPlace text → ⊥))
+    × (BeginsPlace text → ⊥))
     → (f t : Form) (start : ℕ) → asked ≡ Text f t start → (start ≤ length words) × AskText words f t (drop start words)
 read_text_is words from to text asked are by f t start is =
     let h = by f t start is in
     let moved : AreForms words f t (Some text) = subst (λ (x : Form). AreForms words x t (Some text)) (sym h.0)
-        (subst (λ (x : Form). AreForms words from x (Some text)) (sym h.1) are) in
+    (subst (λ (x : Form). AreForms words from x (Some text)) (sym h.1) are) in
     (h.2, subst (λ (l : List ℕ). AskText words f t l) h.3 (text_of words f t text moved h.4))
 
 pub read_text_only : (words : List ℕ) (from to : Form) (text : List ℕ) (asked : Asked) → Only words from to (Some text)
@@ -207,7 +219,7 @@ nothing_by words Nothing lines text none = refl
 pub read_nothing : (words : List ℕ) (from to : Form) (text : List ℕ) (asked : Asked) → AreForms words from to (Some text)
     → Only words from to (Some text) → ByPlace from to text asked
     → ((f t : Form) (start : ℕ) → asked ≡ Text f t start → (f ≡ from) × (t ≡ to) × (start ≤ length words) × (text ≡ drop start words)
-        × (BeginsPlace text → ⊥))
+    × (BeginsPlace text → ⊥))
     → ((BeginsPlace text → ⊥) → (start : ℕ) × (asked ≡ Text from to start) × (text ≡ drop start words))
     → (asked ≡ Nothing) ↔ AskNothing words
 read_nothing words from to text asked are only lines is_text texts = (
@@ -227,7 +239,7 @@ alone_lines_are words from to are only f t place = (
       let to_same : to ≡ t = cc in
       let place_same : Whole ≡ place = cc in
       subst (λ (x : Place). AskLines words f t x) place_same (subst (λ (x : Form). AskLines words x t Whole) from_same
-          (subst (λ (x : Form). AskLines words from x Whole) to_same (lines_of words from to None Whole are tt))),
+      (subst (λ (x : Form). AskLines words from x Whole) to_same (lines_of words from to None Whole are tt))),
   λ ask.
       let k = lines_by words f t place ask in
       let same = only f t k.0 k.1 in
@@ -260,8 +272,10 @@ pub none_text_only : (words : List ℕ) → NoForms words → (f t : Form) (text
 none_text_only words none f t text ask = none f t (Some text) (text_by words f t text ask)
 
 pub none_nothing : (words : List ℕ) → NoForms words → AskNothing words
-none_nothing words none = (λ f t place ask. let k = lines_by words f t place ask in none f t k.0 k.1,
-    λ f t text ask. none_text_only words none f t text ask)
+none_nothing words none = (
+  λ f t place ask. let k = lines_by words f t place ask in none f t k.0 k.1,
+  λ f t text ask. none_text_only words none f t text ask,
+)
 
 -- ---- names begin with a capital
 

@@ -9,9 +9,16 @@ use Rattle.text_lines.specs.Fields.{AreTabbed}
 -- one more field behind others
 pub tabbed_push : (n : ℕ) (x field : List ℕ) → AreTabbed n x → HasNo 9 field → AreTabbed (suc n) (x ++ (field ++ 9 ∷ []))
 tabbed_push zero x field h free = (field, [], record { first = free; joined = ap (λ (l : List ℕ). l ++ (field ++ 9 ∷ [])) h }, refl)
-tabbed_push (suc n) x field h free =
-    (h.0, h.1 ++ (field ++ 9 ∷ []), record { first = h.2.first; joined = ap (λ (l : List ℕ). l ++ (field ++ 9 ∷ [])) h.2.joined
-        ∙ append_assoc h.0 (9 ∷ h.1) (field ++ 9 ∷ []) }, tabbed_push n h.1 field h.3 free)
+tabbed_push (suc n) x field h free = (
+  h.0,
+  h.1 ++ (field ++ 9 ∷ []),
+  record {
+    first = h.2.first;
+    joined = ap (λ (l : List ℕ). l ++ (field ++ 9 ∷ [])) h.2.joined
+        ∙ append_assoc h.0 (9 ∷ h.1) (field ++ 9 ∷ []);
+  },
+  tabbed_push n h.1 field h.3 free,
+)
 
 abbrev behind_head : List ℕ → List ℕ
 behind_head [] = []
@@ -78,13 +85,13 @@ tabbed_more number left at line field back some most h split =
     let ended : List ℕ = field ++ 9 ∷ [] in
     let joined : drop at line ≡ ended ++ back = split.joined ∙ sym (append_assoc field (9 ∷ []) back) in
     let here : take (length field + 1) (drop at line) ≡ ended = ap (take (length field + 1)) joined
-        ∙ take_at ended back (length field + 1) (length-append field (9 ∷ [])) in
+    ∙ take_at ended back (length field + 1) (length-append field (9 ∷ [])) in
     let all : take (at + (length field + 1)) line ≡ take at line ++ ended = take-add at (length field + 1) line
-        ∙ ap (λ (l : List ℕ). take at line ++ l) here in
+    ∙ ap (λ (l : List ℕ). take at line ++ l) here in
     let pushed = tabbed_push (number - left) (take at line) field h split.first in
     let number_same : suc (number - left) ≡ number - (left - 1) = omega (arith, some, most) in
     subst (λ (k : ℕ). AreTabbed k (take (at + (length field + 1)) line)) number_same
-        (subst (AreTabbed (suc (number - left))) (sym all) pushed)
+    (subst (AreTabbed (suc (number - left))) (sym all) pushed)
 
 -- what follows a field and its TAB
 pub behind_field : (at : ℕ) (line field back : List ℕ) → IsSplitAt 9 (drop at line) field back → back ≡ drop (at + (length field + 1)) line
@@ -92,7 +99,7 @@ behind_field at line field back split =
     let ended : List ℕ = field ++ 9 ∷ [] in
     let joined : drop at line ≡ ended ++ back = split.joined ∙ sym (append_assoc field (9 ∷ []) back) in
     sym (sym (drop-drop (length field + 1) at line) ∙ (ap (drop (length field + 1)) joined
-        ∙ drop_at ended back (length field + 1) (length-append field (9 ∷ []))))
+    ∙ drop_at ended back (length field + 1) (length-append field (9 ∷ []))))
 
 -- a field with its TAB lies within the line
 pub field_within : (at : ℕ) (line field back : List ℕ) → at ≤ length line → IsSplitAt 9 (drop at line) field back

@@ -39,7 +39,7 @@ front_judged Says IsLine Stays first refused step s stays is_first none xs a b h
     let f = h.1 in
     let k = judged_lines Says IsLine Stays first refused step s f.last f.answered (h.0 ++ f.back) stays f.outputs in
     let at_first : AreJudged IsLine true f.answered (h.0 ++ f.back) k.0 = subst
-        (λ (b : Bool). AreJudged IsLine b f.answered (h.0 ++ f.back) k.0) is_first k.1 in
+    (λ (b : Bool). AreJudged IsLine b f.answered (h.0 ++ f.back) k.0) is_first k.1 in
     (h.0, record { answered = f.answered; others = f.others; back = f.back; refused = k.0; split = f.split; outputs = at_first }, h.2)
 
 judged_stand : {A : Type 0} (Says : A → List ℕ → List ℕ → A → Type 0) (IsLine : Bool → List ℕ → List ℕ → Bool → Type 0) (Stays : A → Type 0)
@@ -50,10 +50,12 @@ judged_stand Says IsLine Stays first refused step s stays is none given t old ne
     (h.0, gains_judged Says IsLine Stays first refused step s stays is none t (lines given) old.held new.held h.2)
 judged_stand Says IsLine Stays first refused step s stays is none given t old new ReadFault h =
     (h.0, gains_judged Says IsLine Stays first refused step s stays is none t (whole_lines given) old.held new.held h.2)
-judged_stand Says IsLine Stays first refused step s stays is none given t old new WriteFault h =
-    (h.0, ⊎_elim (λ k. inl (front_judged Says IsLine Stays first refused step s stays is none
-        (whole_lines (take no_limit given)) old.held new.held k))
-        (λ k. inr (k.0, front_judged Says IsLine Stays first refused step s stays is none (lines given) old.held new.held k.2)) h.1)
+judged_stand Says IsLine Stays first refused step s stays is none given t old new WriteFault h = (
+  h.0,
+  ⊎_elim (λ k. inl (front_judged Says IsLine Stays first refused step s stays is none
+      (whole_lines (take no_limit given)) old.held new.held k))
+      (λ k. inr (k.0, front_judged Says IsLine Stays first refused step s stays is none (lines given) old.held new.held k.2)) h.1,
+)
 judged_stand Says IsLine Stays first refused step s stays is none given t old new TooLong h =
     (h.0, gains_judged Says IsLine Stays first refused step s stays is none t (whole_lines (take no_limit given)) old.held new.held h.1)
 judged_stand Says IsLine Stays first refused step s stays is none given t old new NoMemory h = (h.0, h.2)
@@ -80,7 +82,7 @@ pub texts_ended : (from to : Form) (t : Texts) (old new : Streams) (end : RunEnd
     → JudgedEnded (IsOutput from to Whole) old new status
 texts_ended from to t old new end status cuts told =
     judged_ended SaysText (IsOutput from to Whole) (texts_stay from to) (λ s. s.first) (λ s. s.refused) (texts_judge from to)
-        (first_texts from to) (refl, refl) refl refl t old new end status
+    (first_texts from to) (refl, refl) refl refl t old new end status
     (ended_weaker (cut (line_limit + 1) SaysText) SaysText text_uncut no_limit (first_texts from to) t old new end cuts) told
 
 abbrev first_columns : Form → Form → Place → Columns
@@ -91,7 +93,7 @@ pub columns_ended : (from to : Form) (n : Place) (t : Columns) (old new : Stream
     → JudgedEnded (IsOutput from to n) old new status
 columns_ended from to n t old new end status cuts told =
     judged_ended SaysColumn (IsOutput from to n) (columns_stay from to n) (λ s. s.first) (λ s. s.refused) (columns_judge from to n)
-        (first_columns from to n) (refl, refl, refl) refl refl t old new end status
+    (first_columns from to n) (refl, refl, refl) refl refl t old new end status
     (ended_weaker (cut (line_limit + 1) SaysColumn) SaysColumn column_uncut no_limit (first_columns from to n) t old new end cuts) told
 
 pub judged_nowhere : (IsLine : Bool → List ℕ → List ℕ → Bool → Type 0) (s : Streams) → JudgedEnded IsLine s s 6
@@ -166,7 +168,7 @@ pub done_within : (IsLine : Bool → List ℕ → List ℕ → Bool → Type 0) 
 done_within IsLine old new status h =
     if_taken old.left new.left h.gave.given (IsDone old new status) h.gave.bytes
     (λ rest. subst (λ (n : ℕ). IsDone old new n (h.gave.given ++ rest)) (sym h.told)
-        (done_by IsLine old new h.gave.given rest h.refused h.end h.stands))
+    (done_by IsLine old new h.gave.given rest h.refused h.end h.stands))
 
 -- at the status of a read that failed
 
@@ -212,7 +214,7 @@ front_of_all IsLine begin given rest a b h =
     let front : List ℕ = take no_limit given in
     let back : List ℕ = drop no_limit given ++ rest in
     let same : given ++ rest ≡ front ++ back = ap (λ (l : List ℕ). l ++ rest) (sym (take-append-drop no_limit given))
-        ∙ append_assoc front (drop no_limit given) rest in
+    ∙ append_assoc front (drop no_limit given) rest in
     let first = begin front back in
     front_more IsLine (whole_lines front) first.0 (lines (given ++ rest)) a b (ap lines same ∙ first.1) h
 

@@ -62,10 +62,13 @@ texts_stay from to s = (s.from ≡ from) × (s.to ≡ to)
 
 pub texts_judge : (from to : Form) → Judges SaysText (IsOutput from to Whole) (texts_stay from to) (λ s. s.first) (λ s. s.refused)
 texts_judge from to s line out t stays h =
-    let a : IsOutput from s.to Whole s.first line out h.0 = subst (λ (f : Form). IsOutput f s.to Whole s.first line out h.0) stays.0 h.1 in
-    (h.0, subst (λ (f : Form). IsOutput from f Whole s.first line out h.0) stays.1 a,
-        (ap (λ (x : Texts). x.from) h.2 ∙ stays.0, ap (λ (x : Texts). x.to) h.2 ∙ stays.1), ap (λ (x : Texts). x.first) h.2,
-        ap (λ (x : Texts). x.refused) h.2)
+    let a : IsOutput from s.to Whole s.first line out h.0 = subst (λ (f : Form). IsOutput f s.to Whole s.first line out h.0) stays.0 h.1 in (
+      h.0,
+      subst (λ (f : Form). IsOutput from f Whole s.first line out h.0) stays.1 a,
+      (ap (λ (x : Texts). x.from) h.2 ∙ stays.0, ap (λ (x : Texts). x.to) h.2 ∙ stays.1),
+      ap (λ (x : Texts). x.first) h.2,
+      ap (λ (x : Texts). x.refused) h.2,
+    )
 
 abbrev pub columns_stay : Form → Form → Place → Columns → Type 0
 columns_stay from to n s = (s.from ≡ from) × (s.to ≡ to) × (s.place ≡ n)
@@ -74,9 +77,8 @@ pub columns_judge : (from to : Form) (n : Place) → Judges SaysColumn (IsOutput
     (λ s. s.refused)
 columns_judge from to n s line out t stays h =
     let a : IsOutput from s.to s.place s.first line out h.0 = subst
-        (λ (f : Form). IsOutput f s.to s.place s.first line out h.0) stays.0 h.1 in
-    let b : IsOutput from to s.place s.first line out h.0 = subst (λ (f : Form). IsOutput from f s.place s.first line out h.0) stays.1 a in
-        (
+    (λ (f : Form). IsOutput f s.to s.place s.first line out h.0) stays.0 h.1 in
+    let b : IsOutput from to s.place s.first line out h.0 = subst (λ (f : Form). IsOutput from f s.place s.first line out h.0) stays.1 a in (
       h.0,
       subst (λ (k : Place). IsOutput from to k s.first line out h.0) stays.2 b,
       (ap (λ (x : Columns). x.from) h.2 ∙ stays.0, ap (λ (x : Columns). x.to) h.2 ∙ stays.1, ap (λ (x : Columns). x.place) h.2 ∙ stays.2),

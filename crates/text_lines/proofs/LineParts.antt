@@ -84,7 +84,7 @@ word_joined (suc n) line before text after h =
     let tail : List ℕ = text ++ after in
     h.4.joined ∙ (ap (λ (l : List ℕ). h.0 ++ (h.1 ++ l)) below
     ∙ (ap (λ (l : List ℕ). h.0 ++ l) (sym (append_assoc h.1 h.3 tail))
-        ∙ (sym (append_assoc h.0 (h.1 ++ h.3) tail) ∙ ap (λ (l : List ℕ). l ++ tail) (sym h.6))))
+    ∙ (sym (append_assoc h.0 (h.1 ++ h.3) tail) ∙ ap (λ (l : List ℕ). l ++ tail) (sym h.6))))
 
 pub place_joined : (place : Place) (line before text after : List ℕ) → IsPlace place line before text after
     → line ≡ before ++ (text ++ after)
@@ -107,7 +107,7 @@ around place first line front rest body end before text after unmarked ended pla
     let cr : List ℕ = e.0 in
     let inner : rest ≡ before ++ (text ++ (after ++ cr)) =
     e.1 ∙ (ap (λ (l : List ℕ). l ++ cr) (place_joined place body before text after placed)
-        ∙ (append_assoc before (text ++ after) cr ∙ ap (λ (l : List ℕ). before ++ l) (append_assoc text after cr))) in (
+    ∙ (append_assoc before (text ++ after) cr ∙ ap (λ (l : List ℕ). before ++ l) (append_assoc text after cr))) in (
       cr,
       record {
         all = mark_joined first line front rest unmarked ∙ (ap (λ (l : List ℕ). front ++ l) inner
@@ -120,7 +120,7 @@ around place first line front rest body end before text after unmarked ended pla
 -- the lengths of the parts
 pub around_sizes : (line front rest before text after cr end : List ℕ) → AreAround line front rest before text after cr end
     → (length front + length before ≤ length line) × (length before + length text ≤ length rest) × (length rest ≤ length line)
-        × (length front + (length before + (length after + length cr)) ≤ length line)
+    × (length front + (length before + (length after + length cr)) ≤ length line)
 around_sizes line front rest before text after cr end h =
     let one = length-append (front ++ before) (text ++ (after ++ cr)) in
     let two = length-append front before in
@@ -129,21 +129,24 @@ around_sizes line front rest before text after cr end h =
     let five = length-append (before ++ text) (after ++ cr) in
     let six = length-append before text in
     let all : length line ≡ length ((front ++ before) ++ (text ++ (after ++ cr))) = ap length h.all in
-    let behind : length rest ≡ length ((before ++ text) ++ (after ++ cr)) = ap length h.behind in
-    (omega (arith, all, one, two), omega (arith, behind, five, six), omega (arith, all, behind, one, two, three, four, five, six),
-        omega (arith, all, one, two, three, four))
+    let behind : length rest ≡ length ((before ++ text) ++ (after ++ cr)) = ap length h.behind in (
+      omega (arith, all, one, two),
+      omega (arith, behind, five, six),
+      omega (arith, all, behind, one, two, three, four, five, six),
+      omega (arith, all, one, two, three, four),
+    )
 
 pub front_there : (line front rest before text after cr end : List ℕ) → AreAround line front rest before text after cr end
     → take (length front + length before) line ≡ front ++ before
 front_there line front rest before text after cr end h =
     ap (take (length front + length before)) h.all ∙ take_at (front ++ before) (text ++ (after ++ cr)) (length front + length before)
-        (length-append front before)
+    (length-append front before)
 
 pub back_there : (line front rest before text after cr end : List ℕ) → AreAround line front rest before text after cr end
     → drop (length before + length text) rest ≡ after ++ cr
 back_there line front rest before text after cr end h =
     ap (drop (length before + length text)) h.behind ∙ drop_at (before ++ text) (after ++ cr) (length before + length text)
-        (length-append before text)
+    (length-append before text)
 
 -- the output was put
 pub put_around : (line front rest before text after cr end reply a b c d e : List ℕ) → AreAround line front rest before text after cr end
@@ -153,6 +156,6 @@ put_around line front rest before text after cr end reply a b c d e h one two th
     let feed : List ℕ = codes "\n" in
     let last : e ≡ c ++ (after ++ end) =
     four ∙ (ap (λ (l : List ℕ). l ++ feed) three ∙ (append_assoc c (after ++ cr) feed
-        ∙ ap (λ (l : List ℕ). c ++ l) (append_assoc after cr feed ∙ ap (λ (l : List ℕ). after ++ l) (sym h.closed)))) in
+    ∙ ap (λ (l : List ℕ). c ++ l) (append_assoc after cr feed ∙ ap (λ (l : List ℕ). after ++ l) (sym h.closed)))) in
     put_three a b c e (front ++ before) reply (after ++ end) one two last
-        ∙ ap (λ (l : List ℕ). a ++ l) (append_assoc front before (reply ++ (after ++ end)))
+    ∙ ap (λ (l : List ℕ). a ++ l) (append_assoc front before (reply ++ (after ++ end)))

@@ -73,10 +73,10 @@ tab_end_same x y a b hx hy (inl h) (inl k) same =
     (sym (append-nil x) ∙ (ap (λ (l : List ℕ). x ++ l) (sym h) ∙ (same ∙ (ap (λ (l : List ℕ). y ++ l) k ∙ append-nil y))), h ∙ sym k)
 tab_end_same x y a b hx hy (inl h) (inr k) same =
     absurd (no_split 9 x y k.0 refl hx (sym (append-nil x) ∙ (ap (λ (l : List ℕ). x ++ l) (sym h)
-        ∙ (same ∙ ap (λ (l : List ℕ). y ++ l) k.1))))
+    ∙ (same ∙ ap (λ (l : List ℕ). y ++ l) k.1))))
 tab_end_same x y a b hx hy (inr h) (inl k) same =
     absurd (no_split 9 y x h.0 refl hy (sym (append-nil y) ∙ (ap (λ (l : List ℕ). y ++ l) (sym k)
-        ∙ (sym same ∙ ap (λ (l : List ℕ). x ++ l) h.1))))
+    ∙ (sym same ∙ ap (λ (l : List ℕ). x ++ l) h.1))))
 tab_end_same x y a b hx hy (inr h) (inr k) same =
     let both : x ++ 9 ∷ h.0 ≡ y ++ 9 ∷ k.0 = ap (λ (l : List ℕ). x ++ l) (sym h.1) ∙ (same ∙ ap (λ (l : List ℕ). y ++ l) k.1) in
     let rests : h.0 ≡ k.0 = split_same 9 x y h.0 k.0 refl hx hy both in
@@ -98,7 +98,7 @@ one_word (suc n) line b t a c u d h k =
     let first = first_same line h.0 h.1 h.2 k.0 k.1 k.2 h.4 k.4 in
     let below = one_word n k.2 h.3 t a k.3 u d (subst (λ (l : List ℕ). IsWord n l h.3 t a) first.2 h.5) k.5 in
     let fronts : b ≡ c = h.6 ∙ (ap (λ (l : List ℕ). l ++ (h.1 ++ h.3)) first.0
-        ∙ (ap (λ (l : List ℕ). k.0 ++ (l ++ h.3)) first.1 ∙ (ap (λ (l : List ℕ). k.0 ++ (k.1 ++ l)) below.0 ∙ sym k.6))) in
+    ∙ (ap (λ (l : List ℕ). k.0 ++ (l ++ h.3)) first.1 ∙ (ap (λ (l : List ℕ). k.0 ++ (k.1 ++ l)) below.0 ∙ sym k.6))) in
     (fronts, below.1, below.2)
 
 pub one_place : (place : Place) (line b t a c u d : List ℕ) → IsPlace place line b t a → IsPlace place line c u d → Same b t a c u d
@@ -113,7 +113,7 @@ one_in_place : OneAnswer → (from to : Form) (place : Place) (front body end a 
 one_in_place one from to place front body end a b r s h k =
     let parts = one_place place body h.before h.text h.after k.before k.text k.after h.placed k.placed in
     let replies = one_reply one from to k.text h.reply k.reply r s
-        (subst (λ (l : List ℕ). IsTextReply from to l h.reply r) parts.1 h.replied) k.replied in (
+    (subst (λ (l : List ℕ). IsTextReply from to l h.reply r) parts.1 h.replied) k.replied in (
       h.told ∙ (ap (λ (l : List ℕ). front ++ (l ++ (h.reply ++ (h.after ++ end)))) parts.0
           ∙ (ap (λ (l : List ℕ). front ++ (k.before ++ (l ++ (h.after ++ end)))) replies.0
           ∙ (ap (λ (l : List ℕ). front ++ (k.before ++ (k.reply ++ (l ++ end)))) parts.2 ∙ sym k.told))),
@@ -137,8 +137,8 @@ one_line one from to place first line a b r s h k =
     let same = one_body first line h.front h.body h.end k.front k.body k.end h.parts k.parts in
     let moved : Answered from to place k.front k.body k.end a r =
     subst (λ (l : List ℕ). Answered from to place k.front k.body l a r) same.2
-        (subst (λ (l : List ℕ). Answered from to place k.front l h.end a r) same.1
-        (subst (λ (l : List ℕ). Answered from to place l h.body h.end a r) same.0 h.answered)) in
+    (subst (λ (l : List ℕ). Answered from to place k.front l h.end a r) same.1
+    (subst (λ (l : List ℕ). Answered from to place l h.body h.end a r) same.0 h.answered)) in
     one_answered one from to place k.front k.body k.end a b r s moved k.answered
 
 pub one_output : OneAnswer → (from to : Form) (place : Place) (first : Bool) (line a b : List ℕ) (r s : Bool)

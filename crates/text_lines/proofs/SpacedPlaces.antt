@@ -32,7 +32,7 @@ pub first_same : (line gap word rest gap' word' rest' : List ℕ) → IsFirstWor
 first_same line gap word rest gap' word' rest' h k =
     let both : gap ++ (word ++ rest) ≡ gap' ++ (word' ++ rest') = sym h.joined ∙ k.joined in
     let words : word ++ rest ≡ word' ++ rest' = run_same true gap gap' (word ++ rest) (word' ++ rest') h.blank k.blank
-        (solid_begins word rest h.solid h.some) (solid_begins word' rest' k.solid k.some) both in
+    (solid_begins word rest h.solid h.some) (solid_begins word' rest' k.solid k.some) both in
     let rests : rest ≡ rest' = run_same false word word' rest rest' h.solid k.solid h.behind k.behind words in (
       append_cancel_right gap gap' (word' ++ rest') (ap (λ (l : List ℕ). gap ++ l) (sym words) ∙ both),
       append_cancel_right word word' rest' (ap (λ (l : List ℕ). word ++ l) (sym rests) ∙ words),
@@ -60,20 +60,20 @@ taken_so : (at : ℕ) (line rest gap word after : List ℕ) → rest ≡ drop at
 taken_so at line rest gap word after is first =
     let here : drop at line ≡ (gap ++ word) ++ after = sym is ∙ (first.joined ∙ sym (append_assoc gap word after)) in
     take-add at (length gap + length word) line ∙ ap (λ (l : List ℕ). take at line ++ l)
-        (ap (take (length gap + length word)) here ∙ take_at (gap ++ word) after (length gap + length word) (length-append gap word))
+    (ap (take (length gap + length word)) here ∙ take_at (gap ++ word) after (length gap + length word) (length-append gap word))
 
 pub dropped_so : (at : ℕ) (line rest gap word after : List ℕ) → rest ≡ drop at line → IsFirstWord rest gap word after
     → after ≡ drop (at + (length gap + length word)) line
 dropped_so at line rest gap word after is first =
     let here : drop at line ≡ (gap ++ word) ++ after = sym is ∙ (first.joined ∙ sym (append_assoc gap word after)) in
     sym (sym (drop-drop (length gap + length word) at line) ∙ (ap (drop (length gap + length word)) here
-        ∙ drop_at (gap ++ word) after (length gap + length word) (length-append gap word)))
+    ∙ drop_at (gap ++ word) after (length gap + length word) (length-append gap word)))
 
 pub taken_gap : (at : ℕ) (line rest gap word after : List ℕ) → rest ≡ drop at line → IsFirstWord rest gap word after
     → take (at + length gap) line ≡ take at line ++ gap
 taken_gap at line rest gap word after is first =
     take-add at (length gap) line ∙ ap (λ (l : List ℕ). take at line ++ l)
-        (ap (take (length gap)) (sym is ∙ first.joined) ∙ take_at gap (word ++ after) (length gap) refl)
+    (ap (take (length gap)) (sym is ∙ first.joined) ∙ take_at gap (word ++ after) (length gap) refl)
 
 -- ---- the loop: the words of the line are those of the rest, so many fewer
 
@@ -94,10 +94,10 @@ leads_on number at (suc left) line rest gap word after leads some is first befor
     let here : IsWord left after before text behind = subst (λ (k : ℕ). IsWord k after before text behind) less h in
     let all = leads (gap ++ (word ++ before)) text behind (gap, word, after, before, first, here, refl) in
     let taken : take (at + (length gap + length word)) line ≡ take at line
-        ++ (gap ++ word) = taken_so at line rest gap word after is first in
+    ++ (gap ++ word) = taken_so at line rest gap word after is first in
     let same : take at line ++ (gap ++ (word ++ before)) ≡ take (at + (length gap + length word)) line ++ before =
     ap (λ (l : List ℕ). take at line ++ l) (sym (append_assoc gap word before))
-        ∙ (sym (append_assoc (take at line) (gap ++ word) before) ∙ ap (λ (l : List ℕ). l ++ before) (sym taken)) in
+    ∙ (sym (append_assoc (take at line) (gap ++ word) before) ∙ ap (λ (l : List ℕ). l ++ before) (sym taken)) in
     subst (λ (l : List ℕ). IsWord number line l text behind) same all
 
 pub comes_on : (number left : ℕ) (line rest gap word after : List ℕ) → Comes number line left rest → 0 < left

@@ -21,18 +21,29 @@ gains_weaker P Q f s t xs a b h = (h.0, outputs_weaker P Q f s t xs h.0 h.1, h.2
 front_weaker : {A : Type 0} (P Q : A → List ℕ → List ℕ → A → Type 0) → Implies P Q → (s : A) (xs : List (List ℕ)) (a b : Option (List ℕ))
     → GainsOutputsFront P s xs a b → GainsOutputsFront Q s xs a b
 front_weaker P Q f s xs a b h =
-    let k = h.1 in
-    (h.0, record { answered = k.answered; others = k.others; back = k.back; last = k.last; split = k.split;
-        outputs = outputs_weaker P Q f s k.last k.answered (h.0 ++ k.back) k.outputs }, h.2)
+    let k = h.1 in (
+      h.0,
+      record {
+        answered = k.answered;
+        others = k.others;
+        back = k.back;
+        last = k.last;
+        split = k.split;
+        outputs = outputs_weaker P Q f s k.last k.answered (h.0 ++ k.back) k.outputs;
+      },
+      h.2,
+    )
 
 stands_weaker : {A : Type 0} (P Q : A → List ℕ → List ℕ → A → Type 0) → Implies P Q
     → (limit : ℕ) (given : List ℕ) (s t : A) (old new : Streams) (end : RunEnd) → StandsBy P limit given s t old new end
     → StandsBy Q limit given s t old new end
 stands_weaker P Q f limit given s t old new Done h = (h.0, h.1, gains_weaker P Q f s t _ old.held new.held h.2)
 stands_weaker P Q f limit given s t old new ReadFault h = (h.0, h.1, gains_weaker P Q f s t _ old.held new.held h.2)
-stands_weaker P Q f limit given s t old new WriteFault h =
-    (h.0, ⊎_elim (λ k. inl (front_weaker P Q f s _ old.held new.held k))
-        (λ k. inr (k.0, k.1, front_weaker P Q f s _ old.held new.held k.2)) h.1)
+stands_weaker P Q f limit given s t old new WriteFault h = (
+  h.0,
+  ⊎_elim (λ k. inl (front_weaker P Q f s _ old.held new.held k))
+      (λ k. inr (k.0, k.1, front_weaker P Q f s _ old.held new.held k.2)) h.1,
+)
 stands_weaker P Q f limit given s t old new TooLong h = (h.0, gains_weaker P Q f s t _ old.held new.held h.1)
 stands_weaker P Q f limit given s t old new NoMemory h = h
 

@@ -28,7 +28,7 @@ in_days z day nanos below same first last = (omega (arith, ints), omega (arith, 
 pub civil_within : (z : ℤ) → IsCivilInstant z → IsWithin (10 ^ 22) z
 civil_within z (day, nanos, within, civil) =
     in_days z day nanos within.below within.same (subst (λ (low : ℤ). low ≤ℤ day) first_civil civil.0)
-        (subst (λ (high : ℤ). day ≤ℤ high) last_civil civil.1)
+    (subst (λ (high : ℤ). day ≤ℤ high) last_civil civil.1)
 
 -- what is at a start and a step is at those that are the same
 pub at_again : (start same_start : ℤ) (step same_step : Interval) (k : ℕ) (answer : Option ℤ) → start ≡ same_start → step ≡ same_step

@@ -41,7 +41,7 @@ pub fills_set : {A : Type 0} → (front old new : List A) (value : A) (at : ℕ)
 fills_set front old new value at h place fits =
     let same = fills_length front old new h in
     fills_put front (value ∷ []) old new (set new at value) at h place (omega (arith, fits))
-        (set_split new at value (omega (arith, same, fits)) ∙ ap (λ n. take at new ++ value ∷ drop n new) (sym (add-one at)))
+    (set_split new at value (omega (arith, same, fits)) ∙ ap (λ n. take at new ++ value ∷ drop n new) (sym (add-one at)))
 
 -- what stands for one pair of offsets more
 pub between_push : {A : Type 0} → (IsOf : ℕ → ℕ → A → Type 0) (offsets : List ℕ) (before : List A) (a : A) (start end : ℕ) (more : List ℕ)
@@ -56,7 +56,7 @@ pub two_left : (offsets : List ℕ) (n d : ℕ) → n + 1 < length offsets
     → drop n offsets ≡ slice_index offsets n ∷ (slice_index offsets (n + 1) ∷ drop (n + 2) offsets)
 two_left offsets n d more =
     drop_more offsets n 0 (omega (arith, more)) ∙ ap (λ (l : List ℕ). slice_index offsets n ∷ l)
-        (drop_more offsets (n + 1) 0 more ∙ ap (λ i. slice_index offsets (n + 1) ∷ drop i offsets) (omega arith))
+    (drop_more offsets (n + 1) 0 more ∙ ap (λ i. slice_index offsets (n + 1) ∷ drop i offsets) (omega arith))
 
 -- one text more stands behind those before it, and ends where all of them do
 pub joined_push : (texts : List (List ℕ)) (text : List ℕ) → joined (texts ++ text ∷ []) ≡ joined texts ++ text
@@ -69,7 +69,7 @@ ends_push start [] text = ap (λ n. n ∷ []) (omega arith)
 ends_push start (t ∷ ts) text =
     let sum = length-append t (joined ts) in
     ap (λ (l : List ℕ). (start + length t) ∷ l) (ends_push (start + length t) ts text
-        ∙ ap (λ n. ends (start + length t) ts ++ n ∷ []) (omega (arith, sum)))
+    ∙ ap (λ n. ends (start + length t) ts ++ n ∷ []) (omega (arith, sum)))
 
 pub ends_length : (start : ℕ) (texts : List (List ℕ)) → length (ends start texts) ≡ length texts
 ends_length start [] = refl
@@ -123,14 +123,14 @@ answered_push from to bytes offsets out_old out_new out_newer ends_old ends_new 
     let texts : List (List ℕ) = map answer_text h.answers in
     let pushed : map answer_text (h.answers ++ answer ∷ []) ≡ texts ++ text ∷ [] = map-append answer_text h.answers (answer ∷ []) in
     let codes : map answer_code (h.answers ++ answer ∷ []) ≡ map answer_code h.answers
-        ++ answer_code answer ∷ [] = map-append answer_code h.answers (answer ∷ []) in
+    ++ answer_code answer ∷ [] = map-append answer_code h.answers (answer ∷ []) in
     let all : joined (map answer_text (h.answers ++ answer ∷ [])) ≡ joined texts ++ text = ap joined pushed ∙ joined_push texts text in
     let sum = length-append (joined texts) text in
     let counted = length-append h.answers (answer ∷ []) in
     let next = drop_same offsets done (length h.answers) h.count ∙ two_left offsets done 0 more in
     let ended_at : (0 ∷ ends 0 texts) ++ (written + len) ∷ [] ≡ 0 ∷ ends 0 (map answer_text (h.answers ++ answer ∷ [])) =
     ap (λ (l : List ℕ). 0 ∷ l) (ap (λ n. ends 0 texts ++ n ∷ []) (omega (arith, h.bytes_count, puts.count))
-        ∙ (sym (ends_push 0 texts text) ∙ ap (ends 0) (sym pushed))) in
+    ∙ (sym (ends_push 0 texts text) ∙ ap (ends 0) (sym pushed))) in
     let counts = ap suc (ends_length 0 texts ∙ length-map h.answers answer_text) in
     record {
       answers = h.answers ++ answer ∷ [];
@@ -142,12 +142,12 @@ answered_push from to bytes offsets out_old out_new out_newer ends_old ends_new 
       places =
           subst (λ (l : List ℕ). Fills l ends_old ends_newer) ended_at
           (subst (Fills ((0 ∷ ends 0 texts) ++ (written + len) ∷ []) ends_old) (sym ended)
-              (fills_set (0 ∷ ends 0 texts) ends_old ends_new (written + len) (done + 1) h.places (omega (arith, counts, h.count)) place));
+          (fills_set (0 ∷ ends 0 texts) ends_old ends_new (written + len) (done + 1) h.places (omega (arith, counts, h.count)) place));
       codes =
           subst (λ (l : List ℤ). Fills l codes_old codes_newer) (sym codes)
           (subst (Fills (map answer_code h.answers ++ answer_code answer ∷ []) codes_old) (sym (coded ∙ ap (set codes_new done) puts.coded))
           (fills_set (map answer_code h.answers) codes_old codes_new (answer_code answer) done h.codes
-              (h.count ∙ sym (length-map h.answers answer_code)) slot));
+          (h.count ∙ sym (length-map h.answers answer_code)) slot));
       bytes_count = let a = ap length all in omega (arith, a, sum, h.bytes_count, puts.count);
       bound = omega (arith, puts.within, puts.count, most);
     }
@@ -157,11 +157,11 @@ pub answered_all : (from to : Form) (bytes offsets out_old out_new ends_old ends
     (done written : ℕ)
     → IsAnswered from to bytes offsets out_old out_new ends_old ends_new codes_old codes_new done written
     → (length offsets ≤ done + 1) ⊎ ((length ends_old ≤ done + 1)
-        ⊎ ((length codes_old ≤ done) ⊎ IsBeyond from to bytes (drop done offsets) (length out_old) written))
+    ⊎ ((length codes_old ≤ done) ⊎ IsBeyond from to bytes (drop done offsets) (length out_old) written))
     → AnswersColumn from to bytes offsets out_old out_new ends_old ends_new codes_old codes_new done
 answered_all from to bytes offsets out_old out_new ends_old ends_new codes_old codes_new done written h stops =
     let Stops : ℕ → Type 0 = λ n. (length offsets ≤ done + 1) ⊎
-        ((length ends_old ≤ done + 1) ⊎ ((length codes_old ≤ done) ⊎ IsBeyond from to bytes (drop done offsets) (length out_old) n)) in
+    ((length ends_old ≤ done + 1) ⊎ ((length codes_old ≤ done) ⊎ IsBeyond from to bytes (drop done offsets) (length out_old) n)) in
     record {
       answers = h.answers;
       each = h.each;
@@ -203,7 +203,7 @@ fills_part : (see : Result Interval ℤ → ℤ) (answers : List (Result Interva
 fills_part see answers answer old new newer done h count place put =
     subst (λ (l : List ℤ). Fills l old newer) (sym (map-append see answers (answer ∷ [])))
     (subst (Fills (map see answers ++ see answer ∷ []) old) (sym put)
-        (fills_set (map see answers) old new (see answer) done h (count ∙ sym (length-map answers see)) place))
+    (fills_set (map see answers) old new (see answer) done h (count ∙ sym (length-map answers see)) place))
 
 -- and then the next one
 pub read_push : (style : Style) (bytes offsets : List ℕ) (months_old months_new months_newer days_old days_new days_newer micros_old
@@ -246,13 +246,13 @@ pub read_all : (style : Style) (bytes offsets : List ℕ) (months_old months_new
     → ReadsColumn style bytes offsets months_old months_new days_old days_new micros_old micros_new codes_old codes_new done
 read_all style bytes offsets months_old months_new days_old days_new micros_old micros_new codes_old codes_new count places done h least is
     all = record {
-  answers = h.answers;
-  each = h.each;
-  count = h.count;
-  months = h.months;
-  days = h.days;
-  micros = h.micros;
-  codes = h.codes;
-  stops = no_place_read (length offsets) (length months_old) (length days_old) (length micros_old)
-      (length codes_old) count places done least is all;
-}
+      answers = h.answers;
+      each = h.each;
+      count = h.count;
+      months = h.months;
+      days = h.days;
+      micros = h.micros;
+      codes = h.codes;
+      stops = no_place_read (length offsets) (length months_old) (length days_old) (length micros_old)
+          (length codes_old) count places done least is all;
+    }

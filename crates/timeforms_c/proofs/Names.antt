@@ -16,7 +16,7 @@ all_ascii (b ∷ bs) = ltb b 128 && all_ascii bs
 ascii_is_utf8 : (bytes : List ℕ) → all_ascii bytes ≡ true → IsUtf8 bytes
 ascii_is_utf8 bytes h =
     IsUtf8-from_ascii bytes (IsAscii-from_all bytes ((Decides-by_and (λ b. ltb b 128) (λ b. b < 128) all_ascii (λ b. Decides-ltb b 128) refl
-        (λ _ _. refl) bytes).0 h))
+    (λ _ _. refl) bytes).0 h))
 
 name_is_ascii : (form : Form) → all_ascii (name_of form) ≡ true
 name_is_ascii FileTime = refl

@@ -30,8 +30,13 @@ split_there mark (byte ∷ bytes) (suc n) inside passes = ap (λ (l : List ℕ).
 pub found_first : (mark : ℕ) (bytes : List ℕ) (place : Option ℕ) → IsFirstByte (is_byte mark) bytes place
     → IfSome place (λ n. (n < length bytes) × IsSplitAt mark bytes (take n bytes) (drop (n + 1) bytes))
 found_first mark bytes None h = tt
-found_first mark bytes (Some n) h = (h.0.high, record { first = none_before mark bytes n (omega (arith, h.0.high)) h.0.before;
-    joined = rw add-one (split_there mark bytes n h.0.high h.1) })
+found_first mark bytes (Some n) h = (
+  h.0.high,
+  record {
+    first = none_before mark bytes n (omega (arith, h.0.high)) h.0.before;
+    joined = rw add-one (split_there mark bytes n h.0.high h.1);
+  },
+)
 
 pub none_found : (mark : ℕ) (bytes : List ℕ) (place : Option ℕ) → IsFirstByte (is_byte mark) bytes place → IfNone place (HasNo mark bytes)
 none_found mark bytes None h = subst (HasNo mark) (take-length bytes) (none_before mark bytes (length bytes) (omega arith) h)
@@ -51,7 +56,7 @@ pub boundary_behind : (mark : ℕ) (text bytes : List ℕ) (n : ℕ) → bytes �
 boundary_behind mark text bytes n same small utf8 h =
     let is = at_mark mark bytes (drop (n + 1) bytes) n h.0 h.1.joined in
     subst (λ (l : List ℕ). IsCharBoundary l (n + 1)) same (IsCharBoundary-after_ascii bytes n (subst IsUtf8 (sym same) utf8) h.0
-        (omega (arith, is, small)))
+    (omega (arith, is, small)))
 
 -- ---- lines
 

@@ -10,11 +10,14 @@ returns-in-Ok-clause-value c =
     (c.fields-years.result.0, omega (arith, ints, ymd), omega arith, omega (arith, ints, ymd))
 
 pub returns-in-Ok-clause-some : goal.returns-in-Ok-clause-some
-returns-in-Ok-clause-some c =
-    (λ _. same_day _ _ _ _ _ _ (omega (arith, ints)) (omega (arith, ints)) (omega (arith, ints)) (c.in-Ok.ensures.succeeds.0 refl),
-        λ _. refl)
+returns-in-Ok-clause-some c = (
+  λ _. same_day _ _ _ _ _ _ (omega (arith, ints)) (omega (arith, ints)) (omega (arith, ints)) (c.in-Ok.ensures.succeeds.0 refl),
+  λ _. refl,
+)
 
 pub returns-in-Err-clause-some : goal.returns-in-Err-clause-some
-returns-in-Err-clause-some c =
-    (λ e. cc, λ real. c.in-Err.ensures.succeeds.1 (same_day _ _ _ _ _ _ (omega (arith, ints)) (omega (arith, ints))
-        (omega (arith, ints)) real))
+returns-in-Err-clause-some c = (
+  λ e. cc,
+  λ real. c.in-Err.ensures.succeeds.1 (same_day _ _ _ _ _ _ (omega (arith, ints)) (omega (arith, ints))
+      (omega (arith, ints)) real),
+)

@@ -8,7 +8,7 @@ use Rattle.fancy_duration.proofs.read.sum_of.Given as goal
 abbrev pub invariant-loop-number : goal.invariant-loop-number
 invariant-loop-number l =
     capped (sum_with l.tally.nanos l.tally.pending (long_follows (items_of l.rest)) (total (items_of l.rest)))
-        ≡ capped (total (items_of l.text))
+    ≡ capped (total (items_of l.text))
 
 abbrev pub decreases-loop-number : goal.decreases-loop-number
 decreases-loop-number l = length l.rest

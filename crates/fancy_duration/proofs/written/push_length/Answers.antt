@@ -10,7 +10,7 @@ use Rattle.fancy_duration.proofs.written.push_length.Goals as goal
 pub returns-then-nanos-eq0-clause-bytes : goal.returns-then-nanos-eq0-clause-bytes
 returns-then-nanos-eq0-clause-bytes g c =
     c.push_text.ensures.bytes ∙ ap (λ (text : List ℕ). c.args.out.now.bytes ++ text)
-        (pushed_nothing c.args.secs c.args.nanos c.if-secs-eq0.true c.if-nanos-eq0.true)
+    (pushed_nothing c.args.secs c.args.nanos c.if-secs-eq0.true c.if-nanos-eq0.true)
 
 pub returns-else-secs-eq0-clause-bytes : goal.returns-else-secs-eq0-clause-bytes
 returns-else-secs-eq0-clause-bytes g c =

@@ -7,5 +7,5 @@ use Rattle.fancy_duration.proofs.written.without_spaces.Goals as goal
 pub returns : goal.returns
 returns c =
     let all = text_from_pieces _ c.collect.ensures.ran (YieldsList-from_str_split 32 c.args.text.now
-        (lit< tt) c.split.ensures.text c.split.ensures.has_more c.split.ensures.pattern) in
+    (lit< tt) c.split.ensures.text c.split.ensures.has_more c.split.ensures.pattern) in
     rw (← concat-slice_split c.args.text.now) all

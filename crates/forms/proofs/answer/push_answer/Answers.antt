@@ -13,6 +13,9 @@ returns-in-Ok-clause-answer g c =
 pub returns-in-Err-clause-answer : goal.returns-in-Err-clause-answer
 returns-in-Err-clause-answer g c =
     let text = c.args.text.now in
-    let none = refuses (Turns c.args.from c.args.to text) _ _ c.in-Err.cause c.in-Err.ensures.turned in
-    (Err c.in-Err.cause, (c.answers_are_readings_written.ensures c.args.from c.args.to text (Err c.in-Err.cause)).1 none.0,
-        simp (c.push_refusal.ensures.bytes, c.name.ensures, none.1) refl, refl)
+    let none = refuses (Turns c.args.from c.args.to text) _ _ c.in-Err.cause c.in-Err.ensures.turned in (
+      Err c.in-Err.cause,
+      (c.answers_are_readings_written.ensures c.args.from c.args.to text (Err c.in-Err.cause)).1 none.0,
+      simp (c.push_refusal.ensures.bytes, c.name.ensures, none.1) refl,
+      refl,
+    )

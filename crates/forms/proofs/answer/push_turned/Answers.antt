@@ -10,4 +10,4 @@ pub returns-clause-turned : goal.returns-clause-turned
 returns-clause-turned g c =
     let read = (c.read_value.ensures.answer c.read_value.result).0 refl in
     puts_so (Then (Writes c.args.to) c.read_value.result) (Turns c.args.from c.args.to c.args.text.now)
-        (λ answer h. (c.read_value.result, read, h)) _ _ _ c.push_read.ensures.answer
+    (λ answer h. (c.read_value.result, read, h)) _ _ _ c.push_read.ensures.answer

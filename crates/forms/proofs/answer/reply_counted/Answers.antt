@@ -7,7 +7,7 @@ pub returns-clause-answer : goal.returns-clause-answer
 returns-clause-answer g c = λ answer.
     let both = c.answers_are_readings_written.ensures c.args.from c.args.to c.args.text.now answer in
     let exact = exactly_turned c.args.from c.args.to (c.all_lawful.ensures c.args.from) (c.all_lawful.ensures c.args.to) c.args.text.now
-        (bytes_of c.written.result) (c.read_counted.result, c.read_counted.ensures.read, c.written.ensures.answer) answer in
+    (bytes_of c.written.result) (c.read_counted.result, c.read_counted.ensures.read, c.written.ensures.answer) answer in
     (λ e. both.1 (exact.0 e), λ h. exact.1 (both.0 h))
 
 pub returns-clause-turned : goal.returns-clause-turned

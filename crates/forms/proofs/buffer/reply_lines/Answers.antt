@@ -15,12 +15,15 @@ loop-len-preserved c =
     let before = filled_length _ _ _ _ _ c.loop-len.invariant.filled in
     let after = filled_length _ _ _ _ _ filled in
     let split = ap length put.next.first ∙ length-append put.next.line _ in
-    record { filled = filled; room = omega (arith, c.loop-len.invariant.room, put.next.fits, put.count);
-        left = omega (arith, c.loop-len.invariant.left) }
+    record {
+      filled = filled;
+      room = omega (arith, c.loop-len.invariant.room, put.next.fits, put.count);
+      left = omega (arith, c.loop-len.invariant.left);
+    }
 
 pub returns : goal.returns
 returns c =
     let none = c.in_default.ensures.none in
     let all = filled_all _ _ _ _ _ _ _ c.loop-len.invariant.filled refl none.0 refl in
     subst (λ (l : List ℕ). AnswersInto c.args.text.now c.args.out.now l
-        (length c.args.text.now - length c.loop-len.rest.now) c.loop-len.written) (sym none.1) all
+    (length c.args.text.now - length c.loop-len.rest.now) c.loop-len.written) (sym none.1) all

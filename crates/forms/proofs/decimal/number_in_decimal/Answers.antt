@@ -9,7 +9,7 @@ returns-in_err-number c = rw c.from_residual.ensures (λ number. (
   λ is. absurd (let clash : None ≡ Some number = is in cc),
   λ is.
       let parsed = parse-decimal 64 number c.args.text.now c.parse.result (omega (arith, is.0))
-          (omega (arith, is.0)) is.1 c.parse.ensures.value.0 in
+      (omega (arith, is.0)) is.1 c.parse.ensures.value.0 in
       let clash : None ≡ Some number = c.in_err-number.ensures.value ∙ ap result_ok parsed in absurd cc,
 ))
 
@@ -18,7 +18,7 @@ returns-else-is_decimal c = λ number. (
   λ is. absurd (let clash : None ≡ Some number = is in cc),
   λ is.
       let parsed = parse-decimal 64 number c.args.text.now c.parse.result (omega (arith, is.0))
-          (omega (arith, is.0)) is.1 c.parse.ensures.value.0 in
+      (omega (arith, is.0)) is.1 c.parse.ensures.value.0 in
       let both : Some c.in_ok-number.number ≡ Some number = c.in_ok-number.ensures.value ∙ ap result_ok parsed in
       let same : number ≡ c.in_ok-number.number = cc in
       let counted : true ≡ c.is_decimal.result = sym (c.is_decimal.ensures.1 (is.1 ∙ ap decimal same)) in
@@ -33,6 +33,6 @@ returns-then-is_decimal c = λ number. (
       (subst (λ (n : ℕ). n < 2 ^ 64) same (search rules), told ∙ ap decimal same),
   λ is.
       let parsed = parse-decimal 64 number c.args.text.now c.parse.result (omega (arith, is.0))
-          (omega (arith, is.0)) is.1 c.parse.ensures.value.0 in
+      (omega (arith, is.0)) is.1 c.parse.ensures.value.0 in
       c.in_ok-number.ensures.value ∙ ap result_ok parsed,
 )

@@ -11,6 +11,7 @@ returns-in_err-end-clause-none c = rw c.from_residual.ensures (rw take-length at
 
 pub returns-clause-found : goal.returns-clause-found
 returns-clause-found c =
-    let first = c.in_ok-end.ensures in
-    (no_feed_before c.args.bytes.now c.in_ok-end.end (omega (arith, first.0.high)) first.0.before,
-        rw (take_rest, add-one) (split_at 10 c.args.bytes.now c.in_ok-end.end first.0.high first.1))
+    let first = c.in_ok-end.ensures in (
+      no_feed_before c.args.bytes.now c.in_ok-end.end (omega (arith, first.0.high)) first.0.before,
+      rw (take_rest, add-one) (split_at 10 c.args.bytes.now c.in_ok-end.end first.0.high first.1),
+    )

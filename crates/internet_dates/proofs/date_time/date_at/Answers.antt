@@ -14,9 +14,9 @@ pub returns-in_default-written_year-clause-none : goal.returns-in_default-writte
 returns-in_default-written_year-clause-none c =
     let early = less (pos 0) _ (λ h. let e = c.in_default-written_year.ensures.some.1 h in cc) in
     early_day c.civil_dates_are_calendar_dates.ensures.day c.args.first c.args.number c.in-Ok.civil
-        (subst (λ (z : ℤ). z <ℤ pos 0) (kept_year c.in-Ok.civil) early) (c.in-Ok.ensures.value ∙ to_z-of_z c.ranges.number)
+    (subst (λ (z : ℤ). z <ℤ pos 0) (kept_year c.in-Ok.civil) early) (c.in-Ok.ensures.value ∙ to_z-of_z c.ranges.number)
 
 pub returns-then-year-first-clause-none : goal.returns-then-year-first-clause-none
 returns-then-year-first-clause-none c =
     before_first c.civil_dates_are_calendar_dates.ensures.day c.args.first c.args.number c.in-Ok.civil c.in-Some.year
-        (sym (c.in-Some.ensures.value ∙ kept_year c.in-Ok.civil)) (c.in-Ok.ensures.value ∙ to_z-of_z c.ranges.number) c.if-year-first.true
+    (sym (c.in-Some.ensures.value ∙ kept_year c.in-Ok.civil)) (c.in-Ok.ensures.value ∙ to_z-of_z c.ranges.number) c.if-year-first.true

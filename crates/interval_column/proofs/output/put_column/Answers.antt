@@ -16,7 +16,7 @@ pub returns-clause-ok : goal.returns-clause-ok
 returns-clause-ok g c =
     on_ok_weaker c.put_text.result
     (λ moved. moves_as _ _ c.args.batch.now.bytes _ _ _ (whole_column c.args.style (intervals_of c.args.ranks.now) c.as_str.result.now
-        (c.as_str.ensures.value ∙ c.summary-summary.ensures.bytes))
+    (c.as_str.ensures.value ∙ c.summary-summary.ensures.bytes))
     (c.waiting_texts_keep_their_order.ensures.next _ _ _ c.args.batch.now.bytes _ _ _ _ c.in_ok-put_intervals.ensures.ok moved))
     c.put_text.ensures.ok
 
@@ -24,6 +24,6 @@ pub returns-clause-err : goal.returns-clause-err
 returns-clause-err g c =
     on_err_weaker c.put_text.result
     (λ failed. fails_as _ _ c.args.batch.now.bytes _ _ (whole_column c.args.style (intervals_of c.args.ranks.now) c.as_str.result.now
-        (c.as_str.ensures.value ∙ c.summary-summary.ensures.bytes))
+    (c.as_str.ensures.value ∙ c.summary-summary.ensures.bytes))
     (c.waiting_texts_keep_their_order.ensures.next_fails _ _ _ c.args.batch.now.bytes _ _ _ c.in_ok-put_intervals.ensures.ok failed))
     c.put_text.ensures.err

@@ -10,9 +10,9 @@ returns-in_err-put_interval-clause-err g c =
     on_err _ c.from_residual.result
     (fails_as _ _ c.args.batch.now.bytes _ _ (sym (over_map (interval_line c.args.style []) (λ (r : Ranked). r.interval) c.args.ranks.now))
     (put_fails c.waiting_texts_keep_their_order.ensures.next_fails
-        (λ (r : Ranked). interval_line c.args.style [] r.interval) c.args.ranks.now _ _ _ c.args.batch.now.bytes c.loop-ranked.batch.bytes
-        c.loop-ranked.ranked-index c.ranked-item.result c.loop-ranked.invariant.put c.loop-ranked-test.true c.ranked-item.is
-        c.in_err-put_interval.ensures.err))
+    (λ (r : Ranked). interval_line c.args.style [] r.interval) c.args.ranks.now _ _ _ c.args.batch.now.bytes c.loop-ranked.batch.bytes
+    c.loop-ranked.ranked-index c.ranked-item.result c.loop-ranked.invariant.put c.loop-ranked-test.true c.ranked-item.is
+    c.in_err-put_interval.ensures.err))
 
 pub loop-ranked-preserved : goal.loop-ranked-preserved
 loop-ranked-preserved g c = record {
@@ -25,7 +25,7 @@ loop-ranked-preserved g c = record {
 pub returns-clause-ok : goal.returns-clause-ok
 returns-clause-ok g c =
     moves_as _ _ c.args.batch.now.bytes _ _ c.loop-ranked.batch.bytes
-        (sym (over_map (interval_line c.args.style []) (λ (r : Ranked). r.interval) c.args.ranks.now))
+    (sym (over_map (interval_line c.args.style []) (λ (r : Ranked). r.interval) c.args.ranks.now))
     (put_all (λ (r : Ranked). interval_line c.args.style [] r.interval) c.args.ranks.now _ _ c.args.batch.now.bytes
-        c.loop-ranked.batch.bytes c.loop-ranked.ranked-index c.loop-ranked.invariant.put
-        (no_more c.args.ranks.now c.loop-ranked.ranked-index (let end = c.loop-ranked-test.false in omega (arith, end))))
+    c.loop-ranked.batch.bytes c.loop-ranked.ranked-index c.loop-ranked.invariant.put
+    (no_more c.args.ranks.now c.loop-ranked.ranked-index (let end = c.loop-ranked-test.false in omega (arith, end))))

@@ -7,5 +7,5 @@ pub returns : goal.returns
 returns g c =
     total_by c.interval_of.result (map g.T.HasInterval.interval_of c.args.items.now) _
     (sums_are (map g.T.HasInterval.interval_of c.args.items.now) c.sums_of.result.months c.sums_of.result.days c.sums_of.result.micros
-        c.sums_of.ensures.months c.sums_of.ensures.days c.sums_of.ensures.micros)
+    c.sums_of.ensures.months c.sums_of.ensures.days c.sums_of.ensures.micros)
     c.interval_of.ensures.some c.interval_of.ensures.value

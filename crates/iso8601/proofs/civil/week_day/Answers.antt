@@ -30,6 +30,8 @@ returns-clause-some c =
     let y : FitsSigned w16 c.in_ok-year.year = search rules in
     let w : FitsSigned w8 c.in_ok-week.week = search rules in
     let new = simp to_z-of_z at c.new.ensures.succeeds in
-    let year = simp to_z-of_z at c.in_ok-year.ensures.value in
-    (λ some. moved c.in_ok-year.year c.args.year c.in_ok-week.week (pos c.args.ww) c.args.weekday year c.in_ok-week.ensures.value
-        (new.0 (sym c.in_ok-date.ensures.variant)), λ is. refl)
+    let year = simp to_z-of_z at c.in_ok-year.ensures.value in (
+      λ some. moved c.in_ok-year.year c.args.year c.in_ok-week.week (pos c.args.ww) c.args.weekday year c.in_ok-week.ensures.value
+          (new.0 (sym c.in_ok-date.ensures.variant)),
+      λ is. refl,
+    )

@@ -24,7 +24,7 @@ returns-then-next_if-clause-some g c =
     let place = c.args.scan.now in
     let number = sym (c.number_in.ensures place.text c.requires.behind.is_run) ∙ c.in-Some.is in
     let read = is_weeks c.args.run place c.next_if.new.self c.in-Some.number c.requires.behind number
-        (c.next_if.ensures.passed c.if-next_if.true) in
+    (c.next_if.ensures.passed c.if-next_if.true) in
     weeks_some c.weeks.result _ c.in-Some.number (ahead c.next_if.new.self) read c.weeks.ensures.some
 
 pub returns-then-next_if-clause-none : goal.returns-then-next_if-clause-none
@@ -32,7 +32,7 @@ returns-then-next_if-clause-none g c =
     let place = c.args.scan.now in
     let number = sym (c.number_in.ensures place.text c.requires.behind.is_run) ∙ c.in-Some.is in
     let read = is_weeks c.args.run place c.next_if.new.self c.in-Some.number c.requires.behind number
-        (c.next_if.ensures.passed c.if-next_if.true) in
+    (c.next_if.ensures.passed c.if-next_if.true) in
     weeks_none c.weeks.result _ c.in-Some.number (ahead c.next_if.new.self) read c.weeks.ensures.none
 
 pub returns-then-begins_unit-clause-some : goal.returns-then-begins_unit-clause-some
@@ -44,7 +44,7 @@ returns-then-begins_unit-clause-some g c =
     let unit : P place = subst P other.0 (c.begins_unit.ensures.0 c.if-begins_unit.true) in
     let read = is_counts c.args.run place c.in-Some.number c.requires.behind number other.1 unit in
     some_as c.counts-then-begins_unit.result _ _ (read ∙ ap (λ (p : Place). read_counted (from_run p.text c.args.run)) (sym other.0))
-        c.counts-then-begins_unit.ensures.some
+    c.counts-then-begins_unit.ensures.some
 
 pub returns-then-begins_unit-clause-none : goal.returns-then-begins_unit-clause-none
 returns-then-begins_unit-clause-none g c =
@@ -55,7 +55,7 @@ returns-then-begins_unit-clause-none g c =
     let unit : P place = subst P other.0 (c.begins_unit.ensures.0 c.if-begins_unit.true) in
     let read = is_counts c.args.run place c.in-Some.number c.requires.behind number other.1 unit in
     none_as c.counts-then-begins_unit.result _ _ (read ∙ ap (λ (p : Place). read_counted (from_run p.text c.args.run)) (sym other.0))
-        c.counts-then-begins_unit.ensures.none
+    c.counts-then-begins_unit.ensures.none
 
 pub returns-else-begins_unit-clause-some : goal.returns-else-begins_unit-clause-some
 returns-else-begins_unit-clause-some g c =
@@ -64,7 +64,7 @@ returns-else-begins_unit-clause-some g c =
     let other = c.next_if.ensures.other c.if-next_if.false in
     let P : Place → Type 0 = λ p. BeginsUnit (ahead p) in
     let never = λ (unit : P place). let yes = c.begins_unit.ensures.1 (subst P (sym other.0) unit) in
-        let both : true ≡ false = sym yes ∙ c.if-begins_unit.false in let impossible : ⊥ = cc in impossible in
+    let both : true ≡ false = sym yes ∙ c.if-begins_unit.false in let impossible : ⊥ = cc in impossible in
     let apart = number_apart c.args.run place c.in-Some.number c.requires.behind number in
     let read = is_dated c.args.run place c.in-Some.number c.requires.behind apart number other.1 never in
     let start = c.text.ensures ∙ ap (λ (p : Place). p.text) other.0 ∙ c.requires.start in
@@ -77,7 +77,7 @@ returns-else-begins_unit-clause-none g c =
     let other = c.next_if.ensures.other c.if-next_if.false in
     let P : Place → Type 0 = λ p. BeginsUnit (ahead p) in
     let never = λ (unit : P place). let yes = c.begins_unit.ensures.1 (subst P (sym other.0) unit) in
-        let both : true ≡ false = sym yes ∙ c.if-begins_unit.false in let impossible : ⊥ = cc in impossible in
+    let both : true ≡ false = sym yes ∙ c.if-begins_unit.false in let impossible : ⊥ = cc in impossible in
     let apart = number_apart c.args.run place c.in-Some.number c.requires.behind number in
     let read = is_dated c.args.run place c.in-Some.number c.requires.behind apart number other.1 never in
     let start = c.text.ensures ∙ ap (λ (p : Place). p.text) other.0 ∙ c.requires.start in

@@ -11,9 +11,9 @@ pub returns-then-next_if-clause-taken : goal.returns-then-next_if-clause-taken
 returns-then-next_if-clause-taken g c =
     let number = sym (c.number_in.ensures c.args.scan.now.text c.requires.is_run) ∙ c.in-Some.is in
     let taken = count_taken c.args.unit c.args.run c.args.scan.now c.next_if.new.self c.in-Some.number c.requires number
-        (c.next_if.ensures.passed c.if-next_if.true) in
+    (c.next_if.ensures.passed c.if-next_if.true) in
     at_mid c.in-Some.number c.digits.result.start c.next_if.new.self.at c.digits.new.self.text c.next_if.new.self.text
-        c.digits.ensures.start c.digits.ensures.passed.same ∙ sym taken
+    c.digits.ensures.start c.digits.ensures.passed.same ∙ sym taken
 
 pub returns-else-next_if-clause-taken : goal.returns-else-next_if-clause-taken
 returns-else-next_if-clause-taken g c =

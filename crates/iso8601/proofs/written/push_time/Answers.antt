@@ -21,4 +21,4 @@ returns-clause-len g c =
     let f : FitsSigned w32 c.args.time.now.tz_offset_hours = search rules in
     let g : FitsSigned w32 c.args.time.now.tz_offset_minutes = search rules in
     longer c.args.out.now.bytes c.push_clock.new.out.bytes c.push_offset.new.out.bytes c.args.time.now.tz_offset_hours
-        c.args.time.now.tz_offset_minutes f g c.push_clock.ensures.len (simp to_z-of_z at c.push_offset.ensures.bytes)
+    c.args.time.now.tz_offset_minutes f g c.push_clock.ensures.len (simp to_z-of_z at c.push_offset.ensures.bytes)

@@ -10,5 +10,5 @@ returns-then-is_number c =
     let has = rw c.as_bytes.ensures.value at (c.is_number.ensures.0 c.if-is_number.true) in
     let value = digits_value 10 (without_leading_plus c.args.text.now) in
     let large : 2 ^ 64 ≤ value = ⊎_elim (λ small. absurd (c.requires (value, text_of_numeral c.args.text.now has, small))) (λ h. h)
-        (cases_lt value (2 ^ 64)) in
+    (cases_lt value (2 ^ 64)) in
     read_overflow _ has large

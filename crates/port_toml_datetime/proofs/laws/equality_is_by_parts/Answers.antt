@@ -13,8 +13,11 @@ same : (d e : Option Date) (t u : Option Time) (o p : Option Offset) → d ≡ e
 same d e t u o p i j k = rw (i, j, k) refl
 
 parts_are : (a b : Datetime) → ((a.date ≡ b.date) × (a.time ≡ b.time) × (a.offset ≡ b.offset)) ↔ (a ≡ b)
-parts_are a b = (λ h. same a.date b.date a.time b.time a.offset b.offset h.0 h.1 h.2, λ h.
-    (ap (λ (d : Datetime). d.date) h, ap (λ (d : Datetime). d.time) h, ap (λ (d : Datetime). d.offset) h))
+parts_are a b = (
+  λ h. same a.date b.date a.time b.time a.offset b.offset h.0 h.1 h.2,
+  λ h.
+      (ap (λ (d : Datetime). d.date) h, ap (λ (d : Datetime). d.time) h, ap (λ (d : Datetime). d.offset) h),
+)
 
 pub returns-clause-datetimes : goal.returns-clause-datetimes
 returns-clause-datetimes c a b =

@@ -7,17 +7,23 @@ pub overflow_mul-value : goal.overflow_mul-value
 overflow_mul-value c =
     let i = c.loop-len.invariant in
     let is = sym c.is_ascii_digit.ensures.value ∙ c.if-is_ascii_digit.true in
-    omega (arith, (one_more c.args.bytes.now c.loop-len.len c.loop-len.value (get_or c.args.bytes.now c.loop-len.len 0 - 48) i.front
-        (omega (arith, c.loop-len-test.true, c.min-most.ensures))
-        (omega (arith, c.loop-len-test.true, c.min-most.ensures)) is i.value refl).small)
+    omega (
+      arith,
+      (one_more c.args.bytes.now c.loop-len.len c.loop-len.value (get_or c.args.bytes.now c.loop-len.len 0 - 48) i.front
+          (omega (arith, c.loop-len-test.true, c.min-most.ensures))
+          (omega (arith, c.loop-len-test.true, c.min-most.ensures)) is i.value refl).small,
+    )
 
 pub overflow_add-value : goal.overflow_add-value
 overflow_add-value c =
     let i = c.loop-len.invariant in
     let is = sym c.is_ascii_digit.ensures.value ∙ c.if-is_ascii_digit.true in
-    omega (arith, (one_more c.args.bytes.now c.loop-len.len c.loop-len.value c.from.result i.front
-        (omega (arith, c.loop-len-test.true, c.min-most.ensures))
-        (omega (arith, c.loop-len-test.true, c.min-most.ensures)) is i.value c.from.ensures).small)
+    omega (
+      arith,
+      (one_more c.args.bytes.now c.loop-len.len c.loop-len.value c.from.result i.front
+          (omega (arith, c.loop-len-test.true, c.min-most.ensures))
+          (omega (arith, c.loop-len-test.true, c.min-most.ensures)) is i.value c.from.ensures).small,
+    )
 
 pub loop-len-preserved : goal.loop-len-preserved
 loop-len-preserved c =

@@ -14,5 +14,5 @@ returns-in-Some-clause-reply c out h =
     let value = c.in-Some.ensures.value ∙ same in
     let few : number_of c.args.digits.now ≤ 10_000 = omega (arith, c.in-Some.ensures.some.0 refl, same) in
     let asked = subst (λ (n : ℕ). (moment : Result Value Cause) × Reads IsoDateTime c.args.start.now moment
-        × IsStartReply n moment c.args.step.now out) value (c.started.ensures.reply out h) in
+    × IsStartReply n moment c.args.step.now out) value (c.started.ensures.reply out h) in
     inr (few, asked.0, asked.1, asked.2)

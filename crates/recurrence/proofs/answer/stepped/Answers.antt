@@ -10,5 +10,8 @@ returns-then-is_range-clause-reply c out h =
     inr (inl (p.0, p.1, h))
 
 pub returns-in-Ok-clause-reply : goal.returns-in-Ok-clause-reply
-returns-in-Ok-clause-reply c out h = inr (inr (c.in-Ok.interval, c.in-Ok.ensures.ok,
-    rw (to_z-of_z c.ranges.start) at (c.lasting.ensures.reply out h)))
+returns-in-Ok-clause-reply c out h = inr (inr (
+  c.in-Ok.interval,
+  c.in-Ok.ensures.ok,
+  rw (to_z-of_z c.ranges.start) at (c.lasting.ensures.reply out h),
+))

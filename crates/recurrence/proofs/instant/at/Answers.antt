@@ -6,5 +6,5 @@ use Rattle.std.proofs.Math.Facts.{to_z-of_z}
 pub returns : goal.returns
 returns c answer =
     let e = at_exact c.civil_dates_are_calendar_dates.ensures c.args.start c.args.step c.args.k c.civil_of.result
-        (rw (to_z-of_z c.ranges.start) at c.civil_of.ensures.some) (rw (to_z-of_z c.ranges.start) at c.civil_of.ensures.value) answer in
+    (rw (to_z-of_z c.ranges.start) at c.civil_of.ensures.some) (rw (to_z-of_z c.ranges.start) at c.civil_of.ensures.value) answer in
     rw c.at_start.ensures e

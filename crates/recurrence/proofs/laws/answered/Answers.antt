@@ -18,5 +18,5 @@ returns-in-Instants c =
     let fine = subst IsFine c.in-Instants.is c.requires in
     let series = rw (to_z-of_z f) at c.new.ensures.series in
     subst (λ (a : Answer). (x : List ℕ) × RepliesBy a x) (sym c.in-Instants.is)
-        (has_reply c.civil_dates_are_calendar_dates.ensures c.in-Instants.start c.in-Instants.step c.in-Instants.last c.new.result.left
-        c.new.result.stop series fine.0 fine.1)
+    (has_reply c.civil_dates_are_calendar_dates.ensures c.in-Instants.start c.in-Instants.step c.in-Instants.last c.new.result.left
+    c.new.result.stop series fine.0 fine.1)

@@ -13,7 +13,7 @@ loop-line-preserved c = record {
   so_far = λ rest h.
       let reply = c.a_line_has_one_reply.ensures.some in
       c.loop-line.invariant.so_far (reply.0 ++ rest) (subst (λ (l : List (List ℕ)). AreReplies l (reply.0 ++ rest))
-          (sym c.in-Some.ensures.lines) (reply.0, rest, reply.1, h, refl));
+      (sym c.in-Some.ensures.lines) (reply.0, rest, reply.1, h, refl));
 }
 
 pub returns-clause-some : goal.returns-clause-some

@@ -24,16 +24,16 @@ pub returns-in-Err-clause-err : goal.returns-in-Err-clause-err
 returns-in-Err-clause-err g c =
     let rest = c.lines_have_one_output.ensures.some in
     part_written c.args.text.now _ _ (fails_at IsReply _ _ _ _ _ _ _ _ c.in-Some.line.now c.texts_keep_their_order.ensures
-        c.in-Some.ensures.lines rest.0 rest.1 c.loop-line.invariant.so_far c.in-Err.ensures.err)
+    c.in-Some.ensures.lines rest.0 rest.1 c.loop-line.invariant.so_far c.in-Err.ensures.err)
 
 pub returns-clause-ok : goal.returns-clause-ok
 returns-clause-ok g c =
     let put = all_put IsReply _ _ _ _ (lines c.loop-line.rest.now) (lines c.args.text.now)
-        (ap lines c.in_default.ensures.none) c.loop-line.invariant.so_far in
+    (ap lines c.in_default.ensures.none) c.loop-line.invariant.so_far in
     on_ok_weaker c.flush.result (all_written c.texts_keep_their_order.ensures c.args.text.now _ _ _ _ put) c.flush.ensures.ok
 
 pub returns-clause-err : goal.returns-clause-err
 returns-clause-err g c =
     let put = all_put IsReply _ _ _ _ (lines c.loop-line.rest.now) (lines c.args.text.now)
-        (ap lines c.in_default.ensures.none) c.loop-line.invariant.so_far in
+    (ap lines c.in_default.ensures.none) c.loop-line.invariant.so_far in
     on_err_weaker c.flush.result (front_written c.texts_keep_their_order.ensures c.args.text.now _ _ _ _ put) c.flush.ensures.err

@@ -10,7 +10,7 @@ pub unreachable-requires : goal.unreachable-requires
 unreachable-requires g c =
     let t = has_text c.civil_dates_are_calendar_dates.ensures c.args.instant c.requires.writable in
     not_refused (Writes IsoDateTime (Instant c.args.instant)) (c.values_have_one_writing.ensures IsoDateTime (Instant c.args.instant)) t.0 _
-        _ _ t.1 (rw (to_z-of_z c.ranges.instant) at c.in-Err.ensures.answer)
+    _ _ t.1 (rw (to_z-of_z c.ranges.instant) at c.in-Err.ensures.answer)
 
 pub returns-clause-written : goal.returns-clause-written
 returns-clause-written g c = gained (Writes IsoDateTime (Instant c.args.instant)) _ _

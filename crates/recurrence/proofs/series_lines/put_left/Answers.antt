@@ -42,7 +42,7 @@ returns-in_err-put_instant-clause-err g c =
     let writable = subst AreWritable steps.0 c.loop-instant.invariant.writable in
     let rest = have_texts c.civil_dates_are_calendar_dates.ensures _ writable.1 in
     on_err _ c.from_residual.result (fails_at IsInstantLine _ _ _ _ _ _ _ _ c.in-Some.instant c.texts_keep_their_order.ensures steps.0
-        rest.0 rest.1 c.loop-instant.invariant.so_far (rw (to_z-of_z f) at c.in_err-put_instant.ensures.err))
+    rest.0 rest.1 c.loop-instant.invariant.so_far (rw (to_z-of_z f) at c.in_err-put_instant.ensures.err))
 
 pub returns-clause-ok : goal.returns-clause-ok
 returns-clause-ok g c = all_put IsInstantLine _ _ _ _ _ _ c.in_default.ensures.steps.0 c.loop-instant.invariant.so_far

@@ -10,5 +10,5 @@ use Rattle.scan_core.proofs.digits.are_digits.Goals as goal
 pub returns : goal.returns
 returns c =
     let e : c.all.result ≡ list_all is_ascii_digit c.args.bytes.now = all_from_yields_List is_ascii_digit _ _ c.all.result c.all.ensures.ran
-        (YieldsList-from_slice c.args.bytes.now (cc)) (λ x b q k. search (rules, tests)) in
+    (YieldsList-from_slice c.args.bytes.now (cc)) (λ x b q k. search (rules, tests)) in
     rw e (digits_from_all c.args.bytes.now, all_from_digits c.args.bytes.now)

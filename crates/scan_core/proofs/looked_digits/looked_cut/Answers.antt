@@ -11,22 +11,22 @@ pub weighed_digit-carry-requires-clause-digit : goal.weighed_digit-carry-require
 weighed_digit-carry-requires-clause-digit g c =
     let byte = c.look.ensures.byte in
     rw byte (digit_between c.args.text.now c.args.start (c.loop-at.at - 1) c.args.end (omega arith)
-        (omega arith) c.requires.within c.requires.digits)
+    (omega arith) c.requires.within c.requires.digits)
 
 pub weighed_digit-carry-requires-clause-carry : goal.weighed_digit-carry-requires-clause-carry
 weighed_digit-carry-requires-clause-carry g c =
     let carry = c.loop-at.invariant.carry in
     rw carry (cut-le c.args.scale _ (digits_behind c.args.text.now c.args.start c.loop-at.at c.args.end c.loop-at.invariant.order
-        c.loop-at.invariant.within c.requires.digits))
+    c.loop-at.invariant.within c.requires.digits))
 
 pub loop-at-preserved : goal.loop-at-preserved
 loop-at-preserved g c =
     let d = get_or c.args.text.now (c.loop-at.at - 1) 0 in
     let front = between_before c.args.text.now c.loop-at.at c.args.end (omega arith) c.loop-at.invariant.within c.requires.within in
     let weighed : c.weighed_digit-carry.result ≡ digit_value d * c.args.scale
-        + number_of (between c.loop-at.at c.args.end c.args.text.now) * c.args.scale / 10 ^ length
-        (between c.loop-at.at c.args.end c.args.text.now) = c.weighed_digit-carry.ensures.value
-        ∙ ap₂ (λ (b k : ℕ). digit_value b * c.args.scale + k) c.look.ensures.byte c.loop-at.invariant.carry in
+    + number_of (between c.loop-at.at c.args.end c.args.text.now) * c.args.scale / 10 ^ length
+    (between c.loop-at.at c.args.end c.args.text.now) = c.weighed_digit-carry.ensures.value
+    ∙ ap₂ (λ (b k : ℕ). digit_value b * c.args.scale + k) c.look.ensures.byte c.loop-at.invariant.carry in
     record {
       order = omega arith;
       within = omega (arith, c.loop-at.invariant.within);

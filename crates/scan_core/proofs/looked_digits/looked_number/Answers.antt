@@ -15,17 +15,17 @@ pub with_digit-value-requires : goal.with_digit-value-requires
 with_digit-value-requires g c =
     let byte = c.look.ensures.byte in
     let digit = digit_between c.args.text.now c.args.start c.loop-at.at c.args.end (omega arith)
-        (omega arith) c.requires.within c.requires.digits in
+    (omega arith) c.requires.within c.requires.digits in
     rw byte (test_from_digit (get_or c.args.text.now c.loop-at.at 0) digit)
 
 pub loop-at-preserved : goal.loop-at-preserved
 loop-at-preserved g c =
     let byte = c.look.ensures.byte in
     let digit = digit_between c.args.text.now c.args.start c.loop-at.at c.args.end (omega arith)
-        (omega arith) c.requires.within c.requires.digits in
+    (omega arith) c.requires.within c.requires.digits in
     let d = get_or c.args.text.now c.loop-at.at 0 in
     let more = ap number_of (between_push c.args.text.now c.args.start c.loop-at.at (omega arith) (omega arith))
-        ∙ number_of_push (between c.args.start c.loop-at.at c.args.text.now) d (test_from_digit d digit) in
+    ∙ number_of_push (between c.args.start c.loop-at.at c.args.text.now) d (test_from_digit d digit) in
     record {
       value = subst (λ (n : ℕ). Knows (10 ^ 18) c.with_digit-value.result n) (sym more)
           (rw byte at (c.with_digit-value.ensures _ c.loop-at.invariant.value));

@@ -20,7 +20,7 @@ pub returns-then-digits-le12-clause-small : goal.returns-then-digits-le12-clause
 returns-then-digits-le12-clause-small g c =
     let exact = run_exact c.args.text.now c.args.fraction c.requires.fraction (omega arith) in
     let value = c.short_fraction.ensures ∙ rounded_is c.args.scale _ _ _ (sym exact.0)
-        (run_length c.args.text.now c.args.fraction c.requires.fraction) in
+    (run_length c.args.text.now c.args.fraction c.requires.fraction) in
     rw value (rounded-le c.args.scale _ c.requires.fraction.digits)
 
 pub millionths-requires-clause-number : goal.millionths-requires-clause-number
@@ -31,12 +31,12 @@ returns-then-scale-eq1000000-clause-value g c =
     let exact = run_exact c.args.text.now c.args.fraction c.requires.fraction (omega arith) in
     let scale : c.args.scale ≡ 1_000_000 = omega arith in
     rw scale (c.millionths.ensures ∙ rounded_is 1_000_000 _ _ _ (sym exact.0)
-        (run_length c.args.text.now c.args.fraction c.requires.fraction))
+    (run_length c.args.text.now c.args.fraction c.requires.fraction))
 
 pub returns-then-scale-eq1000000-clause-small : goal.returns-then-scale-eq1000000-clause-small
 returns-then-scale-eq1000000-clause-small g c =
     let exact = run_exact c.args.text.now c.args.fraction c.requires.fraction (omega arith) in
     let scale : c.args.scale ≡ 1_000_000 = omega arith in
     let value = c.millionths.ensures ∙ rounded_is 1_000_000 _ _ _ (sym exact.0)
-        (run_length c.args.text.now c.args.fraction c.requires.fraction) in
+    (run_length c.args.text.now c.args.fraction c.requires.fraction) in
     rw (scale, value) (rounded-le 1_000_000 _ c.requires.fraction.digits)

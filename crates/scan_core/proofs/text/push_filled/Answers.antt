@@ -12,7 +12,7 @@ returns g c =
     record {
       bytes = c.push_str.ensures.bytes
           ∙ ap₂ (λ (front ds : List ℕ). front ++ ds) (c.loop.invariant.zeros ∙ ap (λ (n : ℕ). c.args.out.now.bytes ++ replicate n 48) zeros)
-              c.format-digits.ensures.text
+          c.format-digits.ensures.text
           ∙ append_assoc c.args.out.now.bytes (replicate (c.args.width - length (decimal c.args.value)) 48) (decimal c.args.value);
       len = omega (arith, digits, zeros, c.push_str.ensures.len, c.loop.invariant.len);
     }

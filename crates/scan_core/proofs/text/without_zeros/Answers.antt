@@ -21,4 +21,4 @@ loop-left-preserved c =
 pub returns-clause-trimmed : goal.returns-clause-trimmed
 returns-clause-trimmed c =
     sym (c.loop-left.invariant.trimmed ∙ kept c.loop-left.places c.loop-left.left
-        (omega (arith, c.loop-left.auto.left-fits)) c.loop-left-test.false)
+    (omega (arith, c.loop-left.auto.left-fits)) c.loop-left-test.false)

@@ -5,8 +5,11 @@ use Rattle.text_lines.proofs.asked.begins_word.Goals as goal
 
 pub returns-in-Some : goal.returns-in-Some
 returns-in-Some c = (
-  λ is. inr (c.in-Some.field-0-1.now, c.in-Some.ensures.found.joined
-      ∙ ap (λ (l : List ℕ). l ++ 32 ∷ c.in-Some.field-0-1.now) (c.is_same.ensures.0 is)),
+  λ is. inr (
+    c.in-Some.field-0-1.now,
+    c.in-Some.ensures.found.joined
+        ∙ ap (λ (l : List ℕ). l ++ 32 ∷ c.in-Some.field-0-1.now) (c.is_same.ensures.0 is),
+  ),
   λ begins. c.is_same.ensures.1 (word_before c.args.text.now c.in-Some.first.now c.in-Some.field-0-1.now c.args.word.now
       c.in-Some.ensures.found c.requires begins),
 )

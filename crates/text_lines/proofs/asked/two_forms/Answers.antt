@@ -13,7 +13,7 @@ pub returns-clause-only : goal.returns-clause-only
 returns-clause-only c = λ from to rest is.
     let first = c.in_ok-from.ensures.only from (Some (name_of to ++ behind rest)) is in
     let here : option_copied (Some c.in_ok-rest.field-0) ≡ Some (name_of to ++ behind rest) = subst
-        (λ (r : Option (Bor (List ℕ))). option_copied r ≡ Some (name_of to ++ behind rest)) c.in_ok-rest.was first.1 in
+    (λ (r : Option (Bor (List ℕ))). option_copied r ≡ Some (name_of to ++ behind rest)) c.in_ok-rest.was first.1 in
     let tail : c.in_ok-rest.field-0.now ≡ name_of to ++ behind rest = cc in
     let second = c.in_ok-to.ensures.only to rest tail in
     (first.0, second.0, second.1)

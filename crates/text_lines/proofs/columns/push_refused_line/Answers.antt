@@ -10,6 +10,6 @@ returns c = record {
     c.split_end.ensures,
     c.push-2.ensures ∙ (ap (λ (l : List ℕ). l ++ c.as_bytes.result.now) c.push.ensures
         ∙ (append_assoc c.args.batch.now (codes "refused Line") c.as_bytes.result.now
-            ∙ ap (λ (l : List ℕ). c.args.batch.now ++ (codes "refused Line" ++ l)) c.as_bytes.ensures.value)),
+        ∙ ap (λ (l : List ℕ). c.args.batch.now ++ (codes "refused Line" ++ l)) c.as_bytes.ensures.value)),
   );
 }

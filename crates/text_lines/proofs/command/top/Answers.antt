@@ -15,7 +15,7 @@ returns-in-Text-clause-text g c = λ from to text ask.
     let start_same : c.in-Text.start ≡ h.0 = cc in
     let texts : c.behind.result.now ≡ text = c.behind.ensures ∙ (ap (λ (s : ℕ). drop s c.args.words.now) start_same ∙ sym h.2) in
     let Ended : Form → Form → List ℕ → Type 0 = λ f t l. TextEnded f t l (g.K.Sink.held c.args.sink.now)
-        (g.K.Sink.held c.answer_text.new.sink) (g.K.Sink.faults c.args.sink.now)
-        (g.K.Sink.faults c.answer_text.new.sink) c.answer_text.result in
+    (g.K.Sink.held c.answer_text.new.sink) (g.K.Sink.faults c.args.sink.now)
+    (g.K.Sink.faults c.answer_text.new.sink) c.answer_text.result in
     subst (λ (l : List ℕ). Ended from to l) texts (subst (λ (f : Form). Ended from f c.behind.result.now) to_same
-        (subst (λ (f : Form). Ended f c.in-Text.to c.behind.result.now) from_same c.answer_text.ensures))
+    (subst (λ (f : Form). Ended f c.in-Text.to c.behind.result.now) from_same c.answer_text.ensures))

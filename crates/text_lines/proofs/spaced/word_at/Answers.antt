@@ -49,10 +49,10 @@ returns-then-left-eq0-clause-found c =
     let i = c.loop-gap.invariant in
     let none : c.loop-gap.left ≡ 0 = grind (arith, nat_tests) in
     let here : IsWord c.loop-gap.left c.loop-gap.rest.now c.in-Some.gap.now c.in-Some.word.now c.in-Some.after.now = subst
-        (λ (k : ℕ). IsWord k c.loop-gap.rest.now c.in-Some.gap.now c.in-Some.word.now c.in-Some.after.now) (sym none) first in
+    (λ (k : ℕ). IsWord k c.loop-gap.rest.now c.in-Some.gap.now c.in-Some.word.now c.in-Some.after.now) (sym none) first in
     subst (λ (l : List ℕ). IsWord c.args.number c.args.line.now l c.in-Some.word.now c.in-Some.after.now)
     (sym (taken_gap c.loop-gap.at c.args.line.now c.loop-gap.rest.now c.in-Some.gap.now c.in-Some.word.now c.in-Some.after.now i.rest
-        first)) (i.leads c.in-Some.gap.now c.in-Some.word.now c.in-Some.after.now here)
+    first)) (i.leads c.in-Some.gap.now c.in-Some.word.now c.in-Some.after.now here)
 
 pub overflow_add-at-in-Some : goal.overflow_add-at-in-Some
 overflow_add-at-in-Some c =
@@ -63,7 +63,7 @@ overflow_add-at-in-Some c =
     let two = length-append c.in-Some.word.now c.in-Some.after.now in
     let left = length-drop c.loop-gap.at c.args.line.now in
     let within : c.loop-gap.at + (length c.in-Some.gap.now + length c.in-Some.word.now)
-        ≤ length c.args.line.now = omega (arith, sizes, one, two, left, i.within) in
+    ≤ length c.args.line.now = omega (arith, sizes, one, two, left, i.within) in
     let small : length c.args.line.now < 2 ^ 64 = search rules in
     omega (arith, within, small)
 

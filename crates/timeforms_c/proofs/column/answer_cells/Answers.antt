@@ -22,10 +22,10 @@ loop-done-preserved c =
     let test = c.loop-done-test.true in record {
       answered =
           answered_push c.args.from c.args.to c.args.bytes.now c.args.offsets.now c.args.out.now c.loop-done.out c.put_answer.new.out
-              c.args.ends.now c.loop-done.ends _ c.args.codes.now c.loop-done.codes _ c.loop-done.done c.loop-done.written
+          c.args.ends.now c.loop-done.ends _ c.args.codes.now c.loop-done.codes _ c.loop-done.done c.loop-done.written
           c.in-Some.len c.min-room.result c.in-Some.code (shown c.cell_answer-answer.result) before.answered (omega (arith, count, test))
-              (omega (arith, count, test)) (omega (arith, count, test))
+          (omega (arith, count, test)) (omega (arith, count, test))
           (omega (arith, room)) (omega (arith, room)) c.cell_answer-answer.ensures.answer puts
-              (ap (set c.loop-done.codes c.loop-done.done) (to_z-of_z fits)) refl;
+          (ap (set c.loop-done.codes c.loop-done.done) (to_z-of_z fits)) refl;
       within = omega (arith, puts.within, puts.count);
     }

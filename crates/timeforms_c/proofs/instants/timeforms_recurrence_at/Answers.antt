@@ -20,20 +20,20 @@ returns-in-Some-clause-done c instant below is =
     let fits : FitsSigned w128 c.in-Some.instant = search rules in
     let seconds : FitsSigned w64 c.parted-whole.result.0 = search rules in
     let same = same_some c.in-Some.instant instant ((c.in-Some.ensures (Some instant)).1
-        (at_again _ _ _ _ c.args.steps (Some instant) (to_z-of_z begin ∙ c.instant_of.ensures
-        ∙ ap (λ (s : ℤ). nanos_of s (pos c.args.nanoseconds)) (to_z-of_z c.ranges.seconds)) c.interval_of.ensures is)) in
+    (at_again _ _ _ _ c.args.steps (Some instant) (to_z-of_z begin ∙ c.instant_of.ensures
+    ∙ ap (λ (s : ℤ). nanos_of s (pos c.args.nanoseconds)) (to_z-of_z c.ranges.seconds)) c.interval_of.ensures is)) in
     (refl, rw (to_z-of_z seconds) (c.parted-whole.ensures.whole ∙ (to_z-of_z fits ∙ same)), c.parted-whole.ensures.beyond)
 
 pub returns-in-Some-clause-none : goal.returns-in-Some-clause-none
 returns-in-Some-clause-none c below is =
     let begin : FitsSigned w128 c.instant_of.result = search rules in
     absurd (not_some c.in-Some.instant ((c.in-Some.ensures None).1
-        (at_again _ _ _ _ c.args.steps None (to_z-of_z begin ∙ c.instant_of.ensures
-        ∙ ap (λ (s : ℤ). nanos_of s (pos c.args.nanoseconds)) (to_z-of_z c.ranges.seconds)) c.interval_of.ensures is)))
+    (at_again _ _ _ _ c.args.steps None (to_z-of_z begin ∙ c.instant_of.ensures
+    ∙ ap (λ (s : ℤ). nanos_of s (pos c.args.nanoseconds)) (to_z-of_z c.ranges.seconds)) c.interval_of.ensures is)))
 
 pub returns-in-None-clause-done : goal.returns-in-None-clause-done
 returns-in-None-clause-done c instant below is =
     let begin : FitsSigned w128 c.instant_of.result = search rules in
     absurd (not_none instant ((c.in-None.ensures (Some instant)).1
-        (at_again _ _ _ _ c.args.steps (Some instant) (to_z-of_z begin ∙ c.instant_of.ensures
-        ∙ ap (λ (s : ℤ). nanos_of s (pos c.args.nanoseconds)) (to_z-of_z c.ranges.seconds)) c.interval_of.ensures is)))
+    (at_again _ _ _ _ c.args.steps (Some instant) (to_z-of_z begin ∙ c.instant_of.ensures
+    ∙ ap (λ (s : ℤ). nanos_of s (pos c.args.nanoseconds)) (to_z-of_z c.ranges.seconds)) c.interval_of.ensures is)))

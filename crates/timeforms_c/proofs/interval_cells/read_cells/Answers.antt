@@ -17,27 +17,62 @@ loop-done-preserved c =
     record {
       read =
           read_push c.args.style c.args.bytes.now c.args.offsets.now c.args.months.now c.loop-done.months _ c.args.days.now c.loop-done.days
-              _ c.args.microseconds.now c.loop-done.microseconds _ c.args.codes.now c.loop-done.codes _
+          _ c.args.microseconds.now c.loop-done.microseconds _ c.args.codes.now c.loop-done.codes _
           c.loop-done.done c.cell_interval.result c.loop-done.invariant.read
-          (omega (arith, c.min.ensures, c.min-2.ensures, c.min-places.ensures, c.saturating_sub.ensures, c.min-count.ensures,
-              c.loop-done-test.true))
-          (omega (arith, c.min.ensures, c.min-2.ensures, c.min-places.ensures, c.saturating_sub.ensures, c.min-count.ensures,
-              c.loop-done-test.true))
-          (omega (arith, c.min.ensures, c.min-2.ensures, c.min-places.ensures, c.saturating_sub.ensures, c.min-count.ensures,
-              c.loop-done-test.true))
-          (omega (arith, c.min.ensures, c.min-2.ensures, c.min-places.ensures, c.saturating_sub.ensures, c.min-count.ensures,
-              c.loop-done-test.true))
-          (omega (arith, c.min.ensures, c.min-2.ensures, c.min-places.ensures, c.saturating_sub.ensures, c.min-count.ensures,
-              c.loop-done-test.true))
+          (omega (
+            arith,
+            c.min.ensures,
+            c.min-2.ensures,
+            c.min-places.ensures,
+            c.saturating_sub.ensures,
+            c.min-count.ensures,
+            c.loop-done-test.true,
+          ))
+          (omega (
+            arith,
+            c.min.ensures,
+            c.min-2.ensures,
+            c.min-places.ensures,
+            c.saturating_sub.ensures,
+            c.min-count.ensures,
+            c.loop-done-test.true,
+          ))
+          (omega (
+            arith,
+            c.min.ensures,
+            c.min-2.ensures,
+            c.min-places.ensures,
+            c.saturating_sub.ensures,
+            c.min-count.ensures,
+            c.loop-done-test.true,
+          ))
+          (omega (
+            arith,
+            c.min.ensures,
+            c.min-2.ensures,
+            c.min-places.ensures,
+            c.saturating_sub.ensures,
+            c.min-count.ensures,
+            c.loop-done-test.true,
+          ))
+          (omega (
+            arith,
+            c.min.ensures,
+            c.min-2.ensures,
+            c.min-places.ensures,
+            c.saturating_sub.ensures,
+            c.min-count.ensures,
+            c.loop-done-test.true,
+          ))
           c.cell_interval.ensures (ap (set c.loop-done.months c.loop-done.done) (to_z-of_z months ∙ parts.months))
-              (ap (set c.loop-done.days c.loop-done.done) (to_z-of_z days ∙ parts.days))
+          (ap (set c.loop-done.days c.loop-done.done) (to_z-of_z days ∙ parts.days))
           (ap (set c.loop-done.microseconds c.loop-done.done) (to_z-of_z micros ∙ parts.microseconds))
-              (ap (set c.loop-done.codes c.loop-done.done) (to_z-of_z code ∙ parts.code));
+          (ap (set c.loop-done.codes c.loop-done.done) (to_z-of_z code ∙ parts.code));
     }
 
 pub returns : goal.returns
 returns c =
     read_all c.args.style c.args.bytes.now c.args.offsets.now c.args.months.now c.loop-done.months c.args.days.now c.loop-done.days
-        c.args.microseconds.now c.loop-done.microseconds c.args.codes.now c.loop-done.codes c.min-count.result
+    c.args.microseconds.now c.loop-done.microseconds c.args.codes.now c.loop-done.codes c.min-count.result
     c.min-places.result c.loop-done.done c.loop-done.invariant.read (omega (arith, c.min.ensures, c.min-2.ensures, c.min-places.ensures))
-        (omega (arith, c.saturating_sub.ensures, c.min-count.ensures)) c.loop-done-test.false
+    (omega (arith, c.saturating_sub.ensures, c.min-count.ensures)) c.loop-done-test.false

@@ -9,5 +9,5 @@ returns-clause-writes g c =
     let month = padded_two c.fields-years.result.1 in
     let day = padded_two c.fields-years.result.2 in
     let written = rw (c.laid_out.ensures, c.laid_out-2.ensures, month, day, fields.years, fields.month, fields.day) at
-        c.write.ensures.writes in
+    c.write.ensures.writes in
     rw (← c.self.view_is) (simp append_assoc (simp append_assoc at written))

@@ -18,5 +18,5 @@ pub returns-clause-none : goal.returns-clause-none
 returns-clause-none c =
     if_none c.named_by_another.result
     (none_by_another c.args.text.now (λ h. isnt c.begins.result c.if-begins.false (c.begins.ensures.1 h))
-        (λ h. isnt c.begins-2.result c.if-begins-2.false (c.begins-2.ensures.1 h)))
+    (λ h. isnt c.begins-2.result c.if-begins-2.false (c.begins-2.ensures.1 h)))
     c.named_by_another.ensures.none

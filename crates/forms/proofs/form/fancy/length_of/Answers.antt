@@ -32,7 +32,7 @@ returns-then-reads_back-clause-held c =
     let length = c.duration.ensures in
     let same : nanos_of (duration_times c.duration.result.0) ≡ c.in-Ok.length = omega arith in
     sym (ap length_of is ∙ read_back c.in-Ok.length (omega arith)
-        (λ alone. c.reads_back.ensures.months.0 c.if-reads_back.true (subst MonthsStandAlone (sym same) alone)))
+    (λ alone. c.reads_back.ensures.months.0 c.if-reads_back.true (subst MonthsStandAlone (sym same) alone)))
 
 pub returns-else-reads_back-clause-held : goal.returns-else-reads_back-clause-held
 returns-else-reads_back-clause-held c =
@@ -43,5 +43,5 @@ returns-else-reads_back-clause-held c =
     let length = c.duration.ensures in
     let same : nanos_of (duration_times c.duration.result.0) ≡ c.in-Ok.length = omega arith in
     sym (ap length_of is ∙ ambiguous c.in-Ok.length (omega arith)
-        (λ clear. let back = c.reads_back.ensures.months.1 (λ alone. clear (subst MonthsStandAlone same alone)) in let not
-        = c.if-reads_back.false in cc))
+    (λ clear. let back = c.reads_back.ensures.months.1 (λ alone. clear (subst MonthsStandAlone same alone)) in let not
+    = c.if-reads_back.false in cc))

@@ -23,7 +23,7 @@ returns-else-to_unix_time_nanos-nanos c =
     let P : ℤ → Type 0 = λ z. IsFromUnixNanos z (Ok c.in-Ok.time) in
     let exact = c.to_unix_time_nanos.ensures in
     sym (between c.args.nanos c.in-Ok.time (subst P (to_z-of_z c.ranges.nanos) c.in-Ok.ensures)
-        (λ e. c.if-to_unix_time_nanos-nanos.false (ap (of_z w128) (exact ∙ e))))
+    (λ e. c.if-to_unix_time_nanos-nanos.false (ap (of_z w128) (exact ∙ e))))
 
 pub returns-in_default : goal.returns-in_default
 returns-in_default c =

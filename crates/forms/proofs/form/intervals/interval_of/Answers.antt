@@ -22,4 +22,4 @@ returns c =
     let m = c.in-Ok.ensures.1 in
     let d = c.in-Ok-try_from.ensures.1 in
     made_of c.new.result _ _ _ c.args.months c.args.days c.args.micros c.new.ensures (omega (arith, ints)) (omega (arith, ints))
-        (omega (arith, ints)) months days micros
+    (omega (arith, ints)) months days micros

@@ -11,7 +11,7 @@ returns-in-Ok-clause-read g c =
     let days = range.days in
     let micros = range.microseconds in
     reads_as c.args.style c.args.text.now c.in-Ok.interval _ _ _ c.in-Ok.ensures.ok (omega (arith, ints)) (omega (arith, ints))
-        (omega (arith, ints))
+    (omega (arith, ints))
 
 pub returns-in-Err-clause-read : goal.returns-in-Err-clause-read
 returns-in-Err-clause-read g c = reads_refused c.args.style c.args.text.now c.in-Err.cause c.in-Err.ensures.err

@@ -14,7 +14,10 @@ pub returns-in-Day : goal.returns-in-Day
 returns-in-Day c =
     let within : IsWithinBounds (Day c.in-Day.day) = subst IsWithinBounds c.in-Day.is c.requires in
     let same : to_z w32 (of_z w32 c.in-Day.day) ≡ c.in-Day.day = omega (arith, ints) in
-    let laws : AreCalendarDates = record { exists = c.civil_dates_are_calendar_dates.ensures.exists;
-        day = c.civil_dates_are_calendar_dates.ensures.day; civil = c.years_and_weeks_follow_each_other.ensures.civil } in
+    let laws : AreCalendarDates = record {
+      exists = c.civil_dates_are_calendar_dates.ensures.exists;
+      day = c.civil_dates_are_calendar_dates.ensures.day;
+      civil = c.years_and_weeks_follow_each_other.ensures.civil;
+    } in
     let held = held_civil laws c.civil_date.result c.in-Day.day (c.civil_date.ensures ∙ same) in
     rw c.in-Day.is (subst (λ (r : Result Date Cause). Holds (Day c.in-Day.day) r) (sym (ap Ok c.date_of.ensures)) held)

@@ -8,6 +8,6 @@ pub returns : goal.returns
 returns c =
     let offset = c.requires in
     let local : c.to_nanosecond-local.result ≡ civil_nanos c.args.moment.local = c.to_nanosecond-local.ensures.value
-        ∙ ap civil_nanos c.to_plain.ensures in
+    ∙ ap civil_nanos c.to_plain.ensures in
     let bound = c.to_nanosecond-local.ensures.bound in
     omega (arith, ints)

@@ -18,7 +18,7 @@ returns-in-Some c =
     let nanos = c.instant_of.ensures in
     let fits = c.instant_of.type_inv in
     let same : civil_nanos c.in-Some.moment.local -ℤ c.in-Some.moment.offset_seconds *ℤ pos 1_000_000_000
-        ≡ to_z w128 (of_z w128 c.instant_of.result) = omega (arith, ints) in
+    ≡ to_z w128 (of_z w128 c.instant_of.result) = omega (arith, ints) in
     let P : ℤ → Type 0 = λ z. Worth c.args.datetime (Ok (Instant z)) in
     subst P same (is_worth c.args.datetime c.in-Some.moment real value)
 

@@ -28,4 +28,4 @@ returns c =
     let d = c.if-days-most.false in
     let h = c.if-micros-most.false in
     ap Ok c.duration_of.ensures ∙ sym (counts_fit c.args.months c.args.days c.args.micros (omega arith) (omega arith)
-        (omega arith) c.if-micros-ne0.false)
+    (omega arith) c.if-micros-ne0.false)

@@ -15,7 +15,7 @@ pub returns-in_default-written_year : goal.returns-in_default-written_year
 returns-in_default-written_year c =
     let early = less (pos 0) _ (λ h. let e = c.in_default-written_year.ensures.some.1 h in cc) in
     early_day c.civil_dates_are_calendar_dates.ensures.day c.in-Ok.civil c.args.day
-        (subst (λ (z : ℤ). z <ℤ pos 0) (kept_year c.in-Ok.civil) early) (c.in-Ok.ensures.value ∙ to_z-of_z c.ranges.day)
+    (subst (λ (z : ℤ). z <ℤ pos 0) (kept_year c.in-Ok.civil) early) (c.in-Ok.ensures.value ∙ to_z-of_z c.ranges.day)
 
 pub returns : goal.returns
 returns c = held_day c.civil_dates_are_calendar_dates.ensures.day c.in-Ok.civil c.in-Some.year c.args.day

@@ -19,5 +19,5 @@ loop-index-preserved c =
       drawn = drawn_on index _ _ _ drawn;
       whole = subst (λ (bytes : List ℕ). AreWhole (sample_lines (index + 1)) bytes) (sym c.in_ok-extend_from_slice.ensures.items)
           (whole_more c.written_text_is_one_line.ensures index c.loop-index.bytes.items c.as_bytes.result.now c.interval_of_draws.result
-              before.whole interval line);
+          before.whole interval line);
     }

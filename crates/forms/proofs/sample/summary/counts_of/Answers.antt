@@ -7,7 +7,7 @@ pub loop-reply-preserved-then-starts_with : goal.loop-reply-preserved-then-start
 loop-reply-preserved-then-starts_with c =
     let found = c.in-Some.ensures.found in
     let first = first_refused _ c.in-Some.reply.now c.in-Some.after.now found.0 found.1
-        (sym c.starts_with.ensures.value ∙ c.if-starts_with.true) in
+    (sym c.starts_with.ensures.value ∙ c.if-starts_with.true) in
     let before = c.loop-reply.invariant in
     record {
       ok = omega (arith, before.ok, first.answer);
@@ -19,7 +19,7 @@ pub loop-reply-preserved : goal.loop-reply-preserved
 loop-reply-preserved c =
     let found = c.in-Some.ensures.found in
     let first = first_answered _ c.in-Some.reply.now c.in-Some.after.now found.0 found.1
-        (sym c.starts_with.ensures.value ∙ c.if-starts_with.false) in
+    (sym c.starts_with.ensures.value ∙ c.if-starts_with.false) in
     let before = c.loop-reply.invariant in
     record {
       ok = omega (arith, before.ok, first.answer);

@@ -14,5 +14,5 @@ returns-clause-found c =
     let name = simp to_z-of_z at c.weekday_of.ensures in
     let time = c.time_of-time.ensures in
     at_is c.args.first c.args.seconds c.split_seconds-number.result.0 c.in-Some.year c.in-Some.month c.in-Some.day
-        c.split_seconds-number.result.1 c.time_of-time.result.hour c.time_of-time.result.minute c.time_of-time.result.second
-        c.weekday_of.result day clock real time.same time.shown name
+    c.split_seconds-number.result.1 c.time_of-time.result.hour c.time_of-time.result.minute c.time_of-time.result.second
+    c.weekday_of.result day clock real time.same time.shown name

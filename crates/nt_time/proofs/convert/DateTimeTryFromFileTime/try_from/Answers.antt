@@ -9,5 +9,5 @@ pub returns-in-Ok : goal.returns-in-Ok
 returns-in-Ok c =
     let utc = c.in-Ok.ensures in
     let below : c.args.ft < past_civil = ⊎_elim (λ h. h) (λ past. absurd (let out = utc.out.1 past in cc))
-        (cases_lt c.args.ft past_civil) in
+    (cases_lt c.args.ft past_civil) in
     dos_from _ c.in-Ok.utc _ utc.ok below (rw c.civil.ensures at c.from_civil.ensures)

@@ -14,7 +14,7 @@ unwrap-requires c =
     let split = civil_nanos-civil_seconds civil in
     let made = c.from_unix_time_secs.ensures in
     succeeds c.from_unix_time_secs.result (λ e. omega (arith, ints, seconds, since, split, made.negative.0 e))
-        (λ e. omega (arith, ints, made.overflow.0 e))
+    (λ e. omega (arith, ints, made.overflow.0 e))
 
 pub returns : goal.returns
 returns c =

@@ -9,4 +9,4 @@ returns-then-is_negative-clause-value c =
 pub returns-else-is_negative-clause-value : goal.returns-else-is_negative-clause-value
 returns-else-is_negative-clause-value c =
     moved_forward _ _ _ (not_negative _ _ c.is_negative.ensures c.if-is_negative.false)
-        (rw c.unsigned_abs-else-is_negative.ensures at c.checked_add.ensures.value)
+    (rw c.unsigned_abs-else-is_negative.ensures at c.checked_add.ensures.value)

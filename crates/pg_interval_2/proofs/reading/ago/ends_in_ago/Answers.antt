@@ -11,4 +11,4 @@ returns-clause-no g c =
     let g = (c.if-not-ends_in-2.ensures.yes refl).1 in
     let place : end - 1 - 1 ≡ end - 2 = omega arith in
     λ none. no_a (take end text) (take (end - 1) text) (take (end - 2) text) o (g ∙ ap (λ (n : ℕ). take n text ++ 103 ∷ []) place)
-        (c.ends_in-3.ensures.no none)
+    (c.ends_in-3.ensures.no none)

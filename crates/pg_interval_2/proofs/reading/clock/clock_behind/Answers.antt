@@ -26,9 +26,9 @@ returns-clause-read g c =
       fraction = fraction.0;
     } in
     let byte : read_byte 58 (after_digits (ahead c.args.scan.now))
-        ≡ Some behind = ap (read_byte 58) (sym minutes.ensures.rest ∙ colon.split) in
+    ≡ Some behind = ap (read_byte 58) (sym minutes.ensures.rest ∙ colon.split) in
     let end : fraction.1 ≡ ahead cut.new.scan = ap (λ (l : List ℕ). (read_fraction l).1) (sym seconds.ensures.rest)
-        ∙ sym cut.ensures.rest in
+    ∙ sym cut.ensures.rest in
     let first = minutes.ensures.passed.same in
     let last = cut.ensures.same ∙ seconds.ensures.passed.same ∙ colon.same in
     let some_minutes = some_digits minutes.new.self.text minutes.result minutes.ensures.run c.if-is_empty-2.ensures in

@@ -28,7 +28,7 @@ loop-names-smaller g c =
     let before = c.loop-names.invariant.taken in
     let rest = c.blanks-in-Taken.ensures.rest in
     rw rest (taken_shorter (names_in c.args.names) c.args.turned (ahead c.loop-names.scan)
-        (ahead c.take_item.new.scan) before.counts c.take_item.new.self (c.in-Taken.ensures.step before.counts before.counted))
+    (ahead c.take_item.new.scan) before.counts c.take_item.new.self (c.in-Taken.ensures.step before.counts before.counted))
 
 pub loop-names-preserved : goal.loop-names-preserved
 loop-names-preserved g c =
@@ -38,7 +38,7 @@ loop-names-preserved g c =
     let shorter = ap (λ (l : List ℕ). length l) rest in
     let le = after-le (ahead c.take_item.new.scan) in
     let blanks = spends_scan c.take_item.new.steps (ahead c.take_item.new.scan) c.blanks-in-Taken.new.steps
-        (ahead c.blanks-in-Taken.new.self) c.blanks-in-Taken.ensures.ticks (omega (arith, shorter, le)) in
+    (ahead c.blanks-in-Taken.new.self) c.blanks-in-Taken.ensures.ticks (omega (arith, shorter, le)) in
     record {
       room = omega (arith, shorter, le, c.in-Taken.ensures.room, kept.room);
       taken = rw rest (one_taken (names_in c.args.names) c.args.turned (ahead c.args.scan.now) (ahead c.loop-names.scan)
@@ -55,13 +55,13 @@ returns-in-BadName-clause-err g c =
     let before = c.loop-names.invariant.taken in
     let step = c.in-BadName.ensures.step before.counts before.counted in
     let bad = bad_next (names_in c.args.names) c.args.turned bytes
-        (ahead c.loop-names.scan) step.letters after c.loop-names.counted step.number before
-        (λ none. false≢true (c.loop-names-test.ensures.1 none)) step.read step.bad in
+    (ahead c.loop-names.scan) step.letters after c.loop-names.counted step.number before
+    (λ none. false≢true (c.loop-names-test.ensures.1 none)) step.read step.bad in
     let text : length c.take_item.new.scan.text ≡ length c.args.scan.now.text = ap (λ (l : List ℕ). length l)
-        (c.take_item.ensures.same ∙ c.loop-names.invariant.same) in
+    (c.take_item.ensures.same ∙ c.loop-names.invariant.same) in
     let long = length-drop c.args.scan.now.at c.args.scan.now.text in
     let within = name_within (names_in c.args.names) c.args.turned bytes
-        (ahead c.loop-names.scan) step.letters after c.loop-names.counted step.number before step.read in (
+    (ahead c.loop-names.scan) step.letters after c.loop-names.counted step.number before step.read in (
       length bytes - length after - length step.letters,
       length bytes - length after,
       bad,
@@ -73,5 +73,5 @@ pub returns-in-NoItem-clause-err : goal.returns-in-NoItem-clause-err
 returns-in-NoItem-clause-err g c =
     let before = c.loop-names.invariant.taken in
     text_unspelled (names_in c.args.names) (set_names c.args.names) c.args.turned (ahead c.args.scan.now)
-        (ahead c.loop-names.scan) c.loop-names.counted before
+    (ahead c.loop-names.scan) c.loop-names.counted before
     (λ none. false≢true (c.loop-names-test.ensures.1 none)) (c.in-NoItem.ensures.step before.counts before.counted)

@@ -24,12 +24,12 @@ returns-in-Ok-clause-err g c =
 pub returns-in-Err-BadName-clause-err : goal.returns-in-Err-BadName-clause-err
 returns-in-Err-BadName-clause-err g c =
     let bad = bad_name c.args.text.now (ahead c.new-scan.result) c.new-scan.result.at c.in-Err-BadName.start c.in-Err-BadName.end
-        (ap ahead c.new-scan.ensures.place) (ap (λ (p : Place). p.at) c.new-scan.ensures.place)
-        (rw c.in-Err-BadName.field-0-is at c.in-Err-BadName.ensures.err) in
+    (ap ahead c.new-scan.ensures.place) (ap (λ (p : Place). p.at) c.new-scan.ensures.place)
+    (rw c.in-Err-BadName.field-0-is at c.in-Err-BadName.ensures.err) in
     (λ counts shape. no_shape_at_bad_name postgres_names are_names c.args.text.now _ _ counts bad shape, bad)
 
 pub returns-in-Err-NoItems-clause-err : goal.returns-in-Err-NoItems-clause-err
 returns-in-Err-NoItems-clause-err g c =
     let none = no_items c.args.text.now (ahead c.new-scan.result) c.new-scan.result.at (ap ahead c.new-scan.ensures.place)
-        (rw c.in-Err-NoItems.field-0-is at c.in-Err-NoItems.ensures.err) in
+    (rw c.in-Err-NoItems.field-0-is at c.in-Err-NoItems.ensures.err) in
     (none.0, none.1, refl)

@@ -15,8 +15,20 @@ returns-clause-bytes g c =
     let years = named_words negative (years_of c.args.months) (codes "year") in
     let months = named_words negative (months_of c.args.months) (codes "mon") in
     let days = named_words (is_negative c.args.days) (unsigned_abs c.args.days) (codes "day") in
-    simp (c.push_time.ensures.bytes, c.push_part-words-3.ensures.bytes, c.push_part-words-2.ensures.bytes, c.push_part-words.ensures.bytes,
-        c.push_part-words-3.ensures.words, c.push_part-words-2.ensures.words, c.push_part-words.ensures.words,
-        c.is_negative-negative.ensures, c.is_negative.ensures, c.years_of.ensures, c.months_of.ensures, c.unsigned_abs.ensures.value,
-        to_z-of_z, append_assoc)
+    simp (
+      c.push_time.ensures.bytes,
+      c.push_part-words-3.ensures.bytes,
+      c.push_part-words-2.ensures.bytes,
+      c.push_part-words.ensures.bytes,
+      c.push_part-words-3.ensures.words,
+      c.push_part-words-2.ensures.words,
+      c.push_part-words.ensures.words,
+      c.is_negative-negative.ensures,
+      c.is_negative.ensures,
+      c.years_of.ensures,
+      c.months_of.ensures,
+      c.unsigned_abs.ensures.value,
+      to_z-of_z,
+      append_assoc,
+    )
     (ap (λ (l : List ℕ). c.args.out.now.bytes ++ l) (four_steps years months days (clock_words c.args.micros)))

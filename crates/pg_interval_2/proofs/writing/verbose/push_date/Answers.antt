@@ -8,6 +8,17 @@ unfolding verbose_date
 returns-clause-bytes g c =
     let months : FitsSigned w32 c.args.months = c.ranges.months in
     let days : FitsSigned w32 c.args.days = c.ranges.days in
-    simp (c.push_unit-3.ensures.bytes, c.push_unit-2.ensures.bytes, c.push_unit.ensures.bytes, c.turn-sign.ensures, c.turn.ensures,
-        c.is_negative.ensures, c.is_negative-2.ensures, c.years_of.ensures, c.months_of.ensures, c.unsigned_abs.ensures.value, to_z-of_z,
-        append_assoc) refl
+    simp (
+      c.push_unit-3.ensures.bytes,
+      c.push_unit-2.ensures.bytes,
+      c.push_unit.ensures.bytes,
+      c.turn-sign.ensures,
+      c.turn.ensures,
+      c.is_negative.ensures,
+      c.is_negative-2.ensures,
+      c.years_of.ensures,
+      c.months_of.ensures,
+      c.unsigned_abs.ensures.value,
+      to_z-of_z,
+      append_assoc,
+    ) refl

@@ -11,9 +11,12 @@ pub loop-self-preserved : goal.loop-self-preserved
 loop-self-preserved g c =
     let some = c.loop-self.invariant.among in
     record {
-      among = (some.0 ++ c.in-Some.field-0 ∷ [], among_more is_blank some.0 c.args.self.now c.loop-self.self c.next.new.self
-          c.in-Some.field-0 some.1 c.in-Some.ensures.some.0 (front_passed c.in-Some.field-0 c.next.result c.loop-self.self c.next.new.self
-          c.next.ensures.front c.in-Some.ensures.some.1 c.next.ensures.some));
+      among = (
+        some.0 ++ c.in-Some.field-0 ∷ [],
+        among_more is_blank some.0 c.args.self.now c.loop-self.self c.next.new.self
+            c.in-Some.field-0 some.1 c.in-Some.ensures.some.0 (front_passed c.in-Some.field-0 c.next.result c.loop-self.self c.next.new.self
+            c.next.ensures.front c.in-Some.ensures.some.1 c.next.ensures.some),
+      );
       ticks = omega (arith, c.next.ensures.ticks, c.loop-self.invariant.ticks);
     }
 

@@ -7,8 +7,11 @@ use Rattle.scan_core.proofs.Scans.{among_more, among_none, one_passed}
 use Rattle.scan_core.proofs.scan.Scan.digits_inside.Goals as goal
 
 pub loop-digit-init : goal.loop-digit-init
-loop-digit-init g c = record { among = ([], among_none is_ascii_digit c.args.self.now, inl refl, omega arith); room = c.requires.room;
-    ticks = refl }
+loop-digit-init g c = record {
+  among = ([], among_none is_ascii_digit c.args.self.now, inl refl, omega arith);
+  room = c.requires.room;
+  ticks = refl;
+}
 
 pub next_inside-requires : goal.next_inside-requires
 next_inside-requires g c = omega (arith, c.loop-digit.invariant.room, c.in-Some.ensures.some.0)
@@ -17,7 +20,7 @@ pub loop-digit-preserved : goal.loop-digit-preserved
 loop-digit-preserved g c =
     let some = c.loop-digit.invariant.among in
     let passed = one_passed c.in-Some.digit c.loop-digit.self c.next_inside.new.self c.in-Some.ensures.some.2 c.next_inside.ensures.passed
-        in
+    in
     record {
       among = (
         some.0 ++ c.in-Some.digit ∷ [],

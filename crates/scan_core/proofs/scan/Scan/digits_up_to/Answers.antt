@@ -12,8 +12,12 @@ loop-digit-init g c =
     let start = c.at-start.ensures.place in
     let here = c.at.ensures.place in
     record {
-      among = (some.0, among_of is_ascii_digit some.0 c.args.self.now c.first_digits-value.new.self some.2 some.3, some.4,
-          omega (arith, some.1, some.3.at, start, here));
+      among = (
+        some.0,
+        among_of is_ascii_digit some.0 c.args.self.now c.first_digits-value.new.self some.2 some.3,
+        some.4,
+        omega (arith, some.1, some.3.at, start, here),
+      );
       ticks = c.first_digits-value.ensures.ticks;
     }
 
@@ -21,8 +25,8 @@ pub loop-digit-preserved : goal.loop-digit-preserved
 loop-digit-preserved g c =
     let some = c.loop-digit.invariant.among in
     let more = among_more is_ascii_digit some.0 c.args.self.now c.loop-digit.self c.next.new.self c.in-Some.digit some.1
-        c.in-Some.ensures.some.1 (front_passed c.in-Some.digit c.next.result c.loop-digit.self c.next.new.self c.next.ensures.front
-        c.in-Some.ensures.some.2 c.next.ensures.some) in
+    c.in-Some.ensures.some.1 (front_passed c.in-Some.digit c.next.result c.loop-digit.self c.next.new.self c.next.ensures.front
+    c.in-Some.ensures.some.2 c.next.ensures.some) in
     record {
       among = (
         some.0 ++ c.in-Some.digit ∷ [],
@@ -53,12 +57,12 @@ returns-clause-front g c =
     let start = c.at-start.ensures.place in
     let end = c.at-end.ensures.place in
     let front = some_passed is_ascii_digit some.0 c.args.self.now c.loop-digit.self c.args.most some.1
-        (stops some.0 _ c.args.most c.loop-digit.left some.3 c.in_default.ensures.none) in
+    (stops some.0 _ c.args.most c.loop-digit.left some.3 c.in_default.ensures.none) in
     rw (start, end) (between_passed some.0 c.args.self.now c.loop-digit.self some.1.passed ∙ sym front)
 
 pub returns-clause-passed : goal.returns-clause-passed
 returns-clause-passed g c =
     let some = c.loop-digit.invariant.among in
     let front = some_passed is_ascii_digit some.0 c.args.self.now c.loop-digit.self c.args.most some.1
-        (stops some.0 _ c.args.most c.loop-digit.left some.3 c.in_default.ensures.none) in
+    (stops some.0 _ c.args.most c.loop-digit.left some.3 c.in_default.ensures.none) in
     rw front some.1.passed

@@ -10,18 +10,24 @@ use Rattle.scan_core.proofs.scan.Scan.letters.Goals as goal
 pub loop-letter-init : goal.loop-letter-init
 loop-letter-init g c =
     let some = c.first_letters-value.ensures.passed in
-    record { among = (some.0, among_of is_ascii_alphabetic some.0 c.args.self.now c.first_letters-value.new.self some.2 some.3, some.4);
-        ticks = c.first_letters-value.ensures.ticks }
+    record {
+      among = (some.0, among_of is_ascii_alphabetic some.0 c.args.self.now c.first_letters-value.new.self some.2 some.3, some.4);
+      ticks = c.first_letters-value.ensures.ticks;
+    }
 
 pub loop-letter-preserved : goal.loop-letter-preserved
 loop-letter-preserved g c =
     let some = c.loop-letter.invariant.among in
     let more = among_more is_ascii_alphabetic some.0 c.args.self.now c.loop-letter.self c.next.new.self c.in-Some.letter some.1
-        c.in-Some.ensures.some.0 (front_passed c.in-Some.letter c.next.result c.loop-letter.self c.next.new.self c.next.ensures.front
-        c.in-Some.ensures.some.1 c.next.ensures.some) in
+    c.in-Some.ensures.some.0 (front_passed c.in-Some.letter c.next.result c.loop-letter.self c.next.new.self c.next.ensures.front
+    c.in-Some.ensures.some.1 c.next.ensures.some) in
     record {
-      among = (some.0 ++ c.in-Some.letter ∷ [], more, c.with_letter-value.ensures _ some.2
-          ∙ ap (λ (n : ℕ). n % 2 ^ 64) (sym (packed_push some.0 c.in-Some.letter)));
+      among = (
+        some.0 ++ c.in-Some.letter ∷ [],
+        more,
+        c.with_letter-value.ensures _ some.2
+            ∙ ap (λ (n : ℕ). n % 2 ^ 64) (sym (packed_push some.0 c.in-Some.letter)),
+      );
       ticks = omega (arith, c.next.ensures.ticks, c.loop-letter.invariant.ticks);
     }
 
@@ -32,9 +38,9 @@ returns-clause-word g c =
     let end = c.at.ensures.place in
     let value = c.loop-letter.invariant.among.2 in
     let known : Knows (2 ^ 56) c.loop-letter.value (packed c.loop-letter.invariant.among.0) = rw value
-        (packed_known c.loop-letter.invariant.among.0 passed.all) in
+    (packed_known c.loop-letter.invariant.among.0 passed.all) in
     rw (start, end) (word_passed c.loop-letter.invariant.among.0 c.args.self.now c.loop-letter.self c.loop-letter.value passed.passed
-        (omega (arith, c.at.ensures.within)) passed.all known)
+    (omega (arith, c.at.ensures.within)) passed.all known)
 
 pub returns-clause-front : goal.returns-clause-front
 returns-clause-front g c =

@@ -6,8 +6,11 @@ use Rattle.scan_core.proofs.Scans.{among_more, among_none, one_passed}
 use Rattle.scan_core.proofs.scan.Scan.letters_inside.Goals as goal
 
 pub loop-letter-init : goal.loop-letter-init
-loop-letter-init g c = record { among = ([], among_none is_ascii_alphabetic c.args.self.now, refl, omega arith); room = c.requires.room;
-    ticks = refl }
+loop-letter-init g c = record {
+  among = ([], among_none is_ascii_alphabetic c.args.self.now, refl, omega arith);
+  room = c.requires.room;
+  ticks = refl;
+}
 
 pub next_inside-requires : goal.next_inside-requires
 next_inside-requires g c = omega (arith, c.loop-letter.invariant.room, c.in-Some.ensures.some.0)
@@ -16,7 +19,7 @@ pub loop-letter-preserved : goal.loop-letter-preserved
 loop-letter-preserved g c =
     let some = c.loop-letter.invariant.among in
     let passed = one_passed c.in-Some.letter c.loop-letter.self c.next_inside.new.self c.in-Some.ensures.some.2 c.next_inside.ensures.passed
-        in
+    in
     record {
       among = (
         some.0 ++ c.in-Some.letter ∷ [],

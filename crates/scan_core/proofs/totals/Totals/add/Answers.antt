@@ -10,9 +10,11 @@ invariant_of-self c =
     let days : FitsSigned w32 c.args.share.days = search rules in
     let micros : FitsSigned w64 c.args.share.micros = search rules in
     let adds = ap (λ (sums : Added). sums.adds) c.self.view_is in
-    let i = c.self.invariant in
-    ((omega (arith, ints, i.0.0), omega (arith, ints, i.0.1)), (omega (arith, ints, i.1.0), omega (arith, ints, i.1.1)),
-        (omega (arith, ints, i.2.0), omega (arith, ints, i.2.1)))
+    let i = c.self.invariant in (
+      (omega (arith, ints, i.0.0), omega (arith, ints, i.0.1)),
+      (omega (arith, ints, i.1.0), omega (arith, ints, i.1.1)),
+      (omega (arith, ints, i.2.0), omega (arith, ints, i.2.1)),
+    )
 
 pub returns-clause-months : goal.returns-clause-months
 returns-clause-months c =

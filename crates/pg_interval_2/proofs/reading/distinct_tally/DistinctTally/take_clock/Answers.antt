@@ -12,6 +12,6 @@ returns-clause-step g c =
     λ names counts h.
     let taken = c.count_ahead-taken in
     subst (λ (p : Place). IsItemStep (names_in names) c.args.turned taken.new.scan.text
-        (read_clock c.args.negative (digits_of p.text c.args.hours) (ahead p)) (ahead taken.new.scan) counts taken.new.self
-        (clock_step taken.result)) c.here-here.ensures
+    (read_clock c.args.negative (digits_of p.text c.args.hours) (ahead p)) (ahead taken.new.scan) counts taken.new.self
+    (clock_step taken.result)) c.here-here.ensures
     (taken.ensures.step names counts h)

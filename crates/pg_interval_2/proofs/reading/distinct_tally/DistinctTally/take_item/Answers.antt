@@ -18,9 +18,9 @@ returns-then-not-next_if-clause-step g c =
     let digits = ap (λ (p : Place). digits_of p.text whole.result) other.0 ∙ whole.ensures.front in
     let colon = subst (λ (p : Place). front_byte (ahead p) ≢ Some 58) (sym other.0) other.1 in
     let item = item_named bytes c.sign-negative.result (ahead c.sign-negative.new.scan) (digits_of c.next_if.new.self.text whole.result)
-        (ahead c.next_if.new.self) c.sign-negative.ensures.read digits rest colon in
+    (ahead c.next_if.new.self) c.sign-negative.ensures.read digits rest colon in
     subst (λ (i : NextItem). IsItemStep (names_in c.args.names) c.args.turned c.take_named.new.scan.text i
-        (ahead c.take_named.new.scan) counts c.take_named.new.self c.take_named.result) (sym item)
+    (ahead c.take_named.new.scan) counts c.take_named.new.self c.take_named.result) (sym item)
     (c.take_named.ensures.step counts h)
 
 pub returns-then-taken-clause-step : goal.returns-then-taken-clause-step
@@ -28,12 +28,12 @@ returns-then-taken-clause-step g c =
     λ counts h.
     let whole = c.digits-whole in
     let item = item_clock (ahead c.args.scan.now) c.sign-negative.result
-        (ahead c.sign-negative.new.scan) whole.new.self c.next_if.new.self whole.result c.sign-negative.ensures.read whole.ensures.front
-        whole.ensures.rest
+    (ahead c.sign-negative.new.scan) whole.new.self c.next_if.new.self whole.result c.sign-negative.ensures.read whole.ensures.front
+    whole.ensures.rest
     (c.if-not-next_if.ensures.passed refl) in
     let behind = ap (λ (p : Place). read_clock c.sign-negative.result (digits_of p.text whole.result) (ahead p)) c.here-behind.ensures in
     subst (λ (i : NextItem). IsItemStep (names_in c.args.names) c.args.turned c.take_clock-taken.new.scan.text i
-        (ahead c.take_clock-taken.new.scan) counts c.take_clock-taken.new.self (clock_step true)) (behind ∙ sym item)
+    (ahead c.take_clock-taken.new.scan) counts c.take_clock-taken.new.self (clock_step true)) (behind ∙ sym item)
     (c.if-taken.ensures.step c.args.names counts h)
 
 pub returns-else-taken-clause-step : goal.returns-else-taken-clause-step
@@ -41,10 +41,10 @@ returns-else-taken-clause-step g c =
     λ counts h.
     let whole = c.digits-whole in
     let item = item_clock (ahead c.args.scan.now) c.sign-negative.result
-        (ahead c.sign-negative.new.scan) whole.new.self c.next_if.new.self whole.result c.sign-negative.ensures.read whole.ensures.front
-        whole.ensures.rest
+    (ahead c.sign-negative.new.scan) whole.new.self c.next_if.new.self whole.result c.sign-negative.ensures.read whole.ensures.front
+    whole.ensures.rest
     (c.if-not-next_if.ensures.passed refl) in
     let behind = ap (λ (p : Place). read_clock c.sign-negative.result (digits_of p.text whole.result) (ahead p)) c.here-behind.ensures in
     subst (λ (i : NextItem). IsItemStep (names_in c.args.names) c.args.turned c.take_clock-taken.new.scan.text i
-        (ahead c.take_clock-taken.new.scan) counts c.take_clock-taken.new.self (clock_step false)) (behind ∙ sym item)
+    (ahead c.take_clock-taken.new.scan) counts c.take_clock-taken.new.self (clock_step false)) (behind ∙ sym item)
     (c.if-taken.ensures.step c.args.names counts h)

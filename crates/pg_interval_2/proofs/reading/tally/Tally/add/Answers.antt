@@ -13,14 +13,14 @@ returns-then-not-add_scanned-clause-tallied g c =
     let kept = c.if-not-add_scanned.ensures.kept refl in
     let marked = c.mark.ensures in
     rw (marked, kept) (tally_mark c.args.unit number.negative (digits_of text number.whole)
-        (digits_of text number.fraction) c.args.self.now counts (off_unless _ c.if-not-add_scanned.ensures.fits.1) h)
+    (digits_of text number.fraction) c.args.self.now counts (off_unless _ c.if-not-add_scanned.ensures.fits.1) h)
 
 pub returns-else-not-add_scanned-clause-tallied : goal.returns-else-not-add_scanned-clause-tallied
 returns-else-not-add_scanned-clause-tallied g c =
     λ counts h.
     let added = c.if-not-add_scanned.ensures in
     tally_share c.args.self.now _ counts (count_with (numeral_in c.args.text.now c.args.number) c.args.unit)
-        c.requires.number.fraction.digits (added.fits.0 refl) (record {
+    c.requires.number.fraction.digits (added.fits.0 refl) (record {
       months_fit = refl;
       days_fit = refl;
       micros_fit = refl;
