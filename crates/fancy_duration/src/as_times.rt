@@ -7,7 +7,7 @@ ghost use Rattle.fancy_duration.specs.Meanings.{Parses};
 ghost use Rattle.fancy_duration.specs.Durations.{duration_times, CanMake};
 
 use crate::FancyError;
-use crate::reading::read_times;
+use crate::read::read_times;
 use std::time::Duration;
 
 /// A length of time that has seconds and nanoseconds.

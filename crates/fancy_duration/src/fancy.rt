@@ -11,7 +11,7 @@ ghost use Rattle.fancy_duration.specs.Strict.{IsStrict};
 ghost use Rattle.fancy_duration.specs.Collisions.{MonthsStandAlone};
 
 use crate::breakdown::{have_months_alone, kept_nanos, leading_nanos};
-use crate::reading::read_times;
+use crate::read::read_times;
 use crate::strict::is_strict;
 use crate::written::{push_length, without_spaces};
 use crate::{AsTimes, DurationPart, FancyError};

@@ -6,7 +6,7 @@ ghost use Rattle.scan_core.specs.Fronts.{behind};
 ghost use Rattle.fancy_duration.specs.inside.Reading.{HasCounts};
 
 use crate::DurationPart;
-use crate::reading::split_unit;
+use crate::read::split_unit;
 use scan_core::{is_blank, split_digits};
 
 /// True exactly for the strict texts.

@@ -1,5 +1,5 @@
 //! One line of a column.
-ghost use Rattle.std.specs.Prelude.{◌≡◌, ◌<◌, IfSome, IfNone};
+ghost use Rattle.std.specs.Prelude.{◌≡◌, IfSome, IfNone};
 ghost use Rattle.forms.specs.Names.{style_of};
 ghost use Rattle.whole_input.specs.Parts.{HasNo};
 ghost use Rattle.interval_column.specs.Lines.{IsEntry, IsLabelled, IsLineRead, IsTextRead};
@@ -7,11 +7,9 @@ ghost use Rattle.interval_column.specs.inside.Labels.{IsNoEntry, IsNotStyled, Is
 
 use crate::fault::LineFault;
 use forms::Form;
-use pg_interval_2::{Interval, Style, read_counted};
-use scan_core::{Looked, Steps};
-use std::marker::Brand;
+use pg_interval_2::{Interval, Style, read};
+use scan_core::Looked;
 use std::str;
-use std::sync::ledger::{Blank, Ledger};
 use whole_input::split_text;
 
 /// The interval that a line denotes, or its fault.
@@ -80,21 +78,7 @@ pub fn style_of(form: Form) -> Option<Style>
 fn read_text(style: Style, text: &str) -> Result<Interval, LineFault>
     ensures { IsTextRead style text.now result }
 {
-    read_alone::<Brand>(style, &Looked::new(text), Blank::new(1))
-}
-
-/// The same of a counted text, with a counter of its own.
-fn read_alone<L: Ledger>(
-    style: Style,
-    text: &Looked<'_>,
-    blank: Blank,
-) -> Result<Interval, LineFault>
-    requires name { blank.name ≡ L.name }
-    requires parts { blank.parts ≡ L.parts }
-    requires some { 0 < L.parts }
-    ensures { IsTextRead style text.now result }
-{
-    match read_counted(style, text, &mut Steps::<L>::new(blank)) {
+    match read(style, &Looked::new(text)) {
         Ok(interval) => Ok(interval),
         Err(error) if error.is_range() => Err(LineFault::Range),
         Err(_) => Err(LineFault::Syntax),

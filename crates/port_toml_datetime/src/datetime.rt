@@ -5,7 +5,7 @@ ghost use Rattle.port_toml_datetime.specs.Datetimes.{datetime_of};
 ghost use Rattle.port_toml_datetime.specs.Reading.{IsReadFrom};
 ghost use Rattle.port_toml_datetime.specs.Texts.{text_of};
 
-use crate::reading::read;
+use crate::read::read;
 use crate::text::push_datetime;
 use crate::{Date, DatetimeParseError, Offset, Time};
 use arrayvec::ArrayString;

@@ -1,5 +1,5 @@
 //! One cell of a column: its text, the text's answer and its interval.
-ghost use Rattle.std.specs.Prelude.{◌≡◌, ◌<◌, ◌≤◌, IfOk, IfSome, IfNone};
+ghost use Rattle.std.specs.Prelude.{◌≡◌, ◌≤◌, IfOk, IfSome, IfNone};
 ghost use Rattle.arrayvec.specs.ArrayString.{array_string_len};
 ghost use Rattle.forms.specs.Answers.{bytes_of};
 ghost use Rattle.forms.specs.Replies.{IsAnswer};
@@ -8,11 +8,9 @@ ghost use Rattle.timeforms_c.specs.inside.Cells.{shown};
 
 use crate::code::{BAD_OFFSETS, NOT_UTF8, code_of};
 use forms::{Cause, Form, push_text_reply, reply};
-use pg_interval_2::{Interval, Style, read_counted};
-use scan_core::{Looked, Short, Steps};
-use std::marker::Brand;
+use pg_interval_2::{Interval, Style, read};
+use scan_core::{Looked, Short};
 use std::str;
-use std::sync::ledger::{Blank, Ledger};
 
 /// The answer to a cell, or a code.
 #[inline(always)]
@@ -124,17 +122,7 @@ fn coded_interval(found: Result<Interval, Cause>) -> Result<Interval, i32>
 fn found_interval(style: Style, text: &str) -> Result<Interval, Cause>
     ensures { FindsInterval style text.now result }
 {
-    found_alone::<Brand>(style, &Looked::new(text), Blank::new(1))
-}
-
-/// The same of a counted text, with a counter of its own.
-fn found_alone<L: Ledger>(style: Style, text: &Looked<'_>, blank: Blank) -> Result<Interval, Cause>
-    requires name { blank.name ≡ L.name }
-    requires parts { blank.parts ≡ L.parts }
-    requires some { 0 < L.parts }
-    ensures { FindsInterval style text.now result }
-{
-    match read_counted(style, text, &mut Steps::<L>::new(blank)) {
+    match read(style, &Looked::new(text)) {
         Ok(interval) => Ok(interval),
         Err(error) if error.is_range() => Err(Cause::Range),
         Err(_) => Err(Cause::Syntax),

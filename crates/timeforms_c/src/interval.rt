@@ -1,5 +1,5 @@
 //! PostgreSQL's intervals as three numbers, read and written by an interval form.
-ghost use Rattle.std.specs.Prelude.{◌≡◌, ◌≢◌, ◌<◌, pos, None, Some, Ok, Err, IsUtf8};
+ghost use Rattle.std.specs.Prelude.{◌≡◌, ◌≢◌, pos, None, Some, Ok, Err, IsUtf8};
 ghost use Rattle.scan_core.specs.declared.share.Part.{Part};
 ghost use Rattle.pg_interval_2.specs.Denotes.{Denotes, HasNoShape, Misfits};
 ghost use Rattle.pg_interval_2.specs.Styles.{Shape, style_text};
@@ -17,11 +17,9 @@ use crate::form::{form_numbered, style_of};
 use crate::room::put_text;
 use forms::Cause;
 use pg_interval_2::laws::denoted_interval_is_in_range;
-use pg_interval_2::{Interval, Style, read_counted};
-use scan_core::{Looked, Steps};
-use std::marker::Brand;
+use pg_interval_2::{Interval, Style, read};
+use scan_core::Looked;
 use std::str;
-use std::sync::ledger::{Blank, Ledger};
 
 /// An interval as C has it: months, days and microseconds, none a multiple of another.
 #[repr(C)]
@@ -66,7 +64,7 @@ pub extern "C" fn timeforms_interval_from_text(
     let Ok(text) = str::from_utf8(text) else {
         return NOT_UTF8;
     };
-    match read_alone::<Brand>(style, &Looked::new(text), Blank::new(1)) {
+    match read_text(style, text) {
         Ok(read) => {
             interval.months = read.months;
             interval.days = read.days;
@@ -111,17 +109,14 @@ pub(crate) fn style_numbered(form: i32) -> Option<Style>
     style_of(form_numbered(form)?)
 }
 
-/// The interval that a text denotes in the style, or the cause why there is none, with a counter of its own.
-fn read_alone<L: Ledger>(style: Style, text: &Looked<'_>, blank: Blank) -> Result<Interval, Cause>
-    requires name { blank.name ≡ L.name }
-    requires parts { blank.parts ≡ L.parts }
-    requires some { 0 < L.parts }
+/// The interval that a text denotes in the style, or the cause why there is none.
+fn read_text(style: Style, text: &str) -> Result<Interval, Cause>
     ensures done { (t : AnyInterval) → Denotes (Shape style) text.now t → result ≡ Ok t }
     ensures range { (part : Part) → Misfits (Shape style) text.now part
         → result ≡ Err AnyCause.Range }
     ensures syntax { HasNoShape (Shape style) text.now → result ≡ Err AnyCause.Syntax }
 {
-    match read_counted(style, text, &mut Steps::<L>::new(blank)) {
+    match read(style, &Looked::new(text)) {
         Ok(interval) => Ok(interval),
         Err(error) if error.is_range() => Err(Cause::Range),
         Err(_) => Err(Cause::Syntax),
