@@ -1,0 +1,5 @@
+-- What a caller must believe, by subject.
+pub mod Pieces
+pub mod Dates
+pub mod Timestamps
+pub mod inside

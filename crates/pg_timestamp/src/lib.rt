@@ -1,0 +1,13 @@
+//! Timestamps of PostgreSQL, as its output in DateStyle ISO has them: `2026-12-01 23:24:31.051677+00`, `0044-03-15 BC`.
+#![tactic(auto)]
+
+mod date;
+pub mod laws;
+mod offset;
+mod pair;
+mod time;
+mod timestamp;
+
+pub use date::Date;
+pub use time::Time;
+pub use timestamp::{Timestamp, read};
