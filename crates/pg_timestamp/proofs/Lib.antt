@@ -4,3 +4,4 @@ pub mod YearFacts
 pub mod OffsetFacts
 pub mod TimeFacts
 pub mod PlaceFacts
+pub mod ValueFacts

@@ -2,4 +2,5 @@
 pub mod Pieces
 pub mod Dates
 pub mod Timestamps
+pub mod Values
 pub mod inside

@@ -7,7 +7,10 @@ mod offset;
 mod pair;
 mod time;
 mod timestamp;
+mod value;
+mod worth;
 
 pub use date::Date;
 pub use time::Time;
 pub use timestamp::{Timestamp, read};
+pub use value::{NoValue, Value};
