@@ -5,3 +5,7 @@ pub mod OffsetFacts
 pub mod TimeFacts
 pub mod PlaceFacts
 pub mod ValueFacts
+pub mod MomentFacts
+pub mod WrittenFacts
+pub mod HeldFacts
+pub mod BoundFacts

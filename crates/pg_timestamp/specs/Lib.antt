@@ -3,4 +3,5 @@ pub mod Pieces
 pub mod Dates
 pub mod Timestamps
 pub mod Values
+pub mod Written
 pub mod inside

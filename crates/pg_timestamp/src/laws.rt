@@ -1,9 +1,52 @@
 //! Laws of timestamps, each for every value: functions that do nothing.
-ghost use Rattle.std.specs.Prelude.{◌≡◌, ℕ, List};
+ghost use Rattle.std.specs.Prelude.{◌≡◌, ◌↔◌, ℕ, Bool, List, pos, neg_ℤ, IsTrue};
+ghost use Rattle.iso8601.specs.Calendar.{day_of, Exists};
+ghost use Rattle.iso8601.specs.declared.types.Date.TheVariants.{YMD};
+ghost use Rattle.pg_timestamp.specs.Dates.{calendar_year, held_year};
 ghost use Rattle.pg_timestamp.specs.Timestamps.{IsTimestamp};
+ghost use Rattle.pg_timestamp.specs.Values.{first_day, last_day};
+ghost use Rattle.pg_timestamp.specs.Written.{IsTextOf, IsWritten};
+ghost use Rattle.pg_timestamp.specs.declared.date.Date.{Date as DateValue};
+ghost use Rattle.pg_timestamp.specs.declared.time.Time.{Time as TimeValue};
 ghost use Rattle.pg_timestamp.specs.declared.timestamp.Timestamp.{Timestamp as TimestampValue};
+ghost use Rattle.pg_timestamp.specs.declared.value.NoValue.{NoValue as NoValueValue};
+ghost use Rattle.pg_timestamp.specs.declared.value.Value.{Value as ValueValue};
+
+use crate::{date, time, timestamp, value};
 
 /// A text is one timestamp at most.
 pub fn a_text_is_one_timestamp()
-    ensures { (text : List ℕ) (a b : TimestampValue) → IsTimestamp text a → IsTimestamp text b → a ≡ b }
+    ensures { (text : List ℕ) (a b : TimestampValue) → IsTimestamp text a → IsTimestamp text b
+        → a ≡ b }
+{}
+
+/// The written text of a value is read as a timestamp with this value.
+pub fn texts_are_read_back()
+    ensures { (value : ValueValue) (text : List ℕ) → IsTextOf value text
+        → (t : TimestampValue) × IsTimestamp text t × IsWritten value t }
+{}
+
+/// A year that isn't held as it is written has the same days as the one that is held.
+pub fn held_years_have_the_same_days()
+    ensures { (bc : Bool) (year month day : ℕ)
+        → Exists (YMD (calendar_year bc (held_year year)) month day)
+        ↔ Exists (YMD (calendar_year bc year) month day) }
+{}
+
+/// The first day is 24 November 4714 BC, and the last one 31 December 9999.
+pub fn bounds_are_days()
+    ensures first { day_of (YMD (neg_ℤ (pos 4713)) 11 24) ≡ first_day }
+    ensures last { day_of (YMD (pos 9999) 12 31) ≡ last_day }
+{}
+
+/// Timestamps are equal where all fields are, and values where they are of one kind with the same numbers.
+pub fn equality_is_that_of_the_fields()
+    ensures date { (a b : DateValue) → IsTrue (⟦<date::Date as PartialEq>⟧.eq a b) ↔ (a ≡ b) }
+    ensures time { (a b : TimeValue) → IsTrue (⟦<time::Time as PartialEq>⟧.eq a b) ↔ (a ≡ b) }
+    ensures timestamp { (a b : TimestampValue)
+        → IsTrue (⟦<timestamp::Timestamp as PartialEq>⟧.eq a b) ↔ (a ≡ b) }
+    ensures value { (a b : ValueValue)
+        → IsTrue (⟦<value::Value as PartialEq>⟧.eq a b) ↔ (a ≡ b) }
+    ensures no_value { (a b : NoValueValue)
+        → IsTrue (⟦<value::NoValue as PartialEq>⟧.eq a b) ↔ (a ≡ b) }
 {}

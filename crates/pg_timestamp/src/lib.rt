@@ -3,12 +3,14 @@
 
 mod date;
 pub mod laws;
+mod made;
 mod offset;
 mod pair;
 mod time;
 mod timestamp;
 mod value;
 mod worth;
+mod written;
 
 pub use date::Date;
 pub use time::Time;
