@@ -9,3 +9,5 @@ pub mod MomentFacts
 pub mod WrittenFacts
 pub mod HeldFacts
 pub mod BoundFacts
+pub mod DayFacts
+pub mod OneText

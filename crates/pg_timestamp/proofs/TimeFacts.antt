@@ -163,7 +163,7 @@ time_front text time p =
 abbrev made : ℕ → ℕ → ℕ → ℕ → Option ℤ → Time
 made h m s f o = record { hour = h; minute = m; second = s; micros = f; offset = o }
 
-time_is : (a b : Time) → a.hour ≡ b.hour → a.minute ≡ b.minute → a.second ≡ b.second → a.micros ≡ b.micros → a.offset ≡ b.offset → a ≡ b
+pub time_is : (a b : Time) → a.hour ≡ b.hour → a.minute ≡ b.minute → a.second ≡ b.second → a.micros ≡ b.micros → a.offset ≡ b.offset → a ≡ b
 time_is a b h m s f o =
     let same : made a.hour a.minute a.second a.micros a.offset ≡ made b.hour b.minute b.second b.micros b.offset = rw (h, m, s, f, o) refl in same
 

@@ -2,7 +2,7 @@
 ghost use Rattle.std.specs.Prelude.{◌≡◌, ◌↔◌, ℕ, Bool, List, pos, neg_ℤ, IsTrue};
 ghost use Rattle.iso8601.specs.Calendar.{day_of, Exists};
 ghost use Rattle.iso8601.specs.declared.types.Date.TheVariants.{YMD};
-ghost use Rattle.pg_timestamp.specs.Dates.{calendar_year, held_year};
+ghost use Rattle.pg_timestamp.specs.Dates.{IsRealDay, calendar_year, day_number, held_year};
 ghost use Rattle.pg_timestamp.specs.Timestamps.{IsTimestamp};
 ghost use Rattle.pg_timestamp.specs.Values.{first_day, last_day};
 ghost use Rattle.pg_timestamp.specs.Written.{IsTextOf, IsWritten};
@@ -25,6 +25,21 @@ pub fn texts_are_read_back()
     ensures { (value : ValueValue) (text : List ℕ) → IsTextOf value text
         → (t : TimestampValue) × IsTimestamp text t × IsWritten value t }
 {}
+
+/// A value has one text at most.
+pub fn a_value_has_one_text()
+    ensures { (value : ValueValue) (s t : List ℕ) → IsTextOf value s → IsTextOf value t → s ≡ t }
+{
+    iso8601::laws::years_and_weeks_follow_each_other();
+}
+
+/// A day is one real date's.
+pub fn a_day_has_one_date()
+    ensures { (a b : DateValue) → IsRealDay a → IsRealDay b → day_number a ≡ day_number b
+        → a ≡ b }
+{
+    iso8601::laws::years_and_weeks_follow_each_other();
+}
 
 /// A year that isn't held as it is written has the same days as the one that is held.
 pub fn held_years_have_the_same_days()
