@@ -1,11 +1,12 @@
 -- A day is one real date's.
 use Rattle.std.proofs.Common.{◌≡◌, ℕ, zero, suc, ◌+◌, ◌-◌, ◌<◌, ◌≤◌, ◌==◌, ◌||◌, Bool, true, false, cond, refl, sym, ◌∙◌, ap, arith}
-use Rattle.std.specs.Prelude.{ℤ, pos, unsigned_abs, ◌+ℤ◌, ◌-ℤ◌, ◌<ℤ◌, ◌≤ℤ◌}
+use Rattle.std.specs.Prelude.{ℤ, pos, neg_ℤ, unsigned_abs, ◌+ℤ◌, ◌-ℤ◌, ◌<ℤ◌, ◌≤ℤ◌}
 use Rattle.std.proofs.lemmas.Int.{ints}
 use Rattle.scan_core.specs.Calendar.{days_in_month, is_leap_year}
 use Rattle.iso8601.specs.Calendar.{day_of, days_in_year, days_of_months, Exists, new_year}
 use Rattle.iso8601.specs.declared.types.Date.TheVariants.{YMD}
 use Rattle.pg_timestamp.specs.Dates.{IsRealDay, calendar_year, day_number}
+use Rattle.pg_timestamp.specs.Values.{first_day, last_day}
 use Rattle.pg_timestamp.specs.declared.date.Date.{Date}
 use Rattle.pg_timestamp.proofs.PlaceFacts.{date_is}
 
@@ -123,3 +124,26 @@ one_date next a b h k same =
     let parts = one_ymd next (calendar_year a.bc a.year) (calendar_year b.bc b.year) a.month a.day b.month b.day h.day k.day same in
     let years = one_year a.bc b.bc a.year b.year h.year k.year parts.0 in
     date_is a b years.1 parts.1 parts.2 years.0
+
+-- ---- years past the bounds
+
+after_civil : new_year (pos 10_000) ≡ pos 2_932_897
+unfolding new_year
+after_civil = refl
+
+before_first : (new_year (neg_ℤ (pos 9_999)) +ℤ pos 2) <ℤ first_day
+unfolding new_year
+before_first = omega (arith, ints)
+
+pub far_years : YearsFollow → (bc : Bool) (year month day : ℕ) → 40_000 ≤ year → Exists (YMD (calendar_year bc year) month day)
+    → (first_day -ℤ pos 2) ≤ℤ day_of (YMD (calendar_year bc year) month day) → day_of (YMD (calendar_year bc year) month day) ≤ℤ last_day → ⊥
+far_years next true year month day large e first last =
+    let within = (in_year next (calendar_year true year) month day e).1 in
+    let rise = rises next (calendar_year true year +ℤ pos 1) (neg_ℤ (pos 9_999)) (omega (arith, ints, large)) in
+    let before = before_first in
+    omega (arith, ints, first, within, rise, before)
+far_years next false year month day large e first last =
+    let within = (in_year next (calendar_year false year) month day e).0 in
+    let rise = rises next (pos 10_000) (calendar_year false year) (omega (arith, ints, large)) in
+    let after = after_civil in
+    omega (arith, ints, last, within, rise, after)

@@ -1,5 +1,5 @@
 //! Laws of timestamps, each for every value: functions that do nothing.
-ghost use Rattle.std.specs.Prelude.{◌≡◌, ◌↔◌, ℕ, Bool, List, pos, neg_ℤ, IsTrue};
+ghost use Rattle.std.specs.Prelude.{◌≡◌, ◌↔◌, ℕ, Bool, List, pos, neg_ℤ, ◌-ℤ◌, ◌≤ℤ◌, ◌≤◌, IsTrue};
 ghost use Rattle.iso8601.specs.Calendar.{day_of, Exists};
 ghost use Rattle.iso8601.specs.declared.types.Date.TheVariants.{YMD};
 ghost use Rattle.pg_timestamp.specs.Dates.{IsRealDay, calendar_year, day_number, held_year};
@@ -47,6 +47,16 @@ pub fn held_years_have_the_same_days()
         → Exists (YMD (calendar_year bc (held_year year)) month day)
         ↔ Exists (YMD (calendar_year bc year) month day) }
 {}
+
+/// A year that isn't held as it is written is more than two days out of the bounds, and so are its moments in UTC.
+pub fn years_from_40_000_on_are_out_of_range()
+    ensures { (bc : Bool) (year month day : ℕ) → 40_000 ≤ year
+        → Exists (YMD (calendar_year bc year) month day)
+        → (first_day -ℤ pos 2) ≤ℤ day_of (YMD (calendar_year bc year) month day)
+        → ¬ (day_of (YMD (calendar_year bc year) month day) ≤ℤ last_day) }
+{
+    iso8601::laws::years_and_weeks_follow_each_other();
+}
 
 /// The first day is 24 November 4714 BC, and the last one 31 December 9999.
 pub fn bounds_are_days()
