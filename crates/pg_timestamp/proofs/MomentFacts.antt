@@ -1,5 +1,5 @@
 -- The day and the time of a moment in UTC.
-use Rattle.std.proofs.Common.{◌≡◌, ℕ, ◌<◌, arith, refl, sym, ◌∙◌, ap, Option, Some}
+use Rattle.std.proofs.Common.{◌≡◌, ℕ, ◌<◌, arith, refl, ◌∙◌, ap, Option, Some}
 use Rattle.std.specs.Prelude.{ℤ, pos, negsuc, ◌+ℤ◌, ◌-ℤ◌, ◌*ℤ◌}
 use Rattle.std.specs.Int.{int_div_euclid, int_rem_euclid}
 use Rattle.std.proofs.lemmas.Int.{ints}
@@ -8,7 +8,6 @@ use Rattle.pg_timestamp.specs.Values.{IsOnClock, IsShort, micros_of_day, timed}
 use Rattle.pg_timestamp.specs.Written.{IsWritten, IsZero}
 use Rattle.pg_timestamp.specs.declared.date.Date.{Date}
 use Rattle.pg_timestamp.specs.declared.time.Time.{Time}
-use Rattle.pg_timestamp.specs.declared.value.Value.{Value}
 use Rattle.pg_timestamp.specs.declared.value.Value.TheVariants.{Moment}
 
 whole : (m : ℤ) → (int_div_euclid m (pos 86_400_000_000) *ℤ pos 86_400_000_000) +ℤ int_rem_euclid m (pos 86_400_000_000) ≡ m

@@ -1,5 +1,5 @@
 -- A value has one text.
-use Rattle.std.proofs.Common.{◌≡◌, ℕ, ◌+◌, ◌*◌, ◌/◌, ◌%◌, ◌<◌, List, refl, sym, ◌∙◌, ap, subst, arith, Option, Some, None}
+use Rattle.std.proofs.Common.{◌≡◌, ℕ, ◌/◌, ◌%◌, ◌<◌, List, refl, sym, ◌∙◌, ap, arith, Option, Some, None}
 use Rattle.std.specs.Prelude.{ℤ, pos, ◌+ℤ◌, ◌-ℤ◌, ◌*ℤ◌}
 use Rattle.std.proofs.lemmas.Int.{ints}
 use Rattle.pg_timestamp.specs.Dates.{day_number}
@@ -8,7 +8,7 @@ use Rattle.pg_timestamp.specs.Written.{IsTextOf, IsUtc, IsWritten, IsZero, times
 use Rattle.pg_timestamp.specs.declared.time.Time.{Time}
 use Rattle.pg_timestamp.specs.declared.timestamp.Timestamp.{Timestamp}
 use Rattle.pg_timestamp.specs.declared.value.Value.{Value}
-use Rattle.pg_timestamp.specs.declared.value.Value.TheVariants.{Day, Local, Moment}
+use Rattle.pg_timestamp.specs.declared.value.Value.TheVariants.{Day}
 use Rattle.pg_timestamp.proofs.DayFacts.{YearsFollow, one_date}
 use Rattle.pg_timestamp.proofs.PlaceFacts.{timestamp_is}
 use Rattle.pg_timestamp.proofs.TimeFacts.{time_is}

@@ -10,7 +10,7 @@ use Rattle.pg_timestamp.specs.Timestamps.{IsTimestamp, IsPerhapsTime}
 use Rattle.pg_timestamp.specs.declared.date.Date.{Date}
 use Rattle.pg_timestamp.specs.declared.time.Time.{Time}
 use Rattle.pg_timestamp.specs.declared.timestamp.Timestamp.{Timestamp}
-use Rattle.pg_timestamp.specs.inside.Places.{AreAt, AreTimeAt, after_time, EndsTime, IsEndAt}
+use Rattle.pg_timestamp.specs.inside.Places.{AreAt, AreTimeAt, EndsTime, IsEndAt}
 use Rattle.pg_timestamp.proofs.PieceFacts.{front_three, hyphen_no_digit, one_era, one_number}
 use Rattle.pg_timestamp.proofs.TimeFacts.{one_time, time_places, time_front}
 

@@ -10,7 +10,7 @@ use Rattle.scan_core.proofs.DigitFacts.{digits-append, digits-zeros, number_of-a
 use Rattle.scan_core.proofs.FrontFacts.{front_of, after_of, front_are_digits, front_and_after}
 use Rattle.scan_core.proofs.PaddedFacts.{length-zeros}
 use Rattle.pg_timestamp.specs.Pieces.{IsMarked}
-use Rattle.pg_timestamp.specs.Timestamps.{IsFraction, IsTime, IsPerhapsOffset}
+use Rattle.pg_timestamp.specs.Timestamps.{IsFraction, IsTime}
 use Rattle.pg_timestamp.specs.declared.time.Time.{Time}
 use Rattle.pg_timestamp.specs.inside.Places.{fraction_front, after_fraction, has_point, behind_point, AreTimeAt, after_time, IsPerhapsOffsetAt, after_perhaps, is_point, EndsTime}
 use Rattle.pg_timestamp.proofs.PieceFacts.{front_three, one_number}

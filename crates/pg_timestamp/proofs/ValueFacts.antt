@@ -1,10 +1,10 @@
 -- The days of timestamps that are within the bounds, and the values of their days.
 use Rattle.std.proofs.Common.{◌≡◌, ℕ, ◌<◌, arith, sym, ◌∙◌, ap, subst, Option, Some, None}
-use Rattle.std.specs.Prelude.{ℤ, pos, neg_ℤ, unsigned_abs, ◌≤ℤ◌, ◌↔◌}
+use Rattle.std.specs.Prelude.{ℤ, pos, neg_ℤ, ◌≤ℤ◌, ◌↔◌}
 use Rattle.std.proofs.lemmas.Int.{ints}
 use Rattle.iso8601.specs.Calendar.{IsCivilDay}
 use Rattle.pg_timestamp.specs.Dates.{day_number}
-use Rattle.pg_timestamp.specs.Values.{IsOnClock, IsShort, IsRealTime, IsReal, IsInRange, IsWithinBounds, last_day, micros_of_day, timed, value_at, value_of}
+use Rattle.pg_timestamp.specs.Values.{IsOnClock, IsShort, IsRealTime, IsInRange, IsWithinBounds, micros_of_day, timed, value_at, value_of}
 use Rattle.pg_timestamp.specs.declared.time.Time.{Time}
 use Rattle.pg_timestamp.specs.declared.timestamp.Timestamp.{Timestamp}
 use Rattle.pg_timestamp.specs.declared.value.Value.{Value}

@@ -1,5 +1,5 @@
 -- Answers to the goals of `date::last_four`.
-use Rattle.std.proofs.Common.{◌≡◌, ◌-◌, ◌++◌, length, ◌∙◌, arith}
+use Rattle.std.proofs.Common.{◌≡◌, ◌++◌, ◌∙◌, arith}
 use Rattle.std.proofs.lemmas.List.{take-append-drop}
 use Rattle.scan_core.specs.Digits.{number_of}
 use Rattle.pg_timestamp.proofs.YearFacts.{four_last}

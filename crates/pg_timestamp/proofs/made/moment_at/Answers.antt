@@ -1,6 +1,6 @@
 -- Answers to the goals of `made::moment_at`.
 use Rattle.std.proofs.Common.{◌≡◌, rules, ◌∙◌, ap, FitsSigned, w32, w64}
-use Rattle.std.specs.Prelude.{ℤ, pos}
+use Rattle.std.specs.Prelude.{pos}
 use Rattle.std.specs.Int.{int_div_euclid, int_rem_euclid}
 use Rattle.std.proofs.lemmas.Int.{to_z-of_z}
 use Rattle.pg_timestamp.specs.Values.{micros_of_day}

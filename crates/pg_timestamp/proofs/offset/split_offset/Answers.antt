@@ -1,6 +1,4 @@
 -- Answers to the goals of `offset::split_offset`.
-use Rattle.std.proofs.Common.{◌≡◌, ℕ, List, sym, ◌∙◌, ap, subst}
-use Rattle.pg_timestamp.specs.Timestamps.{sign_of}
 use Rattle.pg_timestamp.proofs.OffsetFacts.{sign_is}
 use Rattle.pg_timestamp.proofs.offset.split_offset.Goals as goal
 

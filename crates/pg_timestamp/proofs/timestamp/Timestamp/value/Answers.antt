@@ -1,5 +1,5 @@
 -- Answers to the goals of `Timestamp::value`.
-use Rattle.std.proofs.Common.{◌≡◌, rules, refl, sym, FitsSigned, w32}
+use Rattle.std.proofs.Common.{◌≡◌, rules, refl, FitsSigned, w32}
 use Rattle.std.proofs.lemmas.Int.{to_z-of_z}
 use Rattle.pg_timestamp.specs.Values.{IsReal, IsWithinBounds, value_of}
 use Rattle.pg_timestamp.proofs.ValueFacts.{not_civil, not_within, within, worth}
