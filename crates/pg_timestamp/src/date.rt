@@ -1,9 +1,9 @@
 //! Dates: their years and eras, and their days.
-ghost use Rattle.std.specs.Prelude.{◌≡◌, ◌↔◌, ◌^◌, ◌<◌, ◌≤◌, ◌-◌, ◌%◌, ◌++◌, List, ℕ, Bool, codes, length, min, IfSome, IfNone};
+ghost use Rattle.std.specs.Prelude.{◌≡◌, ◌^◌, ◌<◌, ◌≤◌, ◌-◌, ◌%◌, ℕ, Bool, length, min, IfSome, IfNone};
 ghost use Rattle.scan_core.specs.Digits.{AreDigits, number_of};
 ghost use Rattle.scan_core.specs.Fronts.{front_digits, after_digits};
 ghost use Rattle.pg_timestamp.specs.Pieces.{era_text};
-ghost use Rattle.pg_timestamp.specs.Dates.{IsYear, held_year, calendar_year};
+ghost use Rattle.pg_timestamp.specs.Dates.{IsYear, held_year};
 
 use scan_core::{digits_u32, split_digits};
 

@@ -6,36 +6,36 @@ ghost use Rattle.pg_timestamp.specs.Dates.{IsRealDay, calendar_year, day_number,
 ghost use Rattle.pg_timestamp.specs.Timestamps.{IsTimestamp};
 ghost use Rattle.pg_timestamp.specs.Values.{first_day, last_day};
 ghost use Rattle.pg_timestamp.specs.Written.{IsTextOf, IsWritten};
-ghost use Rattle.pg_timestamp.specs.declared.date.Date.{Date as DateValue};
-ghost use Rattle.pg_timestamp.specs.declared.time.Time.{Time as TimeValue};
-ghost use Rattle.pg_timestamp.specs.declared.timestamp.Timestamp.{Timestamp as TimestampValue};
-ghost use Rattle.pg_timestamp.specs.declared.value.NoValue.{NoValue as NoValueValue};
-ghost use Rattle.pg_timestamp.specs.declared.value.Value.{Value as ValueValue};
+ghost use Rattle.pg_timestamp.specs.declared.date.Date.{Date};
+ghost use Rattle.pg_timestamp.specs.declared.time.Time.{Time};
+ghost use Rattle.pg_timestamp.specs.declared.timestamp.Timestamp.{Timestamp};
+ghost use Rattle.pg_timestamp.specs.declared.value.NoValue.{NoValue};
+ghost use Rattle.pg_timestamp.specs.declared.value.Value.{Value};
 
 use crate::{date, time, timestamp, value};
 
 /// A text is one timestamp at most.
 pub fn a_text_is_one_timestamp()
-    ensures { (text : List ℕ) (a b : TimestampValue) → IsTimestamp text a → IsTimestamp text b
+    ensures { (text : List ℕ) (a b : Timestamp) → IsTimestamp text a → IsTimestamp text b
         → a ≡ b }
 {}
 
 /// The written text of a value is read as a timestamp with this value.
 pub fn texts_are_read_back()
-    ensures { (value : ValueValue) (text : List ℕ) → IsTextOf value text
-        → (t : TimestampValue) × IsTimestamp text t × IsWritten value t }
+    ensures { (value : Value) (text : List ℕ) → IsTextOf value text
+        → (t : Timestamp) × IsTimestamp text t × IsWritten value t }
 {}
 
 /// A value has one text at most.
 pub fn a_value_has_one_text()
-    ensures { (value : ValueValue) (s t : List ℕ) → IsTextOf value s → IsTextOf value t → s ≡ t }
+    ensures { (value : Value) (s t : List ℕ) → IsTextOf value s → IsTextOf value t → s ≡ t }
 {
     iso8601::laws::years_and_weeks_follow_each_other();
 }
 
 /// A day is one real date's.
 pub fn a_day_has_one_date()
-    ensures { (a b : DateValue) → IsRealDay a → IsRealDay b → day_number a ≡ day_number b
+    ensures { (a b : Date) → IsRealDay a → IsRealDay b → day_number a ≡ day_number b
         → a ≡ b }
 {
     iso8601::laws::years_and_weeks_follow_each_other();
@@ -66,12 +66,12 @@ pub fn bounds_are_days()
 
 /// Timestamps are equal where all fields are, and values where they are of one kind with the same numbers.
 pub fn equality_is_that_of_the_fields()
-    ensures date { (a b : DateValue) → IsTrue (⟦<date::Date as PartialEq>⟧.eq a b) ↔ (a ≡ b) }
-    ensures time { (a b : TimeValue) → IsTrue (⟦<time::Time as PartialEq>⟧.eq a b) ↔ (a ≡ b) }
-    ensures timestamp { (a b : TimestampValue)
+    ensures date { (a b : Date) → IsTrue (⟦<date::Date as PartialEq>⟧.eq a b) ↔ (a ≡ b) }
+    ensures time { (a b : Time) → IsTrue (⟦<time::Time as PartialEq>⟧.eq a b) ↔ (a ≡ b) }
+    ensures timestamp { (a b : Timestamp)
         → IsTrue (⟦<timestamp::Timestamp as PartialEq>⟧.eq a b) ↔ (a ≡ b) }
-    ensures value { (a b : ValueValue)
+    ensures value { (a b : Value)
         → IsTrue (⟦<value::Value as PartialEq>⟧.eq a b) ↔ (a ≡ b) }
-    ensures no_value { (a b : NoValueValue)
+    ensures no_value { (a b : NoValue)
         → IsTrue (⟦<value::NoValue as PartialEq>⟧.eq a b) ↔ (a ≡ b) }
 {}

@@ -1,5 +1,5 @@
 //! The timestamp of a value.
-ghost use Rattle.std.specs.Prelude.{◌≡◌, ◌<◌, ◌≤◌, ◌≤ℤ◌, ℕ, ℤ, pos, neg_ℤ, Option};
+ghost use Rattle.std.specs.Prelude.{◌≡◌, ◌<◌, ◌≤◌, pos, Option};
 ghost use Rattle.jiff.specs.Words.{IsEpochDay};
 ghost use Rattle.jiff_core.specs.Date.{epoch_day};
 ghost use Rattle.pg_timestamp.specs.Dates.{IsRealDay, calendar_year, day_number};

@@ -1,5 +1,5 @@
 //! Offsets from UTC behind a time.
-ghost use Rattle.std.specs.Prelude.{◌≡◌, ◌+◌, ◌*◌, ◌≤◌, ◌<◌, ℕ, ℤ, Bool, Option, IfSome, IfNone};
+ghost use Rattle.std.specs.Prelude.{◌≡◌, ◌+◌, ◌*◌, ◌<◌, ℕ, ℤ, Option, IfSome, IfNone};
 ghost use Rattle.scan_core.specs.Shares.{signed};
 ghost use Rattle.pg_timestamp.specs.Timestamps.{IsMore, sign_of};
 ghost use Rattle.pg_timestamp.specs.inside.Places.{has_first, has_sign, more_front, after_more, IsOffsetAt, after_offset, IsPerhapsOffsetAt, after_perhaps};

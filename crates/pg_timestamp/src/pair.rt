@@ -1,5 +1,5 @@
 //! A mark and two digits.
-ghost use Rattle.std.specs.Prelude.{◌≡◌, ℕ, List, [], ◌∷◌, take, drop, IfSome, IfNone};
+ghost use Rattle.std.specs.Prelude.{◌≡◌, ℕ, [], ◌∷◌, take, drop, IfSome, IfNone};
 ghost use Rattle.pg_timestamp.specs.Pieces.{IsMarked};
 
 /// The number from `lo` to `hi` of two digits behind the mark in front, and what follows them.

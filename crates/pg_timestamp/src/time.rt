@@ -1,7 +1,7 @@
 //! Times behind a date.
-ghost use Rattle.std.specs.Prelude.{◌≡◌, ◌^◌, ◌<◌, ◌≤◌, ◌++◌, List, ℕ, length, replicate, ◌-◌, IfSome, IfNone};
+ghost use Rattle.std.specs.Prelude.{◌≡◌, ◌^◌, ◌<◌, ◌≤◌, ◌++◌, ℕ, length, replicate, ◌-◌, IfSome, IfNone};
 ghost use Rattle.scan_core.specs.Digits.{AreDigits, number_of};
-ghost use Rattle.pg_timestamp.specs.Timestamps.{IsFraction, IsTime};
+ghost use Rattle.pg_timestamp.specs.Timestamps.{IsFraction};
 ghost use Rattle.pg_timestamp.specs.inside.Places.{fraction_front, after_fraction, has_point, behind_point};
 
 use crate::offset::perhaps_offset;

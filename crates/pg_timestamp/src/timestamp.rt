@@ -1,5 +1,5 @@
 //! Timestamps, and reading them.
-ghost use Rattle.std.specs.Prelude.{◌≡◌, Bool, Option, Some, IfSome, IfNone};
+ghost use Rattle.std.specs.Prelude.{Bool, Option, Some, IfSome, IfNone};
 ghost use Rattle.pg_timestamp.specs.Timestamps.{IsTimestamp};
 ghost use Rattle.pg_timestamp.specs.inside.Places.{IsEndAt};
 ghost use Rattle.pg_timestamp.specs.declared.time.Time.{Time as TimeValue};

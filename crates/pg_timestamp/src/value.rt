@@ -1,7 +1,7 @@
 //! What timestamps are worth.
-ghost use Rattle.std.specs.Prelude.{◌≡◌, ◌↔◌, ◌+◌, ◌*◌, ◌<◌, ◌≤◌, ℕ, ℤ, pos, ◌≤ℤ◌, IsTrue, IsSome, IfSome, IfOk, IfErr, neg_ℤ, unsigned_abs, ◌+ℤ◌, ◌-ℤ◌, ◌*ℤ◌, ◌<ℤ◌};
+ghost use Rattle.std.specs.Prelude.{◌≡◌, ◌↔◌, ◌+◌, ◌*◌, ◌<◌, ◌≤◌, ℤ, pos, ◌≤ℤ◌, IsTrue, IsSome, IfSome, neg_ℤ, unsigned_abs, ◌+ℤ◌, ◌-ℤ◌, ◌*ℤ◌, ◌<ℤ◌};
 ghost use Rattle.jiff.specs.Words.{IsBetween};
-ghost use Rattle.iso8601.specs.Calendar.{Exists, IsCivilDay};
+ghost use Rattle.iso8601.specs.Calendar.{IsCivilDay};
 ghost use Rattle.iso8601.specs.declared.types.Date.TheVariants.{YMD};
 ghost use Rattle.pg_timestamp.specs.Dates.{IsRealDay, calendar_year, day_number};
 ghost use Rattle.pg_timestamp.specs.Values.{IsOnClock, IsShort, IsRealTime, micros_of_day, timed, value_at};

@@ -1,12 +1,11 @@
 //! The value of a timestamp, or why it has none.
-ghost use Rattle.std.specs.Prelude.{◌≡◌, IfOk, IfErr};
 
 use crate::timestamp::Timestamp;
 use crate::value::{NoValue, Value, civil_day, is_real_day, is_real_time, value_at};
 
 impl Timestamp {
     ghost use Rattle.std.specs.Prelude.{◌≡◌, IfOk, IfErr};
-    ghost use Rattle.pg_timestamp.specs.Values.{IsInRange, IsReal, IsRefusedBy, value_of};
+    ghost use Rattle.pg_timestamp.specs.Values.{IsInRange, IsReal, IsRefusedBy, IsWithinBounds, value_of};
 
     /// What the timestamp is worth: `2026-12-01` is day 20,788, `1969-12-31 23:59:59.999999+00` the moment -1.
     ///
@@ -15,6 +14,7 @@ impl Timestamp {
     pub fn value(&self) -> Result<Value, NoValue>
         ensures real { IfOk result (λ value. IsReal self.now) }
         ensures range { IfOk result (λ value. IsInRange self.now) }
+        ensures bounds { IfOk result (λ value. IsWithinBounds value) }
         ensures value { IfOk result (λ value. value ≡ value_of self.now) }
         ensures refusal { IfErr result (IsRefusedBy self.now) }
     {
