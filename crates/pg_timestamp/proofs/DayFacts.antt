@@ -40,7 +40,8 @@ months_more y (suc m) some = let same : suc m - 1 ≡ m = omega arith in rw same
 months_rise : (y : ℤ) (m k : ℕ) → days_of_months y m ≤ days_of_months y (m + k)
 unfolding days_of_months
 months_rise y m zero = let same : m + 0 ≡ m = omega arith in rw same (omega arith)
-months_rise y m (suc k) = let before = months_rise y m k in let next : m + suc k ≡ suc (m + k) = omega arith in rw next (omega (arith, before))
+months_rise y m (suc k) = let before = months_rise y m k in let next : m + suc k ≡ suc (m + k) = omega arith in
+    rw next (omega (arith, before))
 
 -- ---- years follow each other
 
@@ -62,7 +63,8 @@ rises next w z less =
     rw there at (rise_by next w k)
 
 -- a real day is of its year
-in_year : YearsFollow → (y : ℤ) (m d : ℕ) → Exists (YMD y m d) → (new_year y ≤ℤ day_of (YMD y m d)) × (day_of (YMD y m d) <ℤ new_year (y +ℤ pos 1))
+in_year : YearsFollow → (y : ℤ) (m d : ℕ) → Exists (YMD y m d) → (new_year y ≤ℤ day_of (YMD y m d))
+    × (day_of (YMD y m d) <ℤ new_year (y +ℤ pos 1))
 in_year next y m d e =
     let least = e.2 in
     let most = e.3 in
@@ -74,7 +76,8 @@ in_year next y m d e =
     let one = next y in
     (omega (arith, ints, least), omega (arith, ints, most, more, rise, year, one))
 
-not_before : YearsFollow → (y z : ℤ) (m d n e : ℕ) → Exists (YMD y m d) → Exists (YMD z n e) → day_of (YMD y m d) ≡ day_of (YMD z n e) → y <ℤ z → ⊥
+not_before : YearsFollow → (y z : ℤ) (m d n e : ℕ) → Exists (YMD y m d) → Exists (YMD z n e) → day_of (YMD y m d) ≡ day_of (YMD z n e)
+    → y <ℤ z → ⊥
 not_before next y z m d n e first second same less =
     let a = (in_year next y m d first).1 in
     let b = (in_year next z n e second).0 in
@@ -84,7 +87,8 @@ not_before next y z m d n e first second same less =
 same_year : (y z : ℤ) → (y <ℤ z → ⊥) → (z <ℤ y → ⊥) → y ≡ z
 same_year y z a b = grind (arith, ints)
 
-month_not_before : (y : ℤ) (m d n e : ℕ) → Exists (YMD y m d) → Exists (YMD y n e) → days_of_months y (m - 1) + d ≡ days_of_months y (n - 1) + e → m < n → ⊥
+month_not_before : (y : ℤ) (m d n e : ℕ) → Exists (YMD y m d) → Exists (YMD y n e)
+    → days_of_months y (m - 1) + d ≡ days_of_months y (n - 1) + e → m < n → ⊥
 month_not_before y m d n e first second same less =
     let more = months_more y m first.0 in
     let rise = months_rise y m (n - 1 - m) in
@@ -104,9 +108,11 @@ same_in_year y m d n e first second same =
     let months : m ≡ n = grind arith in
     (months, let months_are = ap (λ (k : ℕ). days_of_months y (k - 1)) months in omega (arith, sums, months_are))
 
-one_ymd : YearsFollow → (y z : ℤ) (m d n e : ℕ) → Exists (YMD y m d) → Exists (YMD z n e) → day_of (YMD y m d) ≡ day_of (YMD z n e) → (y ≡ z) × (m ≡ n) × (d ≡ e)
+one_ymd : YearsFollow → (y z : ℤ) (m d n e : ℕ) → Exists (YMD y m d) → Exists (YMD z n e) → day_of (YMD y m d) ≡ day_of (YMD z n e)
+    → (y ≡ z) × (m ≡ n) × (d ≡ e)
 one_ymd next y z m d n e first second same =
-    let year : y ≡ z = same_year y z (not_before next y z m d n e first second same) (not_before next z y n e m d second first (sym same)) in
+    let year : y ≡ z = same_year y z (not_before next y z m d n e first second same)
+    (not_before next z y n e m d second first (sym same)) in
     let there : Exists (YMD y n e) = rw year second in
     let parts = same_in_year y m d n e first there (same ∙ ap (λ (w : ℤ). day_of (YMD w n e)) (sym year)) in
     (year, parts.0, parts.1)
@@ -136,7 +142,8 @@ unfolding new_year
 before_first = omega (arith, ints)
 
 pub far_years : YearsFollow → (bc : Bool) (year month day : ℕ) → 40_000 ≤ year → Exists (YMD (calendar_year bc year) month day)
-    → (first_day -ℤ pos 2) ≤ℤ day_of (YMD (calendar_year bc year) month day) → day_of (YMD (calendar_year bc year) month day) ≤ℤ last_day → ⊥
+    → (first_day -ℤ pos 2) ≤ℤ day_of (YMD (calendar_year bc year) month day) → day_of (YMD (calendar_year bc year) month day) ≤ℤ last_day
+    → ⊥
 far_years next true year month day large e first last =
     let within = (in_year next (calendar_year true year) month day e).1 in
     let rise = rises next (calendar_year true year +ℤ pos 1) (neg_ℤ (pos 9_999)) (omega (arith, ints, large)) in

@@ -1,5 +1,6 @@
 -- Years that are a multiple of 10,000 apart have the same days.
-use Rattle.std.proofs.Common.{◌≡◌, ℕ, ◌+◌, ◌-◌, ◌%◌, ◌≤◌, ◌==◌, ◌&&◌, ◌||◌, not, Bool, true, false, cond, nat_lt, refl, sym, ◌∙◌, ap, inl, inr, arith}
+use Rattle.std.proofs.Common.{◌≡◌, ℕ, ◌+◌, ◌-◌, ◌%◌, ◌≤◌, ◌==◌, ◌&&◌, ◌||◌, not, Bool, true, false, cond, nat_lt, refl, sym, ◌∙◌, ap, inl}
+use Rattle.std.proofs.Common.{inr, arith}
 use Rattle.std.specs.Prelude.{◌↔◌, ◌⊎◌, unsigned_abs}
 use Rattle.std.proofs.lemmas.Int.{ints}
 use Rattle.std.proofs.lemmas.Bool.Decides.{nat_tests}
@@ -33,11 +34,13 @@ unfolding magnitude
 same_rest true n m some some_too same = omega (arith, some, some_too, same)
 same_rest false n m some some_too same = same
 
-year_leap : (bc : Bool) (n : ℕ) → 1 ≤ n → is_leap_year (calendar_year bc n) ≡ leap_by (magnitude bc n % 4) (magnitude bc n % 100) (magnitude bc n % 400)
+year_leap : (bc : Bool) (n : ℕ) → 1 ≤ n → is_leap_year (calendar_year bc n)
+    ≡ leap_by (magnitude bc n % 4) (magnitude bc n % 100) (magnitude bc n % 400)
 unfolding leap_by
 year_leap bc n some = ap (λ (k : ℕ). (k % 4 == 0) && (not (k % 100 == 0) || (k % 400 == 0))) (magnitude_is bc n some)
 
-leap_held : (bc : Bool) (n m : ℕ) → 1 ≤ n → 1 ≤ m → n % 400 ≡ m % 400 → is_leap_year (calendar_year bc n) ≡ is_leap_year (calendar_year bc m)
+leap_held : (bc : Bool) (n m : ℕ) → 1 ≤ n → 1 ≤ m → n % 400 ≡ m % 400
+    → is_leap_year (calendar_year bc n) ≡ is_leap_year (calendar_year bc m)
 leap_held bc n m some some_too same =
     year_leap bc n some ∙ leap_same (magnitude bc n) (magnitude bc m) (same_rest bc n m some some_too same) ∙ sym (year_leap bc m some_too)
 
@@ -62,7 +65,9 @@ exists_by : (bc : Bool) (n month day : ℕ) → (held_year n ≡ n) ⊎ ((40_000
     → Exists (YMD (calendar_year bc (held_year n)) month day) ↔ Exists (YMD (calendar_year bc n) month day)
 exists_by bc n month day (inl same) = rw same (λ e. e, λ e. e)
 exists_by bc n month day (inr (above, is)) =
-    rw is (exists_as bc (40_000 + n % 10_000) n month day (days_held bc (40_000 + n % 10_000) n month (omega arith) (omega (arith, above)) (omega arith)))
+    rw is (exists_as bc (40_000 + n % 10_000) n month day (days_held bc (40_000 + n % 10_000) n month (omega arith) (omega (arith, above))
+    (omega arith)))
 
-pub exists_held : (bc : Bool) (n month day : ℕ) → Exists (YMD (calendar_year bc (held_year n)) month day) ↔ Exists (YMD (calendar_year bc n) month day)
+pub exists_held : (bc : Bool) (n month day : ℕ) → Exists (YMD (calendar_year bc (held_year n)) month day)
+    ↔ Exists (YMD (calendar_year bc n) month day)
 exists_held bc n month day = exists_by bc n month day (held_by (nat_lt n 40_000) n refl)

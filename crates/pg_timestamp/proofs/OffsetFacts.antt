@@ -1,12 +1,14 @@
 -- The places of an offset's parts in a text that it begins.
-use Rattle.std.proofs.Common.{◌≡◌, ℕ, ◌+◌, ◌*◌, ◌==◌, ◌||◌, Bool, true, false, cond, List, [], ◌∷◌, ◌++◌, append_assoc, get_or, take, drop, refl, sym, ◌∙◌, ap, subst, inl, inr, arith, Option, Some, None, IfNone}
+use Rattle.std.proofs.Common.{◌≡◌, ℕ, ◌+◌, ◌*◌, ◌==◌, ◌||◌, Bool, true, false, cond, List, [], ◌∷◌, ◌++◌, append_assoc, get_or, take, drop}
+use Rattle.std.proofs.Common.{refl, sym, ◌∙◌, ap, subst, inl, inr, arith, Option, Some, None, IfNone}
 use Rattle.std.specs.Prelude.{ℤ}
 use Rattle.std.proofs.lemmas.List.{take-append-drop}
 use Rattle.scan_core.specs.Fronts.{NoDigitFirst, BeginsWithout}
 use Rattle.scan_core.specs.Shares.{signed}
 use Rattle.pg_timestamp.specs.Pieces.{IsMarked}
 use Rattle.pg_timestamp.specs.Timestamps.{IsMore, IsOffset, IsPerhapsOffset, sign_of}
-use Rattle.pg_timestamp.specs.inside.Places.{has_first, has_sign, is_point, more_front, after_more, IsOffsetAt, after_offset, IsPerhapsOffsetAt, after_perhaps, EndsTime}
+use Rattle.pg_timestamp.specs.inside.Places.{has_first, has_sign, is_point, more_front, after_more, IsOffsetAt, after_offset}
+use Rattle.pg_timestamp.specs.inside.Places.{IsPerhapsOffsetAt, after_perhaps, EndsTime}
 use Rattle.pg_timestamp.proofs.PieceFacts.{first_is, front_three, one_number}
 
 -- ---- a further field
@@ -25,7 +27,8 @@ more_if false text = refl
 more_and_after : (text : List ℕ) → more_front text ++ after_more text ≡ text
 more_and_after text = more_if (has_first 58 text) text
 
-order_by : (t : Bool) (b : ℕ) (bs : List ℕ) → has_first 58 (b ∷ bs) ≡ t → cond t (take 3 (b ∷ bs)) [] ≡ [] → more_front (cond t (drop 3 (b ∷ bs)) (b ∷ bs)) ≡ []
+order_by : (t : Bool) (b : ℕ) (bs : List ℕ) → has_first 58 (b ∷ bs) ≡ t → cond t (take 3 (b ∷ bs)) [] ≡ []
+    → more_front (cond t (drop 3 (b ∷ bs)) (b ∷ bs)) ≡ []
 order_by true b bs s h = absurd cc
 order_by false b bs s h = rw s refl
 
@@ -83,13 +86,15 @@ offset_found text rest seconds o none =
     )
 
 -- the front of a text that the parts make
-offset_front : (text : List ℕ) (seconds : ℤ) → IsOffsetAt text seconds → (front : List ℕ) × IsOffset front seconds × (text ≡ front ++ after_offset text)
+offset_front : (text : List ℕ) (seconds : ℤ) → IsOffsetAt text seconds → (front : List ℕ) × IsOffset front seconds
+    × (text ≡ front ++ after_offset text)
 offset_front text seconds p =
     let a : List ℕ = drop 3 text in
     let b : List ℕ = after_more a in
     let tail : List ℕ = more_front a ++ more_front b in
     let second : tail ++ after_more b ≡ a =
-    append_assoc (more_front a) (more_front b) (after_more b) ∙ ap (λ (l : List ℕ). more_front a ++ l) (more_and_after b) ∙ more_and_after a in
+    append_assoc (more_front a) (more_front b) (after_more b) ∙ ap (λ (l : List ℕ). more_front a ++ l) (more_and_after b)
+    ∙ more_and_after a in
     let first : (take 3 text ++ tail) ++ after_more b ≡ text =
     append_assoc (take 3 text) tail (after_more b) ∙ ap (λ (l : List ℕ). take 3 text ++ l) second ∙ take-append-drop 3 text in (
       take 3 text ++ tail,
@@ -114,8 +119,10 @@ offset_front text seconds p =
 pub same_sign : (a b : Bool) (piece : List ℕ) (m n : ℕ) → IsMarked (sign_of a) 0 24 piece m → IsMarked (sign_of b) 0 24 piece n → a ≡ b
 same_sign true true piece m n p q = refl
 same_sign false false piece m n p q = refl
-same_sign true false piece m n (p, f, j) (q, g, k) = absurd (let first = ap (λ (l : List ℕ). get_or l 0 0) (sym j ∙ k) in omega (arith, first))
-same_sign false true piece m n (p, f, j) (q, g, k) = absurd (let first = ap (λ (l : List ℕ). get_or l 0 0) (sym j ∙ k) in omega (arith, first))
+same_sign true false piece m n (p, f, j) (q, g, k) = absurd (let first = ap (λ (l : List ℕ). get_or l 0 0) (sym j ∙ k) in omega
+    (arith, first))
+same_sign false true piece m n (p, f, j) (q, g, k) = absurd (let first = ap (λ (l : List ℕ). get_or l 0 0) (sym j ∙ k) in omega
+    (arith, first))
 
 one_offset : (text : List ℕ) (s t : ℤ) → IsOffsetAt text s → IsOffsetAt text t → s ≡ t
 one_offset text s t p q =
@@ -123,7 +130,8 @@ one_offset text s t p q =
     let hour : p.hour ≡ q.hour = one_number (sign_of p.negative) (sign_of q.negative) 0 24 (take 3 text) p.hour q.hour p.hours q.hours in
     let minute : p.minute ≡ q.minute = one_more _ p.minute q.minute p.minutes q.minutes in
     let second : p.second ≡ q.second = one_more _ p.second q.second p.seconds_are q.seconds_are in
-    let value : signed p.negative ((p.hour * 60 + p.minute) * 60 + p.second) ≡ signed q.negative ((q.hour * 60 + q.minute) * 60 + q.second) =
+    let value : signed p.negative ((p.hour * 60 + p.minute) * 60 + p.second)
+    ≡ signed q.negative ((q.hour * 60 + q.minute) * 60 + q.second) =
     rw (sign, hour, minute, second) refl in
     p.value ∙ value ∙ sym q.value
 
@@ -167,7 +175,8 @@ sign_ends : (negative : Bool) (rest : List ℕ) → NoDigitFirst (sign_of negati
 sign_ends true rest = (refl, refl)
 sign_ends false rest = (refl, refl)
 
-offset_ends : (text rest : List ℕ) (seconds : ℤ) → IsOffset text seconds → NoDigitFirst (text ++ rest) × BeginsWithout is_point (text ++ rest)
+offset_ends : (text rest : List ℕ) (seconds : ℤ) → IsOffset text seconds → NoDigitFirst (text ++ rest)
+    × BeginsWithout is_point (text ++ rest)
 offset_ends text rest seconds o =
     let mark = o.hours in
     let P : List ℕ → Type 0 = λ l. NoDigitFirst l × BeginsWithout is_point l in
@@ -181,10 +190,12 @@ perhaps_ends text rest None h e = rw h (e.digit, e.point)
 perhaps_ends text rest (Some seconds) o e = offset_ends text rest seconds o
 
 -- the sign that a reader sees is that of the offset
-sign_by : (seen negative : Bool) (text : List ℕ) (n : ℕ) → seen ≡ has_first 45 text → IsMarked (sign_of negative) 0 24 (take 3 text) n → seen ≡ negative
+sign_by : (seen negative : Bool) (text : List ℕ) (n : ℕ) → seen ≡ has_first 45 text → IsMarked (sign_of negative) 0 24 (take 3 text) n
+    → seen ≡ negative
 sign_by seen true text n s m = s ∙ first_is 45 0 24 n text m
 sign_by seen false [] n s (p, f, j) = absurd cc
 sign_by seen false (b ∷ bs) n s (p, f, j) = let same : b ≡ 43 = cc in s ∙ rw same refl
 
-pub sign_is : (text : List ℕ) (seen : Bool) (seconds : ℤ) → seen ≡ has_first 45 text → (o : IsOffsetAt text seconds) → IsMarked (sign_of seen) 0 24 (take 3 text) o.hour
+pub sign_is : (text : List ℕ) (seen : Bool) (seconds : ℤ) → seen ≡ has_first 45 text → (o : IsOffsetAt text seconds)
+    → IsMarked (sign_of seen) 0 24 (take 3 text) o.hour
 sign_is text seen seconds s o = let same = sign_by seen o.negative text o.hour s o.hours in rw same o.hours

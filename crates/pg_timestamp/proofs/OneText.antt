@@ -40,12 +40,14 @@ one_clock a b h k same offset =
 abbrev IsSame : ℤ → ℕ → Option ℤ → ℤ → ℕ → Option ℤ → Type 0
 IsSame d m o e n p = (d ≡ e) × (m ≡ n) × (o ≡ p)
 
-one_timed : (d e : ℤ) (m n : ℕ) (o p : Option ℤ) → m < 86_400_000_000 → n < 86_400_000_000 → IsZero o → IsZero p → timed d m o ≡ timed e n p → IsSame d m o e n p
+one_timed : (d e : ℤ) (m n : ℕ) (o p : Option ℤ) → m < 86_400_000_000 → n < 86_400_000_000 → IsZero o → IsZero p → timed d m o ≡ timed e n p
+    → IsSame d m o e n p
 one_timed d e m n None None a b y z h = (cc, cc, refl)
 one_timed d e m n None (Some t) a b y z h = absurd cc
 one_timed d e m n (Some s) None a b y z h = absurd cc
 one_timed d e m n (Some s) (Some t) a b y z h =
-    let same : ((d *ℤ pos 86_400_000_000) +ℤ pos m) -ℤ (s *ℤ pos 1_000_000) ≡ ((e *ℤ pos 86_400_000_000) +ℤ pos n) -ℤ (t *ℤ pos 1_000_000) = cc in
+    let same : ((d *ℤ pos 86_400_000_000) +ℤ pos m) -ℤ (s *ℤ pos 1_000_000)
+    ≡ ((e *ℤ pos 86_400_000_000) +ℤ pos n) -ℤ (t *ℤ pos 1_000_000) = cc in
     let zeros : s ≡ t = y ∙ sym z in
     let day : d ≡ e = omega (arith, ints, same, zeros, a, b) in
     (day, omega (arith, ints, same, zeros, day), ap (λ (k : ℤ). Some k) zeros)

@@ -1,5 +1,6 @@
 -- A mark and two digits, a year and an era: their places in front of a text, and that a piece is one number.
-use Rattle.std.proofs.Common.{◌≡◌, ℕ, ◌+◌, ◌*◌, ◌<◌, ◌≤◌, Bool, true, false, List, [], ◌∷◌, ◌++◌, length, get_or, take, drop, refl, sym, ◌∙◌, ap, subst, arith}
+use Rattle.std.proofs.Common.{◌≡◌, ℕ, ◌+◌, ◌*◌, ◌<◌, ◌≤◌, Bool, true, false, List, [], ◌∷◌, ◌++◌, length, get_or, take, drop, refl, sym}
+use Rattle.std.proofs.Common.{◌∙◌, ap, subst, arith}
 use Rattle.std.specs.Char.{digit_value}
 use Rattle.scan_core.specs.Digits.{AreDigits, number_of}
 use Rattle.scan_core.specs.Fronts.{NoDigitFirst}
@@ -14,7 +15,8 @@ two_bytes (a ∷ []) h = absurd (omega (arith, h))
 two_bytes (a ∷ b ∷ []) h = (a, b, refl)
 two_bytes (a ∷ b ∷ c ∷ more) h = absurd (omega (arith, h))
 
-pub marked_made : (mark lo hi a b n : ℕ) → digit_value a < 10 → digit_value b < 10 → n ≡ digit_value a * 10 + digit_value b → lo ≤ n → n ≤ hi
+pub marked_made : (mark lo hi a b n : ℕ) → digit_value a < 10 → digit_value b < 10 → n ≡ digit_value a * 10 + digit_value b → lo ≤ n
+    → n ≤ hi
     → IsMarked mark lo hi (mark ∷ a ∷ b ∷ []) n
 marked_made mark lo hi a b n da db is least most = (
   a ∷ b ∷ [],
@@ -45,7 +47,8 @@ first_three (a ∷ b ∷ []) h = absurd (omega (arith, h))
 first_three (a ∷ b ∷ c ∷ more) h = refl
 
 -- a piece in front is the first three bytes
-pub front_three : (mark lo hi : ℕ) (piece rest : List ℕ) (n : ℕ) → IsMarked mark lo hi piece n → (take 3 (piece ++ rest) ≡ piece) × (drop 3 (piece ++ rest) ≡ rest)
+pub front_three : (mark lo hi : ℕ) (piece rest : List ℕ) (n : ℕ) → IsMarked mark lo hi piece n → (take 3 (piece ++ rest) ≡ piece)
+    × (drop 3 (piece ++ rest) ≡ rest)
 front_three mark lo hi piece rest n (pair, field, joined) =
     let bytes = two_bytes pair field.long in
     let is : piece ≡ mark ∷ bytes.0 ∷ bytes.1 ∷ [] = joined ∙ ap (λ (l : List ℕ). mark ∷ l) bytes.2 in

@@ -1,5 +1,6 @@
 -- The places of a time's parts in a text that it begins.
-use Rattle.std.proofs.Common.{◌≡◌, ℕ, ◌-◌, ◌*◌, ◌^◌, ◌<◌, ◌≤◌, ◌==◌, Bool, true, false, cond, List, [], ◌∷◌, ◌++◌, length, length-append, append-nil, append_assoc, take, drop, replicate, refl, sym, ◌∙◌, ap, subst, inl, inr, arith, Option}
+use Rattle.std.proofs.Common.{◌≡◌, ℕ, ◌-◌, ◌*◌, ◌^◌, ◌<◌, ◌≤◌, ◌==◌, Bool, true, false, cond, List, [], ◌∷◌, ◌++◌, length, length-append}
+use Rattle.std.proofs.Common.{append-nil, append_assoc, take, drop, replicate, refl, sym, ◌∙◌, ap, subst, inl, inr, arith, Option}
 use Rattle.std.specs.Prelude.{ℤ}
 use Rattle.std.proofs.Math.Nat.{pow-le-pow_right}
 use Rattle.std.proofs.lemmas.Bool.{eqb-true}
@@ -12,7 +13,8 @@ use Rattle.scan_core.proofs.PaddedFacts.{length-zeros}
 use Rattle.pg_timestamp.specs.Pieces.{IsMarked}
 use Rattle.pg_timestamp.specs.Timestamps.{IsFraction, IsTime}
 use Rattle.pg_timestamp.specs.declared.time.Time.{Time}
-use Rattle.pg_timestamp.specs.inside.Places.{fraction_front, after_fraction, has_point, behind_point, AreTimeAt, after_time, IsPerhapsOffsetAt, after_perhaps, is_point, EndsTime}
+use Rattle.pg_timestamp.specs.inside.Places.{fraction_front, after_fraction, has_point, behind_point, AreTimeAt, after_time}
+use Rattle.pg_timestamp.specs.inside.Places.{IsPerhapsOffsetAt, after_perhaps, is_point, EndsTime}
 use Rattle.pg_timestamp.proofs.PieceFacts.{front_three, one_number}
 use Rattle.pg_timestamp.proofs.OffsetFacts.{perhaps_found, perhaps_front, perhaps_ends, one_perhaps}
 
@@ -39,7 +41,8 @@ six_digits_small ds d short =
 -- ---- a fraction
 
 -- a point and digits behind it
-pub fraction_made : (digits : List ℕ) (micros : ℕ) → AreDigits digits → (0 < length digits) × (length digits ≤ 6) → micros ≡ number_of (six digits)
+pub fraction_made : (digits : List ℕ) (micros : ℕ) → AreDigits digits → (0 < length digits) × (length digits ≤ 6)
+    → micros ≡ number_of (six digits)
     → IsFraction (46 ∷ digits) micros
 fraction_made digits micros are bound value = inr (digits, bound, are, refl, value)
 
@@ -72,7 +75,8 @@ fraction_and_after [] = refl
 fraction_and_after (b ∷ bs) = front_if (b == 46) b bs
 
 -- a point is in front, or none
-pointed : (text : List ℕ) → has_point text ≡ true → (fraction_front text ≡ 46 ∷ front_digits (behind_point text)) × (after_fraction text ≡ after_digits (behind_point text))
+pointed : (text : List ℕ) → has_point text ≡ true → (fraction_front text ≡ 46 ∷ front_digits (behind_point text))
+    × (after_fraction text ≡ after_digits (behind_point text))
 pointed [] h = absurd (let e = h in cc)
 pointed (b ∷ bs) h = let is : b ≡ 46 = eqb-true b 46 h in rw is (refl, refl)
 
@@ -80,7 +84,8 @@ pointed (b ∷ bs) h = let is : b ≡ 46 = eqb-true b 46 h in rw is (refl, refl)
 pub digits_behind : (digits rest : List ℕ) → digits ≡ front_digits rest → AreDigits digits
 digits_behind digits rest e = subst AreDigits (sym e) (front_are_digits rest)
 
-pub pointed_found : (text rest digits : List ℕ) (point : Bool) (micros : ℕ) → point ≡ has_point text → rest ≡ behind_point text → digits ≡ front_digits rest → point ≡ true
+pub pointed_found : (text rest digits : List ℕ) (point : Bool) (micros : ℕ) → point ≡ has_point text → rest ≡ behind_point text
+    → digits ≡ front_digits rest → point ≡ true
     → (0 < length digits) × (length digits ≤ 6) → micros ≡ number_of (six digits) → IsFraction (fraction_front text) micros
 pointed_found text rest digits point micros p r d seen bound value =
     let parts = pointed text (sym p ∙ seen) in
@@ -90,7 +95,8 @@ pointed_found text rest digits point micros p r d seen bound value =
 
 -- ---- a time
 
-pub time_places : (text rest : List ℕ) (time : Time) → IsTime text time → EndsTime rest → AreTimeAt (text ++ rest) time × (after_time (text ++ rest) ≡ rest)
+pub time_places : (text rest : List ℕ) (time : Time) → IsTime text time → EndsTime rest → AreTimeAt (text ++ rest) time
+    × (after_time (text ++ rest) ≡ rest)
 time_places text rest time t e =
     let o : List ℕ = t.offset_text ++ rest in
     let s : List ℕ = t.fraction_text ++ o in
@@ -127,7 +133,8 @@ time_places text rest time t e =
     )
 
 -- the front of a text that the parts make
-pub time_front : (text : List ℕ) (time : Time) → AreTimeAt text time → (front : List ℕ) × IsTime front time × (text ≡ front ++ after_time text)
+pub time_front : (text : List ℕ) (time : Time) → AreTimeAt text time → (front : List ℕ) × IsTime front time
+    × (text ≡ front ++ after_time text)
 time_front text time p =
     let a : List ℕ = drop 3 text in
     let b : List ℕ = drop 3 a in
@@ -140,7 +147,8 @@ time_front text time p =
     let fourth : last ++ rest ≡ c =
     append_assoc (fraction_front c) offset.0 rest ∙ ap (λ (l : List ℕ). fraction_front c ++ l) (sym offset.2) ∙ fraction_and_after c in
     let third : tail ++ rest ≡ b = append_assoc (take 3 b) last rest ∙ ap (λ (l : List ℕ). take 3 b ++ l) fourth ∙ take-append-drop 3 b in
-    let second : (take 3 a ++ tail) ++ rest ≡ a = append_assoc (take 3 a) tail rest ∙ ap (λ (l : List ℕ). take 3 a ++ l) third ∙ take-append-drop 3 a in
+    let second : (take 3 a ++ tail) ++ rest ≡ a = append_assoc (take 3 a) tail rest ∙ ap (λ (l : List ℕ). take 3 a ++ l) third
+    ∙ take-append-drop 3 a in
     let first : (take 3 text ++ (take 3 a ++ tail)) ++ rest ≡ text =
     append_assoc (take 3 text) (take 3 a ++ tail) rest ∙ ap (λ (l : List ℕ). take 3 text ++ l) second ∙ take-append-drop 3 text in (
       take 3 text ++ (take 3 a ++ tail),
@@ -165,10 +173,12 @@ made h m s f o = record { hour = h; minute = m; second = s; micros = f; offset =
 
 pub time_is : (a b : Time) → a.hour ≡ b.hour → a.minute ≡ b.minute → a.second ≡ b.second → a.micros ≡ b.micros → a.offset ≡ b.offset → a ≡ b
 time_is a b h m s f o =
-    let same : made a.hour a.minute a.second a.micros a.offset ≡ made b.hour b.minute b.second b.micros b.offset = rw (h, m, s, f, o) refl in same
+    let same : made a.hour a.minute a.second a.micros a.offset ≡ made b.hour b.minute b.second b.micros b.offset = rw
+    (h, m, s, f, o) refl in same
 
 pub one_time : (text : List ℕ) (a b : Time) → AreTimeAt text a → AreTimeAt text b → a ≡ b
 one_time text a b p q =
     time_is a b (one_number 32 32 0 24 _ a.hour b.hour p.hours q.hours) (one_number 58 58 0 59 _ a.minute b.minute p.minutes q.minutes)
-    (one_number 58 58 0 60 _ a.second b.second p.seconds q.seconds) (one_fraction (fraction_front (drop 3 (drop 3 (drop 3 text)))) a.micros b.micros p.fraction q.fraction)
+    (one_number 58 58 0 60 _ a.second b.second p.seconds q.seconds)
+    (one_fraction (fraction_front (drop 3 (drop 3 (drop 3 text)))) a.micros b.micros p.fraction q.fraction)
     (one_perhaps (after_fraction (drop 3 (drop 3 (drop 3 text)))) a.offset b.offset p.offset q.offset)

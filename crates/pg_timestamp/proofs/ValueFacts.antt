@@ -12,7 +12,8 @@ use Rattle.pg_timestamp.specs.declared.value.Value.{Value}
 pub clock_small : (time : Time) → IsOnClock time → micros_of_day time < 86_400_000_000
 clock_small time (h, m, s, f) = omega (arith, h, m, s, f)
 
-least_timed : (day : ℤ) (micros : ℕ) (offset : Option ℤ) → IsShort offset → micros < 86_400_000_000 → IsWithinBounds (timed day micros offset)
+least_timed : (day : ℤ) (micros : ℕ) (offset : Option ℤ) → IsShort offset → micros < 86_400_000_000
+    → IsWithinBounds (timed day micros offset)
     → neg_ℤ (pos 4_371_587) ≤ℤ day
 least_timed day micros None r small w = let first = w.0 in omega (arith, ints, first)
 least_timed day micros (Some seconds) r small w = let first = w.0 in omega (arith, ints, first, r, small)
@@ -35,5 +36,6 @@ worth t day value is same = is ∙ ap (λ (z : ℤ). value_at z t.time) same
 pub not_within : (t : Timestamp) (value : Value) → value ≡ value_of t → (IsWithinBounds value → ⊥) → IsInRange t → ⊥
 not_within t value is none range = none (subst IsWithinBounds (sym is) range.0)
 
-pub within : AreCivilDays → (t : Timestamp) (value : Value) → value ≡ value_of t → IsWithinBounds value → IsCivilDay (day_number t.date) → IsInRange t
+pub within : AreCivilDays → (t : Timestamp) (value : Value) → value ≡ value_of t → IsWithinBounds value → IsCivilDay (day_number t.date)
+    → IsInRange t
 within civil t value is w day = (subst IsWithinBounds is w, ((civil (day_number t.date)).0 day).1)

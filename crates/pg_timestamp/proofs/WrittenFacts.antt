@@ -1,5 +1,6 @@
 -- Written texts: their lengths, and that they are read back.
-use Rattle.std.proofs.Common.{◌≡◌, ℕ, ◌+◌, ◌-◌, ◌^◌, ◌<◌, ◌≤◌, ◌==◌, ◌||◌, Bool, true, false, cond, List, [], ◌++◌, append_assoc, length, length-append, replicate, decimal, refl, sym, ◌∙◌, ap, subst, inl, inr, arith, Option, Some, None}
+use Rattle.std.proofs.Common.{◌≡◌, ℕ, ◌+◌, ◌-◌, ◌^◌, ◌<◌, ◌≤◌, ◌==◌, ◌||◌, Bool, true, false, cond, List, [], ◌++◌, append_assoc, length}
+use Rattle.std.proofs.Common.{length-append, replicate, decimal, refl, sym, ◌∙◌, ap, subst, inl, inr, arith, Option, Some, None}
 use Rattle.std.specs.Prelude.{ℤ, pos, codes}
 use Rattle.std.proofs.lemmas.Bool.{eqb-true}
 use Rattle.std.proofs.lemmas.Bool.Decides.{nat_tests}
@@ -13,7 +14,8 @@ use Rattle.pg_timestamp.specs.Pieces.{IsMarked, era_text}
 use Rattle.pg_timestamp.specs.Dates.{IsYear, calendar_year}
 use Rattle.pg_timestamp.specs.Timestamps.{IsFraction, IsOffset, IsPerhapsOffset, IsPerhapsTime, IsTime, IsTimestamp}
 use Rattle.pg_timestamp.specs.Values.{IsReal, IsRealTime, IsOnClock}
-use Rattle.pg_timestamp.specs.Written.{IsTextOf, IsUtc, IsWritten, IsZero, clock_text, date_text, fraction_text, offset_text, pair_text, time_text, timestamp_text}
+use Rattle.pg_timestamp.specs.Written.{IsTextOf, IsUtc, IsWritten, IsZero, clock_text, date_text, fraction_text, offset_text, pair_text}
+use Rattle.pg_timestamp.specs.Written.{time_text, timestamp_text}
 use Rattle.pg_timestamp.specs.declared.time.Time.{Time}
 use Rattle.pg_timestamp.specs.declared.timestamp.Timestamp.{Timestamp}
 use Rattle.pg_timestamp.specs.declared.value.Value.{Value}
@@ -50,7 +52,8 @@ fraction_if false micros h small =
     let short = length-decimal-le 6 micros (omega arith) (omega (arith, small)) fits in
     let padded = length-padded 6 micros in
     let six_long : length digits ≡ 6 = omega (arith, padded, short) in
-    let sum : length digits ≡ length text + fills.0 = ap length fills.1 ∙ length-append text (replicate fills.0 48) ∙ ap (λ (k : ℕ). length text + k) (length-zeros fills.0) in
+    let sum : length digits ≡ length text + fills.0 = ap length fills.1 ∙ length-append text (replicate fills.0 48)
+    ∙ ap (λ (k : ℕ). length text + k) (length-zeros fills.0) in
     let left : fills.0 ≡ 6 - length text = omega (arith, six_long, sum) in
     inr (
       text,
@@ -73,7 +76,17 @@ utc_written = record {
   hour = 0;
   minute = 0;
   second = 0;
-  hours = (codes "00", record { long = refl; digits = (omega arith, (omega arith, tt)); number = refl; least = omega arith; most = omega arith }, refl);
+  hours = (
+    codes "00",
+    record {
+      long = refl;
+      digits = (omega arith, (omega arith, tt));
+      number = refl;
+      least = omega arith;
+      most = omega arith;
+    },
+    refl,
+  );
   minutes = inl (refl, refl);
   seconds_are = inl (refl, refl);
   order = λ e. e;

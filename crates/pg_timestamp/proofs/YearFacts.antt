@@ -1,5 +1,6 @@
 -- The digits of a year, and the year that is held.
-use Rattle.std.proofs.Common.{◌≡◌, ℕ, ◌+◌, ◌-◌, ◌*◌, ◌%◌, ◌^◌, ◌<◌, ◌≤◌, min, true, false, nat_lt, List, ◌++◌, length, refl, sym, ◌∙◌, ap, subst, arith}
+use Rattle.std.proofs.Common.{◌≡◌, ℕ, ◌+◌, ◌-◌, ◌*◌, ◌%◌, ◌^◌, ◌<◌, ◌≤◌, min, true, false, nat_lt, List, ◌++◌, length, refl, sym, ◌∙◌, ap}
+use Rattle.std.proofs.Common.{subst, arith}
 use Rattle.std.proofs.lemmas.Bool.Decides.{nat_tests}
 use Rattle.scan_core.specs.Digits.{AreDigits, number_of}
 use Rattle.scan_core.specs.Fronts.{front_digits}
@@ -28,10 +29,17 @@ pub capped_below : (n c : ℕ) → c ≡ min n (2 ^ 32 - 1) → c < 40_000 → c
 capped_below n c is small = let same : c ≡ n = omega (arith, is, small) in same ∙ sym (held_below n (omega (arith, same, small)))
 
 pub capped_above : (n c last : ℕ) → c ≡ min n (2 ^ 32 - 1) → 40_000 ≤ c → last ≡ n % 10_000 → 40_000 + last ≡ held_year n
-capped_above n c last is large four = let above : 40_000 ≤ n = omega (arith, is, large) in ap (λ (k : ℕ). 40_000 + k) four ∙ sym (held_above n above)
+capped_above n c last is large four = let above : 40_000 ≤ n = omega (arith, is, large) in
+    ap (λ (k : ℕ). 40_000 + k) four ∙ sym (held_above n above)
 
-pub front_year : (text digits : List ℕ) (year : ℕ) → digits ≡ front_digits text → (length digits < 4 → ⊥) → year ≡ held_year (number_of digits)
+pub front_year : (text digits : List ℕ) (year : ℕ) → digits ≡ front_digits text → (length digits < 4 → ⊥)
+    → year ≡ held_year (number_of digits)
     → IsYear (front_digits text) year
 front_year text digits year same few number =
     let long = ap length same in
-    record { least = omega (arith, few, long); digits = front_are_digits text; number = number ∙ ap (λ (l : List ℕ). held_year (number_of l)) same }
+    record {
+      least = omega (arith, few, long);
+      digits = front_are_digits text;
+      number = number
+          ∙ ap (λ (l : List ℕ). held_year (number_of l)) same;
+    }

@@ -33,7 +33,8 @@ fn end(text: &[u8]) -> Option<(Option<Time>, bool)>
 /// What follows the day where that is no era alone.
 fn timed_end(text: &[u8]) -> Option<(Option<Time>, bool)>
     ensures found { IfSome result (λ r. IsEndAt text.now r.0 r.1) }
-    ensures none { IfNone result ((time : TimeValue) (bc : Bool) → ¬ (IsEndAt text.now (Some time) bc)) }
+    ensures none { IfNone result
+        ((time : TimeValue) (bc : Bool) → ¬ (IsEndAt text.now (Some time) bc)) }
 {
     let (time, rest) = Time::split(text)?;
     let bc = era(rest)?;

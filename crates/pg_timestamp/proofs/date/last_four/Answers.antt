@@ -21,7 +21,8 @@ unwrap-number-requires c =
     let long = c.split_at.ensures.back_len in
     let least = c.requires.least in
     let joined : c.split_at.result.0.now ++ c.split_at.result.1.now ≡ c.args.digits.now = rw (front, back) (take-append-drop _ _) in
-    let four = four_last c.args.digits.now c.split_at.result.0.now c.split_at.result.1.now c.requires.digits joined (omega (arith, long, least)) in
+    let four = four_last c.args.digits.now c.split_at.result.0.now c.split_at.result.1.now c.requires.digits joined
+    (omega (arith, long, least)) in
     c.digits_u32.ensures.fits.1 (let small = four.1 in omega (arith, small))
 
 pub overflow_cast-result : goal.overflow_cast-result
@@ -31,7 +32,8 @@ overflow_cast-result c =
     let long = c.split_at.ensures.back_len in
     let least = c.requires.least in
     let joined : c.split_at.result.0.now ++ c.split_at.result.1.now ≡ c.args.digits.now = rw (front, back) (take-append-drop _ _) in
-    let four = four_last c.args.digits.now c.split_at.result.0.now c.split_at.result.1.now c.requires.digits joined (omega (arith, long, least)) in
+    let four = four_last c.args.digits.now c.split_at.result.0.now c.split_at.result.1.now c.requires.digits joined
+    (omega (arith, long, least)) in
     let is : c.unwrap-number.result ≡ number_of c.split_at.result.1.now = rw c.unwrap-number.ensures at c.digits_u32.ensures.value in
     let small = four.1 in
     omega (arith, small, is)
@@ -43,6 +45,7 @@ returns c =
     let long = c.split_at.ensures.back_len in
     let least = c.requires.least in
     let joined : c.split_at.result.0.now ++ c.split_at.result.1.now ≡ c.args.digits.now = rw (front, back) (take-append-drop _ _) in
-    let four = four_last c.args.digits.now c.split_at.result.0.now c.split_at.result.1.now c.requires.digits joined (omega (arith, long, least)) in
+    let four = four_last c.args.digits.now c.split_at.result.0.now c.split_at.result.1.now c.requires.digits joined
+    (omega (arith, long, least)) in
     let is : c.unwrap-number.result ≡ number_of c.split_at.result.1.now = rw c.unwrap-number.ensures at c.digits_u32.ensures.value in
     is ∙ four.2

@@ -11,4 +11,5 @@ year_of-requires-clause-digits c = subst AreDigits (sym c.split_digits.ensures.f
 pub returns-clause-found : goal.returns-clause-found
 returns-clause-found c =
     let few = c.if-digits-lt4.false in
-    front_year c.args.text.now c.split_digits.result.0.now c.year_of.result c.split_digits.ensures.front (λ h. omega (arith, few, h)) c.year_of.ensures
+    front_year c.args.text.now c.split_digits.result.0.now c.year_of.result c.split_digits.ensures.front
+    (λ h. omega (arith, few, h)) c.year_of.ensures

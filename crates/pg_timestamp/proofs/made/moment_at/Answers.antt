@@ -16,4 +16,5 @@ returns c =
     (simp to_z-of_z at c.date_at.ensures.day) ∙ (simp to_z-of_z at c.utc_day.ensures.value) in
     let micros : pos (micros_of_day c.time_at.result) ≡ int_rem_euclid c.args.micros (pos 86_400_000_000) =
     ap (λ n. pos n) c.time_at.ensures.micros ∙ (simp to_z-of_z at c.utc_micros.ensures.value) in
-    moment_written c.args.micros c.date_at.result c.time_at.result c.date_at.ensures.real day c.date_at.ensures.held c.time_at.ensures.clock micros c.time_at.ensures.offset
+    moment_written c.args.micros c.date_at.result c.time_at.result c.date_at.ensures.real day c.date_at.ensures.held c.time_at.ensures.clock
+    micros c.time_at.ensures.offset

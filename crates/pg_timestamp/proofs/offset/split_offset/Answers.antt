@@ -6,7 +6,8 @@ pub returns-in_err-hour-clause-none : goal.returns-in_err-hour-clause-none
 returns-in_err-hour-clause-none c =
     let negative = c.begins_with-negative.ensures in
     let mark = c.sign_byte.ensures in
-    rw c.from_residual.ensures (λ seconds o. c.in_err-hour.ensures.none o.hour (rw mark (sign_is c.args.text.now c.begins_with-negative.result seconds negative o)))
+    rw c.from_residual.ensures (λ seconds o. c.in_err-hour.ensures.none o.hour
+    (rw mark (sign_is c.args.text.now c.begins_with-negative.result seconds negative o)))
 
 pub returns-in_err-minute-clause-none : goal.returns-in_err-minute-clause-none
 returns-in_err-minute-clause-none c =

@@ -8,4 +8,5 @@ micros-requires c = digits_behind c.split_digits.result.0.now c.split_point-poin
 pub returns-in-Some-clause-found : goal.returns-in-Some-clause-found
 returns-in-Some-clause-found c =
     let found = c.in-Some.ensures.found in
-    pointed_found c.args.text.now c.split_point-point.result.1.now c.split_digits.result.0.now c.split_point-point.result.0 c.in-Some.number c.split_point-point.ensures.point c.split_point-point.ensures.rest c.split_digits.ensures.front c.if-point.true found.0 found.1
+    pointed_found c.args.text.now c.split_point-point.result.1.now c.split_digits.result.0.now c.split_point-point.result.0 c.in-Some.number
+    c.split_point-point.ensures.point c.split_point-point.ensures.rest c.split_digits.ensures.front c.if-point.true found.0 found.1

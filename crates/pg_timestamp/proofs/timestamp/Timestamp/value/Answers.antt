@@ -16,7 +16,8 @@ returns-then-not-is_within_bounds-clause-refusal c =
     let f : FitsSigned w32 c.in-Some.day = search rules in
     let real : IsReal c.args.self.now = search rules in
     let made = simp to_z-of_z at c.value_at-value.ensures in
-    let is : c.value_at-value.result ≡ value_of c.args.self.now = worth c.args.self.now c.in-Some.day c.value_at-value.result made c.in-Some.ensures.value in
+    let is : c.value_at-value.result ≡ value_of c.args.self.now = worth c.args.self.now c.in-Some.day c.value_at-value.result made
+    c.in-Some.ensures.value in
     let no : IsWithinBounds c.value_at-value.result → ⊥ = search rules in
     (real, not_within c.args.self.now c.value_at-value.result is no)
 
@@ -24,9 +25,11 @@ pub returns-clause-range : goal.returns-clause-range
 returns-clause-range c =
     let f : FitsSigned w32 c.in-Some.day = search rules in
     let made = simp to_z-of_z at c.value_at-value.ensures in
-    let is : c.value_at-value.result ≡ value_of c.args.self.now = worth c.args.self.now c.in-Some.day c.value_at-value.result made c.in-Some.ensures.value in
+    let is : c.value_at-value.result ≡ value_of c.args.self.now = worth c.args.self.now c.in-Some.day c.value_at-value.result made
+    c.in-Some.ensures.value in
     let inside : IsWithinBounds c.value_at-value.result = search rules in
-    within c.years_and_weeks_follow_each_other.ensures.civil c.args.self.now c.value_at-value.result is inside (c.in-Some.ensures.some.0 refl)
+    within c.years_and_weeks_follow_each_other.ensures.civil c.args.self.now c.value_at-value.result is inside
+    (c.in-Some.ensures.some.0 refl)
 
 pub returns-clause-value : goal.returns-clause-value
 returns-clause-value c =
