@@ -1,6 +1,5 @@
 -- Timestamps as PostgreSQL writes them in DateStyle ISO (its manual, section 8.5.2, "Date/Time Output", and for offsets 8.5.3): a date, or
--- a
--- date, a blank and a time, perhaps with an offset from UTC, and the era behind all.
+-- a date, a blank and a time, perhaps with an offset from UTC, and the era behind all.
 use Rattle.std.specs.Prelude.{◌≡◌, ◌⊎◌, ℕ, ◌+◌, ◌-◌, ◌*◌, ◌<◌, ◌≤◌, Bool, true, false, List, [], ◌++◌, length, codes, replicate, Option}
 use Rattle.std.specs.Prelude.{Some, None, ℤ}
 use Rattle.scan_core.specs.Digits.{AreDigits, number_of}

@@ -1,6 +1,5 @@
 -- What a timestamp is worth: a day, a time of a day, or a moment, counted from 1970-01-01 in the proleptic Gregorian calendar, as
--- PostgreSQL
--- counts (its manual, section 8.5, table 8.9, and appendix B.6, "History of Units"). A day has 86,400 seconds.
+-- PostgreSQL counts (its manual, section 8.5, table 8.9, and appendix B.6, "History of Units"). A day has 86,400 seconds.
 use Rattle.std.specs.Prelude.{ℕ, ◌+◌, ◌*◌, ◌<◌, ⊤, ℤ, pos, neg_ℤ, unsigned_abs, ◌+ℤ◌, ◌-ℤ◌, ◌*ℤ◌, ◌<ℤ◌, ◌≤ℤ◌, Option, None, Some}
 use Rattle.pg_timestamp.specs.Dates.{IsRealDay, day_number}
 use Rattle.pg_timestamp.specs.declared.time.Time.{Time}
