@@ -5,4 +5,4 @@ use Rattle.pg_interval_2.specs.declared.style.Style.TheVariants.{Postgres}
 use Rattle.pg_interval_2.proofs.interval.Interval.from_postgres.Goals as goal
 
 pub returns : goal.returns
-returns c = subst (λ (text : List ℕ). Answers Postgres text c.read_alone.result) c.new.ensures c.read_alone.ensures
+returns c = subst (λ (text : List ℕ). Answers Postgres text c.read.result) c.new.ensures c.read.ensures
