@@ -1,4 +1,4 @@
--- Requests and replies. A line is a request: a form's name, a space, a form's name, then the end or a space and a text.
+-- Requests and replies. A line is a request where it is a form's name, a space, a form's name, then the end or a space and a text.
 -- Its reply is what the text is in the second form, or `refused` and the cause.
 use Rattle.std.specs.Prelude.{◌≡◌, ◌⊎◌, ℕ, Bool, true, false, List, [], ◌++◌, codes, Some, None, Result, Ok, Err, IsUtf8}
 use Rattle.scan_core.specs.Join.{IsJoin}
