@@ -75,7 +75,8 @@ HoldsDated day time offset held =
     (date : Result Date Cause) × HoldsDay day date
     × (held ≡ result_map (λ d. datetime_of (Some d) time offset) date)
 
--- the date-time of a value: a moment in UTC with `Z`, a day, a local and a clock without an offset; other kinds are `Kind`
+-- The date-time of a value: a moment in UTC with `Z`, a day, a local and a clock without an offset; other kinds are `Kind`. Nanoseconds of
+-- a day are never negative, so `unsigned_abs` makes them a natural number and changes none.
 abbrev pub Holds : Value → Result Datetime Cause → Type 0
 Holds (Instant nanos) =
     HoldsDated (int_div_euclid nanos (pos 86_400_000_000_000))
