@@ -25,7 +25,7 @@ abbrev pub nanos_in : List PartCount → ℕ
 nanos_in [] = 0
 nanos_in (c ∷ counts) = c.count * weight_of c.part + nanos_in counts
 
--- the length that is left where a list holds some parts, and all others are 0
+-- the length that the counts of the parts in the list make, without those of all other parts
 unfoldable pub kept_length : List DurationPart → ℕ → ℕ
 kept_length kept nanos =
     nanos_in (filter (λ c. list_any (λ part. is_part part c.part) kept) (breakdown nanos))

@@ -32,6 +32,6 @@ pub record Swaps (k : ℕ) (first second : ℕ) : Type 0 where
   pub microseconds : count_of Microseconds first ≡ count_of Microseconds second
   pub nanoseconds : count_of Nanoseconds first ≡ count_of Nanoseconds second
 
--- two lengths have one written text
+-- for some k one of the two lengths has k months where the other has k minutes, and all else is equal
 abbrev pub Collide : ℕ → ℕ → Type 0
 Collide a b = (k : ℕ) × (Swaps k a b ⊎ Swaps k b a)

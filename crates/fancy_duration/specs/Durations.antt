@@ -9,8 +9,8 @@ abbrev pub duration_times : Duration → ℕ × ℕ
 duration_times d = times_of (as_nanos d)
 
 -- A pair that a duration can be made of: its nanoseconds are in 32 bits and the whole seconds in
--- 64. The second case is the condition that each type has, which the first covers for every
--- duration that there is.
+-- 64. The second case is the condition that the trait has for every type; each pair that meets it
+-- meets the first case too, where `from` has its seconds in 64 bits.
 abbrev pub CanMake : Duration → ℕ → ℕ → Type 0
 CanMake from secs nanos =
     ((nanos < 2 ^ 32) × (secs + nanos / 1_000_000_000 < 2 ^ 64))

@@ -1,5 +1,5 @@
 -- What a strict text spells: nothing but counts, each with its part, and the nanoseconds that they make. The text is `0`, or one or
--- more of digits, a unit, and any number of blanks.
+-- more of digits, a unit, and any number of blanks. The crate's law `strict_texts_spell_their_sums` ties it to the original's rule for `m`.
 use Rattle.std.specs.Prelude.{◌≡◌, ℕ, ◌+◌, ◌*◌, ◌<◌, ◌⊎◌, ⊤, List, [], ◌∷◌, ◌++◌, length, codes, nat_le, IsTrue}
 use Rattle.std.specs.List.{list_all, list_any}
 use Rattle.scan_core.specs.Blanks.{is_blank}

@@ -1,6 +1,6 @@
 -- What a text of counts and units adds up to, in nanoseconds. The documentation of the Rust crate
--- `fancy-duration` calls the rule for `m` an order: months "must appear before" minutes and the
--- units from hours to years.
+-- `fancy-duration` says of `m` that months "must appear before" minutes; its code takes an `m` for
+-- months exactly where an `m`, `h`, `d`, `w` or `y` follows later, and so do these definitions.
 use Rattle.std.specs.Prelude.{◌≡◌, ℕ, ◌+◌, ◌*◌, Bool, true, not, ◌&&◌, List, [], ◌∷◌, codes, find, bytes_eq, Option}
 use Rattle.std.specs.List.{list_any}
 use Rattle.std.specs.Option.{option_map_or}
@@ -30,7 +30,7 @@ can_be _ long = true
 abbrev pub part_of : List ℕ → Bool → Option DurationPart
 part_of unit long = find (λ part. bytes_eq unit (unit_of part) && can_be part long) all_parts
 
--- nanoseconds in one of the unit, and nothing where it names no part
+-- nanoseconds in one of the unit, and 0 where it names no part
 abbrev pub weight_in : List ℕ → Bool → ℕ
 weight_in unit long = option_map_or weight_of (part_of unit long) 0
 

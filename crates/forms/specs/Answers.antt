@@ -1,12 +1,12 @@
--- How a form reads and writes, for any form. A form is four words: what a text spells, what that is worth as a value, what of a value the
--- form holds, and the text of what is held.
+-- How a form reads and writes, for any form. A form is four definitions: what a text spells, what that is worth as a value, what of a
+-- value the form holds, and the text of what is held.
 use Rattle.std.specs.Prelude.{◌≡◌, ◌⊎◌, ℕ, List, Result, Ok, Err}
 use Rattle.arrayvec.specs.ArrayString.{ArrayString}
 use Rattle.forms.specs.declared.cause.Cause.{Cause}
 use Rattle.forms.specs.declared.cause.Cause.TheVariants.{Syntax, NoSuchMoment, Range}
 use Rattle.forms.specs.declared.value.Value.{Value}
 
--- a result, or the cause why there is none, of a function
+-- a function as a relation: the second is what the function gives for the first
 abbrev pub Is : {X Y : Type 0} → (X → Y) → X → Y → Type 0
 Is function x y = y ≡ function x
 
@@ -24,7 +24,7 @@ Judged Real InRange value answer =
     (Real × InRange × (answer ≡ Ok value))
     ⊎ (((Real → ⊥) × (answer ≡ Err NoSuchMoment)) ⊎ (Real × (InRange → ⊥) × (answer ≡ Err Range)))
 
--- what is made of a result, or its cause
+-- the function applied to what a result holds; a cause stays as it is
 abbrev pub result_map : {X Y : Type 0} → (X → Y) → Result X Cause → Result Y Cause
 result_map make (Ok x) = Ok (make x)
 result_map make (Err cause) = Err cause
@@ -35,7 +35,7 @@ abbrev pub WritesBy : {X : Type 0} → (Value → Result X Cause → Type 0) →
 WritesBy {X} Holds text_of value answer =
     (held : Result X Cause) × Holds value held × (answer ≡ result_map text_of held)
 
--- what follows of a result, or its cause
+-- the next step answers for what a result holds; a cause is handed on as it is
 abbrev pub Then : {X Y : Type 0} → (X → Result Y Cause → Type 0) → Result X Cause
     → Result Y Cause → Type 0
 Then Next (Ok x) answer = Next x answer

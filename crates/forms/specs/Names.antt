@@ -31,7 +31,7 @@ style_of PgSql = Some style.Sql
 style_of IsoStrict = Some style.IsoStrict
 style_of _ = None
 
--- the forms whose texts can be read by counted looks alone: the interval forms, and durations of ISO 8601
+-- the forms whose reader counts each access to a byte of the text: the interval forms, and durations of ISO 8601
 abbrev pub is_counted : Form → Bool
 is_counted IsoDuration = true
 is_counted PgIso = true

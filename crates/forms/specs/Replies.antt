@@ -1,4 +1,4 @@
--- Requests and replies. A line is a request: a form's name, a space, a form's name, then the end or a space and a text.
+-- Requests and replies. A line is a request where it is a form's name, a space, a form's name, then the end or a space and a text.
 -- Its reply is what the text is in the second form, or `refused` and the cause.
 use Rattle.std.specs.Prelude.{◌≡◌, ◌⊎◌, ℕ, Bool, true, false, List, [], ◌++◌, codes, Some, None, Result, Ok, Err, IsUtf8}
 use Rattle.scan_core.specs.Join.{IsJoin}
@@ -49,7 +49,7 @@ IsRequest line from to text =
     let names = name_of from ++ (codes " " ++ name_of to) in
     IsUtf8 line × (((line ≡ names) × (text ≡ [])) ⊎ (line ≡ names ++ (codes " " ++ text)))
 
--- the reply to a line, without its line feed: it is no request, or this is the answer to it
+-- the reply to a line, without its line feed: `refused Line` where the line is no request, and else the text of its answer
 abbrev pub IsReply : List ℕ → List ℕ → Type 0
 IsReply line out =
     (((from to : Form) (text : List ℕ) → IsRequest line from to text → ⊥)
@@ -63,7 +63,7 @@ AreReplies lines out =
     IsJoin (λ piece line. (reply : List ℕ) × IsReply line reply × (piece ≡ reply ++ codes "\n"))
     out lines
 
--- a front of the replies: a front of those to the first so many lines
+-- a prefix of the replies: a prefix of those to the first so many lines
 pub record IsFrontOfReplies (lines : List (List ℕ)) (out : List ℕ) : Type 0 where
   pub answered : List (List ℕ)
   pub others : List (List ℕ)

@@ -1,5 +1,5 @@
--- Values: what the texts of all forms stand for. Moments and days are counted from 1970-01-01 in the proleptic Gregorian
--- calendar, as POSIX counts them in UTC; a day has 86_400 seconds.
+-- Values: what the texts of all forms stand for. Moments, in UTC, and days are counted from 1970-01-01 in the proleptic Gregorian
+-- calendar; a day has 86_400 seconds, as in POSIX.1, "Seconds Since the Epoch".
 use Rattle.std.specs.Prelude.{◌≡◌, ℕ, ◌*◌, ◌^◌, ◌<◌, ℤ, pos, ◌+ℤ◌, ◌*ℤ◌, FitsSigned}
 use Rattle.std.specs.Int.{w64}
 use Rattle.jiff.specs.Words.{IsBetween, IsWithin, IsEpochDay}
@@ -10,8 +10,8 @@ use Rattle.forms.specs.declared.value.Value.TheVariants.{Instant, Day, Local, Cl
 abbrev pub IsOfDay : ℤ → Type 0
 IsOfDay nanos = IsBetween (pos 0) (pos 86_399_999_999_999) nanos
 
--- Bounds that each value keeps which a text stands for. Days are those of the years -9999 to 9999, and lengths have fewer than
--- 2^64 seconds.
+-- The bounds of each value that a text stands for: instants are within 10^22 nanoseconds of 1970, days are of the years -9999 to 9999,
+-- the numbers of a triple have 64 bits with a sign, and lengths have fewer than 2^64 seconds.
 abbrev pub IsWithinBounds : Value → Type 0
 IsWithinBounds (Instant nanos) = IsWithin (10 ^ 22) nanos
 IsWithinBounds (Day day) = IsEpochDay day

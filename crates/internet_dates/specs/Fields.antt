@@ -1,4 +1,5 @@
--- Times of day, as RFC 9110, section 5.6.7, and RFC 5322, section 3.3, have them.
+-- Times of day, after RFC 9110, section 5.6.7, and RFC 5322, section 3.3, where they go from 00:00:00 to 23:59:60. Hour 24 is in the
+-- grammar here, and is no moment, as second 60 is none.
 use Rattle.std.specs.Prelude.{◌≡◌, ℕ, List, ◌++◌, codes}
 use Rattle.scan_core.specs.Fields.{IsField}
 
@@ -12,7 +13,7 @@ pub record IsClock (text : List ℕ) (hour minute second : ℕ) : Type 0 where
   pub seconds : IsField 2 0 60 second_text second
   pub joined : text ≡ hour_text ++ (codes ":" ++ (minute_text ++ (codes ":" ++ second_text)))
 
--- hours and minutes, which is on the minute: `08:49`
+-- hours and minutes, with second 0: `08:49`
 pub record IsShortClock (text : List ℕ) (hour minute second : ℕ) : Type 0 where
   pub hour_text : List ℕ
   pub minute_text : List ℕ

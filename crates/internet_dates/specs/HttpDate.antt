@@ -1,4 +1,4 @@
--- Dates of HTTP: RFC 9110, section 5.6.7, but for the form of RFC 850, whose years have two digits.
+-- Dates of HTTP: RFC 9110, section 5.6.7, but for the form of RFC 850, which that section has recipients accept: its years have two digits.
 use Rattle.std.specs.Prelude.{◌≡◌, ◌⊎◌, ℕ, pos, List, ◌++◌, codes, Some}
 use Rattle.scan_core.specs.Fields.{IsField}
 use Rattle.internet_dates.specs.Fields.{IsClock}

@@ -1,5 +1,5 @@
 -- Dates of mail: RFC 5322, section 3.3, with the names of zones of section 4.3, but for those of one letter. One blank stands in each
--- place, and no line is folded.
+-- place, no line is folded, years have four digits, the hours of a zone go to 24, and one comment may stand, at the end.
 use Rattle.std.specs.Prelude.{◌≡◌, ◌⊎◌, ℕ, ◌+◌, ◌*◌, Bool, true, ◌&&◌, ◌==◌, not, nat_le, ℤ, pos, List, [], ◌++◌, codes, Option, Some, None}
 use Rattle.std.specs.Prelude.{if◌then◌else◌}
 use Rattle.std.specs.List.{list_all}

@@ -1,5 +1,5 @@
 -- The names of days, months and zones in dates of HTTP and of mail: RFC 9110, section 5.6.7, and RFC 5322, sections 3.3 and
--- 4.3. They are told by case.
+-- 4.3. They are told by case, as RFC 9110 has it; the grammar of RFC 5322 takes letters of either case.
 use Rattle.std.specs.Prelude.{◌≡◌, ℕ, ◌-◌, ◌*◌, ◌<◌, ◌≤◌, ℤ, pos, neg_ℤ, List, [], ◌∷◌, codes, get_or}
 
 -- the days of the week from Monday on

@@ -15,7 +15,7 @@ unfoldable pub days_of_months : ℤ → ℕ → ℕ
 days_of_months year zero = 0
 days_of_months year (suc n) = days_of_months year n + days_in_month year (suc n)
 
--- how many leap years there are from year 1 to this one; less than 0 before year 0
+-- how many leap years there are from year 1 to this one; before year 1, less than 0 by those after this year up to year 0
 abbrev pub leap_years : ℤ → ℤ
 leap_years year =
     (int_div_euclid year (pos 4) -ℤ int_div_euclid year (pos 100)) +ℤ int_div_euclid year (pos 400)

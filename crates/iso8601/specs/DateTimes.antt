@@ -1,4 +1,4 @@
--- Date-times: a date, `T`, and a time.
+-- Date-times (ISO 8601-1:2019, 5.4): a date, `T`, and a time.
 use Rattle.std.specs.Prelude.{◌≡◌, List, ◌++◌, ℕ, codes}
 use Rattle.iso8601.specs.Dates.{IsDate}
 use Rattle.iso8601.specs.Times.{IsTime}

@@ -1,4 +1,5 @@
--- Dates: a year, perhaps a hyphen, and a day of the year by month, by week or by number. No kind goes before another.
+-- Dates (ISO 8601-1:2019, 5.2): a year, perhaps a hyphen, and a day of the year by month, by week or by number. No kind goes before
+-- another. Each hyphen may be left out by itself, where the standard has all of them or none.
 use Rattle.std.specs.Prelude.{◌≡◌, ℕ, ℤ, ◌⊎◌, List, [], ◌++◌, codes}
 use Rattle.scan_core.specs.Fields.{IsField}
 use Rattle.iso8601.specs.Fields.{IsMarked, IsYear}

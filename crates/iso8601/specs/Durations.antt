@@ -1,4 +1,5 @@
--- Durations: `P`, and behind it counts, weeks, or a date and a time. No kind goes before another.
+-- Durations (ISO 8601-1:2019, 5.5.2): `P`, and behind it counts, weeks, or a date and a time. No kind goes before another. Seconds alone
+-- may have a fraction, where the standard has one of the last count, and `PT` is read.
 use Rattle.std.specs.Prelude.{◌≡◌, ◌≢◌, ℕ, ◌<◌, ◌^◌, ◌⊎◌, List, [], ◌++◌, length, codes}
 use Rattle.scan_core.specs.Digits.{AreDigits, number_of}
 use Rattle.scan_core.specs.Fields.{IsField}
@@ -21,7 +22,7 @@ pub record IsCount (unit text : List ℕ) (value : ℕ) : Type 0 where
   pub number : IsNumberOf32Bits digits value
   pub joined : text ≡ digits ++ unit
 
--- seconds with a fraction, and `S`
+-- seconds, a fraction, which may have no digits, and `S`
 pub record IsDecimal (text : List ℕ) (value : ℕ × ℕ) : Type 0 where
   pub digits : List ℕ
   pub fraction : List ℕ

@@ -1,9 +1,9 @@
--- How long a duration is where each unit is: a year is 365 days, a month is 30, a week is 7.
+-- How long a duration is where a year is taken for 365 days and a month for 30, as the Rust crate `iso8601` does; a week is 7 days.
 use Rattle.std.specs.Prelude.{ℕ, ◌+◌, ◌*◌}
 use Rattle.iso8601.specs.declared.types.Duration.{Duration}
 use Rattle.iso8601.specs.declared.types.Duration.TheVariants.{YMDHMS, Weeks}
 
--- the days of years, months and days
+-- the days of years of 365 days, months of 30 days, and days
 abbrev pub days_of : ℕ → ℕ → ℕ → ℕ
 days_of year month day = 365 * year + 30 * month + day
 

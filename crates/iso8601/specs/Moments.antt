@@ -7,7 +7,7 @@ use Rattle.iso8601.specs.declared.types.Time.{Time}
 use Rattle.iso8601.specs.declared.types.DateTime.{DateTime}
 use Rattle.iso8601.specs.declared.types.FixedMoment.{FixedMoment}
 
--- a clock shows these fields: no leap second, and no 24 hours
+-- a clock shows these fields: no second 60, no hour 24, and no 1000 milliseconds or more
 abbrev pub IsOnClock : Time → Type 0
 IsOnClock t = (t.hour < 24) × (t.minute < 60) × (t.second < 60) × (t.millisecond < 1000)
 
@@ -21,7 +21,7 @@ IsCivilTime t civil =
 abbrev pub offset_of : Time → ℤ
 offset_of t = (pos 3600 *ℤ t.tz_offset_hours) +ℤ (pos 60 *ℤ t.tz_offset_minutes)
 
--- the day is a civil one, the clock shows the time, and the offset is less than a day
+-- there is such a day, it is a civil one, a clock shows the time, and the offset is less than a day
 abbrev pub IsMoment : DateTime → Type 0
 IsMoment t =
     Exists t.date × IsCivilDay (day_of t.date) × IsOnClock t.time

@@ -1,4 +1,5 @@
--- Times: hours and minutes, perhaps seconds, perhaps a fraction, perhaps an offset.
+-- Times (ISO 8601-1:2019, 5.3): hours and minutes, perhaps seconds, perhaps a fraction, perhaps an offset. Hour 24 with any minutes and
+-- second 60 in any minute are in the grammar; `IsOnClock` says which times a clock shows.
 use Rattle.std.specs.Prelude.{◌≡◌, ℕ, ℤ, pos, ◌⊎◌, Bool, List, [], ◌++◌, take, codes}
 use Rattle.scan_core.specs.Digits.{AreDigits, number_of}
 use Rattle.scan_core.specs.Shares.{signed}
@@ -7,7 +8,7 @@ use Rattle.scan_core.specs.Number.{sign_text}
 use Rattle.iso8601.specs.Fields.{IsMarked, IsOrZero}
 use Rattle.iso8601.specs.declared.types.Time.{Time}
 
--- a point or a comma, and digits, of which three count; filled with zeros on the right they are milliseconds
+-- a point or a comma, and digits or none, of which three count; filled with zeros on the right they are milliseconds
 pub record IsMilliseconds (text : List ℕ) (millis : ℕ) : Type 0 where
   pub point : List ℕ
   pub digits : List ℕ
@@ -28,7 +29,7 @@ pub record IsSignedOffset (text : List ℕ) (offset : ℤ × ℤ) : Type 0 where
   pub joined : text ≡ sign_text negative ++ (hour_text ++ minute_text)
   pub value : offset ≡ (signed negative hour, signed negative minute)
 
--- hours and minutes of an offset: nothing, `Z`, or a signed one
+-- hours and minutes of an offset: nothing or `Z`, which are 0 and 0, or a signed one
 abbrev pub IsOffset : List ℕ → ℤ × ℤ → Type 0
 IsOffset text offset =
     ((text ≡ []) × (offset ≡ (pos 0, pos 0)))

@@ -1,5 +1,5 @@
 -- The texts that are written of durations, in the format with designators of ISO 8601-1:2019, 5.5.2:
--- `P1Y2M3DT4H5M6.007S`, `P5W`, and `P0D` where every count is 0.
+-- `P1Y2M3DT4H5M6.007S`, `P0D` where every count is 0, and weeks as `P5W` and `P0W`.
 use Rattle.std.specs.Prelude.{ℕ, ◌&&◌, List, [], ◌++◌, codes, decimal, ◌==◌, if◌then◌else◌}
 use Rattle.scan_core.specs.Padded.{padded_digits}
 use Rattle.iso8601.specs.declared.types.Duration.{Duration}

@@ -23,7 +23,7 @@ pub record IsCivilFrom (ticks : ℕ) (result : Result DateTime OutOfCivil) : Typ
   pub ok : IfOk result (IsUtcOf ticks)
   pub out : IsErr result ↔ (past_civil ≤ ticks)
 
--- the instant of a tick, or none after the last one that `jiff` has
+-- the instant of a tick, or none after the last one that `jiff` has, 9999-12-30 22:00:00.999999999 UTC
 pub record IsTimestampFrom (ticks : ℕ) (result : Result Timestamp OutOfCivil) : Type 0 where
   pub ok : IfOk result (λ instant. instant.nanosecond ≡ unix_nanos ticks)
   pub out : IsErr result ↔ (pos 253_402_207_200_999_999_999 <ℤ unix_nanos ticks)

@@ -1,4 +1,4 @@
--- The text of a file time: its raw count in decimal digits.
+-- The text of a file time, since `FILETIME` itself has none: its raw count in decimal digits, as the Rust crate `nt-time` has it.
 use Rattle.std.specs.Prelude.{◌≡◌, ◌≢◌, ℕ, ◌^◌, ◌<◌, ◌≤◌, ◌⊎◌, ◌↔◌, List, [], ◌++◌, length, codes, Result, Ok, IfOk, IsErrOf}
 use Rattle.scan_core.specs.Digits.{AreDigits, number_of}
 use Rattle.nt_time.specs.declared.error.ParseFileTimeCause.{ParseFileTimeCause}

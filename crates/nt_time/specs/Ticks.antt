@@ -1,4 +1,4 @@
--- Lengths of time cut to whole ticks of 100 nanoseconds, and moments that far apart.
+-- Ticks of 100 nanoseconds: how many whole ones a length of time has, and counts that lie so many apart.
 use Rattle.std.specs.Prelude.{◌≡◌, ℕ, suc, ◌+◌, ◌*◌, ◌^◌, ◌<◌, ◌≤◌, ℤ, pos, negsuc}
 
 -- so many ticks are within the nanoseconds, and one more is not

@@ -1,7 +1,7 @@
 -- The table of checks, one line each: what must hold, which part is wrong where it doesn't, and
 -- what was expected. They stand in the order in which they are made, and the first that fails
--- decides. TOML has no such table: order and words are those of the Rust crate. A check is total in
--- the text. Behind one that fails, later checks may mean nothing; nobody looks at them.
+-- decides. TOML has no such table: order and words are those of the Rust crate. The later checks are
+-- of the same text also where one before them fails, and may then mean nothing.
 use Rattle.std.specs.Prelude.{ℕ, Bool, true, ◌||◌, ◌&&◌, ◌==◌, nat_le, List, [], ◌∷◌, ◌++◌, length, codes, Option, Some, None, option_map}
 use Rattle.std.specs.Prelude.{is_some, pos, if◌then◌else◌}
 use Rattle.scan_core.specs.Digits.{number_of}

@@ -63,7 +63,7 @@ words_of End = bare_fault None
 abbrev pub fault_of : DatetimeParseError → Fault
 fault_of error = words_of error.check
 
--- a date-time, where no part of it is said to be wrong
+-- the part that is wrong, or `datetime` where none is named
 abbrev pub what_text : Option (List ℕ) → List ℕ
 what_text None = codes "datetime"
 what_text (Some what) = what

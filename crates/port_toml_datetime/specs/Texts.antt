@@ -9,7 +9,7 @@ use Rattle.port_toml_datetime.specs.declared.offset.Offset.{Offset}
 use Rattle.port_toml_datetime.specs.declared.offset.Offset.TheVariants.{Z, Custom}
 use Rattle.port_toml_datetime.specs.declared.datetime.Datetime.{Datetime}
 
--- at least one digit
+-- the digits, or `0` where there are none
 abbrev pub or_zero : List ℕ → List ℕ
 or_zero [] = codes "0"
 or_zero (b ∷ bs) = b ∷ bs

@@ -1,6 +1,6 @@
 -- Times, by the TOML specification 1.1, section "Local Time", and `partial-time` of its grammar:
--- hours and minutes, perhaps seconds, and behind these perhaps a fraction. Seconds go to 60, for
--- leap seconds; RFC 3339, section 5.7.
+-- hours and minutes, perhaps seconds, and behind these perhaps a fraction. Seconds go to 60 in any
+-- minute, where RFC 3339, section 5.7, has a second 60 at leap seconds alone.
 use Rattle.std.specs.Prelude.{◌≡◌, ℕ, ◌<◌, ◌⊎◌, List, [], ◌++◌, length, take, codes, Option, Some, None}
 use Rattle.scan_core.specs.Digits.{AreDigits, number_of}
 use Rattle.scan_core.specs.Fields.{IsField}

@@ -7,7 +7,7 @@ use Rattle.port_toml_datetime.specs.declared.offset.Offset.{Offset}
 use Rattle.port_toml_datetime.specs.declared.offset.Offset.TheVariants.{Z, Custom}
 use Rattle.port_toml_datetime.specs.declared.datetime.Datetime.{Datetime}
 
--- a real day of a year to 9999
+-- a real day of a year from 0 to 9999
 pub record IsRealDay (d : Date) : Type 0 where
   pub year : d.year ≤ 9999
   pub month : 1 ≤ d.month
@@ -28,13 +28,13 @@ pub record IsRealTime (t : Time) : Type 0 where
   pub minute : t.minute ≤ 59
   pub seconds : AreRealSeconds t.second t.nanosecond
 
--- less than a day
+-- an offset of less than a day: of 1439 minutes at most, either way
 abbrev pub IsOffsetInRange : Offset → Type 0
 IsOffsetInRange Z = ⊤
 IsOffsetInRange (Custom (pos n)) = n ≤ 1439
 IsOffsetInRange (Custom (negsuc n)) = n < 1439
 
--- the parts of an offset date-time, a local date-time, a local date or a local time (TOML v1.0.0), each in its range
+-- the parts of an offset date-time, a local date-time, a local date or a local time (TOML 1.1), each in its range
 abbrev pub AreWellFormed : Option Date → Option Time → Option Offset → Type 0
 AreWellFormed (Some d) (Some t) (Some o) = IsRealDay d × IsRealTime t × IsOffsetInRange o
 AreWellFormed (Some d) (Some t) None = IsRealDay d × IsRealTime t

@@ -7,7 +7,7 @@ abbrev pub is_leap_year : ℤ → Bool
 is_leap_year year =
     let n = unsigned_abs year in (n % 4 == 0) && (not (n % 100 == 0) || (n % 400 == 0))
 
--- thirty days have April, June, September and November
+-- thirty days have April, June, September and November, February has 28 or, in a leap year, 29, and every other month has 31
 abbrev pub days_in_month : ℤ → ℕ → ℕ
 days_in_month year month =
     if month == 2 then (if is_leap_year year then 29 else 28)

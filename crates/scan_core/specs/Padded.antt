@@ -5,7 +5,7 @@ use Rattle.std.specs.Prelude.{ℕ, ◌-◌, ◌==◌, List, [], ◌∷◌, ◌++
 abbrev pub padded_digits : ℕ → ℕ → List ℕ
 padded_digits width n = replicate (width - length (decimal n)) 48 ++ decimal n
 
--- a byte in front of digits whose zeros at the end are dropped, but for a zero with nothing behind it
+-- a byte in front of digits whose zeros at the end were dropped; a zero in front of nothing is dropped too
 abbrev pub onto_trimmed : ℕ → List ℕ → List ℕ
 onto_trimmed b [] = if b == 48 then [] else (b ∷ [])
 onto_trimmed b (c ∷ cs) = b ∷ (c ∷ cs)

@@ -1,4 +1,5 @@
--- Date-times of ISO 8601: a moment of the years -9999 to 9999 to the millisecond; one without an offset is in UTC.
+-- Date-times of ISO 8601-1:2019, 5.4, to the millisecond; one without an offset is in UTC. The years are -9999 to 9999: at reading those
+-- of the date as it is written, at writing those of the day in UTC.
 use Rattle.std.specs.Prelude.{◌≡◌, ◌⊎◌, ℕ, ◌+◌, ◌*◌, ◌<◌, ◌≤◌, ◌==◌, List, ℤ, pos, ◌+ℤ◌, ◌-ℤ◌, ◌*ℤ◌, unsigned_abs, Result, Ok, Err}
 use Rattle.std.specs.Prelude.{if◌then◌else◌}
 use Rattle.iso8601.specs.Calendar.{day_of, Exists, IsCivilDay}
@@ -15,7 +16,7 @@ use Rattle.forms.specs.Answers.{Judged}
 
 -- ---- reading
 
--- the moment in UTC
+-- the moment in nanoseconds from 1970-01-01 in UTC: the date's day and the time of it, less the offset
 abbrev pub instant_of : DateTime → ℤ
 instant_of t =
     (day_of t.date *ℤ pos 86_400_000_000_000
@@ -29,7 +30,7 @@ pub record IsReal (t : DateTime) : Type 0 where
   pub clock : IsOnClock t.time
   pub offset : unsigned_abs (offset_of t.time) < 86_400
 
--- the moment, where there is one and its day is of the years -9999 to 9999
+-- the moment, `NoSuchMoment` where there is none, or `Range` where the date as it is written isn't of the years -9999 to 9999
 abbrev pub Worth : DateTime → Result Value Cause → Type 0
 Worth t = Judged (IsReal t) (IsCivilDay (day_of t.date)) (Instant (instant_of t))
 

@@ -19,8 +19,8 @@ use Rattle.forms.specs.Answers.{result_map}
 
 -- ---- reading
 
--- nanoseconds since midnight, where seconds and nanoseconds that aren't written are 0, unless it is a leap second, which POSIX counts
--- nowhere
+-- nanoseconds since midnight, where seconds and nanoseconds that aren't written are 0; second 60, in any minute, is `NoSuchMoment`, since
+-- POSIX counts no leap seconds
 unfoldable pub clock : Time → Result ℤ Cause
 clock t =
     if (unwrap_or t.second 0 == 60) then Err NoSuchMoment
@@ -75,7 +75,8 @@ HoldsDated day time offset held =
     (date : Result Date Cause) × HoldsDay day date
     × (held ≡ result_map (λ d. datetime_of (Some d) time offset) date)
 
--- a moment is written in UTC
+-- The date-time of a value: a moment in UTC with `Z`, a day, a local and a clock without an offset; other kinds are `Kind`. Nanoseconds of
+-- a day are never negative, so `unsigned_abs` makes them a natural number and changes none.
 abbrev pub Holds : Value → Result Datetime Cause → Type 0
 Holds (Instant nanos) =
     HoldsDated (int_div_euclid nanos (pos 86_400_000_000_000))
