@@ -317,9 +317,26 @@ class Columns(unittest.TestCase):
             if from_ in FORMS and to in FORMS:
                 asked.setdefault((from_, to), []).append((text, reply.decode()))
         for (from_, to), column in asked.items():
-            texts, wanted = [text for text, _ in column], [reply[8:] if reply.startswith("refused ") else reply for _, reply in column]
-            self.assertEqual(timeforms.convert_all(from_, to, texts, errors="cause"), wanted)
-            self.assertEqual(timeforms.convert_all(from_, to, [*texts, None], errors="cause"), [*wanted, None])
+            empty = timeforms.convert_all(from_, to, [""], errors="cause")
+            plain = [(text, reply) for text, reply in column if text.isascii() and "\n" not in text]
+            for some in (column, plain):
+                texts, wanted = [text for text, _ in some], [reply[8:] if reply.startswith("refused ") else reply for _, reply in some]
+                self.assertEqual(timeforms.convert_all(from_, to, texts, errors="cause"), wanted)
+                self.assertEqual(timeforms.convert_all(from_, to, [*texts, None], errors="cause"), [*wanted, None])
+                # with bytes the library is asked for a column, and else for lines where each text can be one
+                self.assertEqual(timeforms.convert_all(from_, to, [*texts, None, b""], errors="cause"), [*wanted, None, *empty])
+
+    def test_texts_like_lines(self):
+        for cell in ("P1D\nPgIso PgIso P3D", "\n", "P1D\n", "\nP1D", "P1D\r", "\x1c", "\0", "refused Syntax", ""):
+            for column in ([cell, "P2D"], ["P2D", cell], ["P2D", None, cell], [None, cell, cell]):
+                wanted = ["Syntax" if text == cell else text for text in column]
+                self.assertEqual(timeforms.convert_all("PgIso", "PgIso", column, "cause"), wanted)
+                with self.assertRaises(ConversionError) as refused:
+                    timeforms.convert_all(Form.PgIso, Form.PgIso, column)
+                self.assertEqual((refused.exception.cause, refused.exception.text), ("Syntax", cell))
+        # an empty text is zero in Postgres, and a missing cell beside it stays missing
+        self.assertEqual(timeforms.convert_all("Postgres", "PgIso", ["", None, "?"], "none"), ["PT0S", None, None])
+        self.assertRaises(TypeError, timeforms.convert_all, "PgIso", "PgIso", ["P1D", None, 3])
 
     def test_bad_cells(self):
         column = ["P1D", None, b"P2D", "P1D\nPgIso PgIso P3D", "\n", "P\ud800", b"\xff", "", "P" + "0" * 1_000_000 + "1D", "1 dya"]

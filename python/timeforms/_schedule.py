@@ -16,7 +16,11 @@ __all__ = ["ScheduleClash", "ScheduleFault", "Slot", "schedule"]
 
 Line = Union[str, bytes]
 
-_FORMS: dict[str, tuple[Optional[str], Optional[str]]] = {"line": (None, None), "start": ("Toml", "FileTime"), "length": ("Fancy", "FileTime")}
+_FORMS: dict[str, tuple[Optional[str], Optional[str]]] = {
+    "line": (None, None),
+    "start": ("Toml", "FileTime"),
+    "length": ("Fancy", "FileTime"),
+}
 _TOML, _FILE_TIME = NUMBERS["Toml"], NUMBERS["FileTime"]
 _Text, _TEXT_ROOM = _library.Text, ctypes.c_size_t(_library.TEXT_MAX)
 _SECOND, _TICK = 1_000_000_000, 100
