@@ -266,8 +266,7 @@ def _packed(cells: list[Any]) -> _Packed:
 
 def _offsets(given: list[Any]) -> array[int]:
     """Where cells side by side start and end."""
-    # an array of a list is made at once, and one of an iterator number by number
-    return array("I", list(accumulate(map(len, given), initial=0)))
+    return array("I", accumulate(map(len, given), initial=0))
 
 
 def _address(values: array[Any], place: int = 0) -> int:
@@ -343,7 +342,7 @@ class _Lines(NamedTuple):
 
 
 def _as_lines(cells: list[Any], names: str) -> _Lines | None:
-    """Cells as lines behind these names, where each is missing or a text of ASCII without a line feed."""
+    """Cells as lines behind these names, where each is missing or a `str` without a line feed or half a surrogate pair."""
     behind, missing = f"\n{names}", []
     try:
         text = behind.join(cells)
@@ -355,8 +354,11 @@ def _as_lines(cells: list[Any], names: str) -> _Lines | None:
         for place in missing:
             given[place] = ""
         text = behind.join(given)
-    lines = f"{names}{text}\n"
-    return _Lines(lines.encode(), missing) if lines.isascii() and lines.count("\n") == len(cells) else None
+    try:
+        lines = f"{names}{text}\n".encode()
+    except UnicodeEncodeError:
+        return None
+    return _Lines(lines, missing) if lines.count(b"\n") == len(cells) else None
 
 
 def _line_answers(asked: _Lines, cells: list[Any], forms: tuple[str, str], errors: str) -> list[Any]:
