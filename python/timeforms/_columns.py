@@ -343,7 +343,8 @@ class _Lines(NamedTuple):
 
 def _as_lines(cells: list[Any], names: str) -> _Lines | None:
     """Cells as lines behind these names, where each is missing or a `str` without a line feed or half a surrogate pair."""
-    behind, missing = f"\n{names}", []
+    behind = f"\n{names}"
+    missing: list[int] = []
     try:
         text = behind.join(cells)
     except TypeError:
@@ -368,7 +369,8 @@ def _line_answers(asked: _Lines, cells: list[Any], forms: tuple[str, str], error
     del answers[-1]
     for place in asked.missing:
         answers[place] = cells[place]
-    if "refused" in text:
+    # the letter of "refused" that no answer has, which is found sooner than the word
+    if "f" in text:
         for place in compress(range(len(answers)), map(_REFUSALS.__contains__, answers)):
             answers[place] = _refused(cells[place], _REFUSALS[answers[place]], forms, errors)
     return answers
