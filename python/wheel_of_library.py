@@ -16,7 +16,8 @@ import zipfile
 
 TOP = os.path.dirname(os.path.abspath(__file__))
 LIBRARY = "timeforms/libtimeforms.so"
-PACKAGE = ["__init__.py", "_columns.py", "_errors.py", "_forms.py", "_interval.py", "_library.py", "_moments.py", "_recurrence.py", "_texts.py", "py.typed"]
+MODULES = ["__init__", "_columns", "_errors", "_forms", "_interval", "_library", "_moments", "_recurrence", "_schedule", "_texts"]
+PACKAGE = [f"{module}.py" for module in MODULES] + ["py.typed"]
 FILES = [f"timeforms/{name}" for name in PACKAGE] + [LIBRARY]
 
 

@@ -64,7 +64,7 @@ class Page(unittest.TestCase):
                         self.skipTest("there is no server")
 
     def test_count(self):
-        self.assertEqual(len(blocks()), 12)
+        self.assertEqual(len(blocks()), 13)
 
 
 if __name__ == "__main__":

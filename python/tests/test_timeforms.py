@@ -4,6 +4,7 @@ import copy
 import datetime
 import doctest
 import importlib.util
+import io
 import itertools
 import os
 import pickle
@@ -316,9 +317,25 @@ class Columns(unittest.TestCase):
             if from_ in FORMS and to in FORMS:
                 asked.setdefault((from_, to), []).append((text, reply.decode()))
         for (from_, to), column in asked.items():
+            empty = timeforms.convert_all(from_, to, [""], errors="cause")
             texts, wanted = [text for text, _ in column], [reply[8:] if reply.startswith("refused ") else reply for _, reply in column]
             self.assertEqual(timeforms.convert_all(from_, to, texts, errors="cause"), wanted)
             self.assertEqual(timeforms.convert_all(from_, to, [*texts, None], errors="cause"), [*wanted, None])
+            # with bytes the library is asked for a column, and before for lines
+            self.assertEqual(timeforms.convert_all(from_, to, [*texts, None, b""], errors="cause"), [*wanted, None, *empty])
+
+    def test_texts_like_lines(self):
+        texts = ("P1D\nPgIso PgIso P3D", "\n", "P1D\n", "\nP1D", "P1D\r", "\x1c", "\x85", "\u2028", "\0", "P1D\u00e9", "refused Syntax", "")
+        for cell, cause in [*((text, "Syntax") for text in texts), ("P\ud800", "NotUtf8"), ("\udfff\n", "NotUtf8")]:
+            for column in ([cell, "P2D"], ["P2D", cell], ["P2D", None, cell], [None, cell, cell]):
+                wanted = [cause if text == cell else text for text in column]
+                self.assertEqual(timeforms.convert_all("PgIso", "PgIso", column, "cause"), wanted)
+                with self.assertRaises(ConversionError) as refused:
+                    timeforms.convert_all(Form.PgIso, Form.PgIso, column)
+                self.assertEqual((refused.exception.cause, refused.exception.text), (cause, cell))
+        # an empty text is zero in Postgres, and a missing cell beside it stays missing
+        self.assertEqual(timeforms.convert_all("Postgres", "PgIso", ["", None, "?"], "none"), ["PT0S", None, None])
+        self.assertRaises(TypeError, timeforms.convert_all, "PgIso", "PgIso", ["P1D", None, 3])
 
     def test_bad_cells(self):
         column = ["P1D", None, b"P2D", "P1D\nPgIso PgIso P3D", "\n", "P\ud800", b"\xff", "", "P" + "0" * 1_000_000 + "1D", "1 dya"]
@@ -483,6 +500,128 @@ class Recurrences(unittest.TestCase):
         for digits in ("4294967296", "9" * 1_000_000):
             self.assertRaises(OverflowError, timeforms.recur, f"R{digits}/2024-01-31T00:00:00Z/P1M")
         self.assertEqual(next(timeforms.recur("R4294967295/2024-01-31T00:00:00Z/P1M")).day, 31)
+
+
+def whole_inputs():
+    """The input, the words, the output and the status of each row of the table of the command `schedule`."""
+    with open(os.path.join(TABLES, "schedule.tsv"), "rb") as file:
+        for row in file.read().split(b"\n"):
+            fields = row.split(b"\t")
+            if len(fields) == 5 and not row.startswith(b"#"):
+                given = re.sub(rb"\{(.*?)\*(\d+)\}", lambda many: many[1] * int(many[2]), fields[0])
+                given, out = (spelled(field.replace(rb"\t", b"\t").replace(rb"\n", b"\n")) for field in (given, fields[2]))
+                yield given, fields[1].decode(), out.decode(), int(fields[3])
+
+
+def reported(lines):
+    """The output and the status of the command `schedule`, by the call."""
+    try:
+        return "".join(f"{slot.start} {slot.end} {slot.line}\n" for slot in timeforms.schedule(lines)), 0
+    except timeforms.ScheduleClash as clash:
+        return f"clash {clash.first.line} {clash.second.line}\n", 7
+    except timeforms.ScheduleFault as fault:
+        part = "" if fault.part == "line" else f"{fault.part} "
+        return f"line {fault.line} {part}{fault.cause}\n", 8
+
+
+class Schedules(unittest.TestCase):
+    HOUR = 36_000_000_000
+
+    def test_rows(self):
+        tried, programs = 0, []
+        for given, words, out, status in whole_inputs():
+            if words != "schedule" or status == 5:
+                programs.append((words, status))
+                continue
+            tried += 1
+            # an open file of bytes has the lines of the command
+            self.assertEqual(reported(io.BytesIO(given)), (out, status), given[:200])
+            lines = given.split(b"\n")
+            lines = lines[:-1] if lines[-1] == b"" else lines
+            self.assertEqual(reported(lines), (out, status), given[:200])
+            texts = [line.decode("utf-8", "surrogateescape") for line in lines]
+            self.assertEqual(reported(iter(texts)), (out, status), given[:200])
+        # further words, and an input beyond the program's limit, are the program's alone
+        self.assertEqual(programs, [("schedule", 5), ("schedule x", 2), ("schedule ", 2), ("Schedule", 2), ("SCHEDULE", 2)])
+        self.assertEqual(tried, 143)
+
+    def test_faults(self):
+        good = "1970-01-01T00:00:00Z\t1h"
+        for line, part, cause, text in [
+            ("", "line", "Line", ""),
+            (b"\xff\t1h\n", "line", "Line", b"\xff\t1h\n"),
+            ("\ud800\t1h", "line", "Line", "\ud800\t1h"),
+            ("1970-01-01T00:00:00Z\t1h\n\n", "line", "Line", "1970-01-01T00:00:00Z\t1h\n\n"),
+            ("\n" + good, "line", "Line", "\n" + good),
+            (b"1970-01-01\t1h", "start", "Kind", "1970-01-01"),
+            ("\0\t1h\0", "start", "Syntax", "\0"),
+            ("1970-01-01T00:00:00Z\t0\r\n", "length", "Syntax", "0\r"),
+            ("1970-01-01T00:00:00Z\t1h\0", "length", "Syntax", "1h\0"),
+            ("1970-01-01T00:00:00Z\t0s\n", "length", "Empty", "0s"),
+            ("1970-01-01T00:00:00Z\t1ns", "length", "Precision", "1ns"),
+        ]:
+            with self.assertRaises(timeforms.ScheduleFault) as refused:
+                # the first line that has a fault, though two slots clash and a later one has a fault too
+                timeforms.schedule([good, good, line, "x"])
+            fault = refused.exception
+            self.assertEqual((fault.line, fault.part, fault.cause, fault.text), (3, part, cause, text))
+            self.assertIsInstance(fault, ConversionError)
+            again = pickle.loads(pickle.dumps(fault))
+            self.assertEqual((type(again), again.line, again.part, again.text, str(again)), (type(fault), 3, part, text, str(fault)))
+        self.assertEqual(str(fault), "line 3: '1ns' is finer than FileTime: Precision")
+
+    def test_what_is_no_line(self):
+        self.assertEqual((timeforms.schedule([]), timeforms.schedule(iter(()))), ([], []))
+        for lines in ("1970-01-01T00:00:00Z\t1h", b"", bytearray(b"\t"), memoryview(b"\t"), None, 3, [None], [3], [bytearray(b"\t")], [["\t"]]):
+            self.assertRaises(TypeError, timeforms.schedule, lines)
+
+    def test_slots(self):
+        utc = datetime.timezone.utc
+        late, early = "1970-01-01T01:00:00Z\t1h", b"1970-01-01T00:00:00.0000015Z\t1us\r\n"
+        slots = timeforms.schedule([late, early])
+        self.assertEqual(slots, [(116_444_736_000_000_015, 116_444_736_000_000_025, 2), (116_444_772_000_000_000, 116_444_808_000_000_000, 1)])
+        self.assertEqual([slots[1].starts_at, slots[1].ends_at], [datetime.datetime(1970, 1, 1, hour, tzinfo=utc) for hour in (1, 2)])
+        self.assertRaises(AttributeError, setattr, slots[0], "start", 0)
+        last = timeforms.schedule(["9999-12-31T23:00:00Z\t1h"])[0]
+        for slot, part, cause in [(slots[0], "starts_at", "Precision"), (slots[0], "ends_at", "Precision"), (last, "ends_at", "Range")]:
+            with self.assertRaises(ConversionError) as refused:
+                getattr(slot, part)
+            self.assertEqual(refused.exception.cause, cause)
+        with self.assertRaises(timeforms.ScheduleClash) as refused:
+            timeforms.schedule([late, early, late])
+        clash = pickle.loads(pickle.dumps(refused.exception))
+        self.assertEqual((clash.first, clash.second), (slots[1], slots[1]._replace(line=3)))
+        self.assertEqual((clash.cause, str(clash)), ("Clash", "lines 1 and 3 clash"))
+        self.assertIsInstance(clash, ConversionError)
+
+    def test_definition(self):
+        # by all pairs: the least second place of a clash, and a first place that clashes with it
+        chance, clashes = random.Random(37), 0
+        for _ in range(3000):
+            slots = [(chance.randrange(60), chance.randint(1, chance.choice((2, 20)))) for _ in range(chance.randrange(9))]
+            order = sorted((start, line, start + length) for line, (start, length) in enumerate(slots, 1))
+            pairs = [(j, i) for j in range(len(order)) for i in range(j) if order[i][0] < order[j][2] and order[j][0] < order[i][2]]
+            out, status = reported(f"1601-01-01T00:00:{start:02}Z\t{length}s" for start, length in slots)
+            if pairs:
+                clashes += 1
+                least = min(pairs)[0]
+                self.assertIn((out, status), [(f"clash {order[i][1]} {order[j][1]}\n", 7) for j, i in pairs if j == least])
+            else:
+                wanted = "".join(f"{start * 10_000_000} {end * 10_000_000} {line}\n" for start, line, end in order)
+                self.assertEqual((out, status), (wanted, 0))
+        self.assertTrue(500 < clashes < 2500)
+
+    def test_many_lines(self):
+        count = 100_000
+        first = datetime.datetime(2000, 1, 1)
+        lines = [f"{(first + datetime.timedelta(hours=hour)).isoformat()}Z\t60m\n" for hour in range(count)]
+        random.Random(37).shuffle(lines)
+        slots = timeforms.schedule(lines)
+        self.assertEqual([slot.start for slot in slots], [125_911_584_000_000_000 + hour * self.HOUR for hour in range(count)])
+        self.assertEqual(sorted(slot.line for slot in slots), list(range(1, count + 1)))
+        with self.assertRaises(timeforms.ScheduleClash) as refused:
+            timeforms.schedule([*lines, lines[7]])
+        self.assertEqual((refused.exception.first.line, refused.exception.second.line), (8, count + 1))
 
 
 class Moments(unittest.TestCase):

@@ -28,6 +28,7 @@ from ._moments import (
     parse_datetime,
 )
 from ._recurrence import recur
+from ._schedule import ScheduleClash, ScheduleFault, Slot, schedule
 from ._texts import convert, replies
 
 __all__ = [
@@ -36,6 +37,9 @@ __all__ = [
     "Form",
     "Interval",
     "IntervalColumn",
+    "ScheduleClash",
+    "ScheduleFault",
+    "Slot",
     "TextColumn",
     "convert",
     "convert_all",
@@ -50,6 +54,7 @@ __all__ = [
     "parse_datetime",
     "recur",
     "replies",
+    "schedule",
     "to_timedelta64",
     "total",
     "version",
@@ -69,5 +74,5 @@ def version() -> str:
 
 __version__ = version()
 
-for _public in (ConversionError, Form, Interval, IntervalColumn, TextColumn):
+for _public in (ConversionError, Form, Interval, IntervalColumn, ScheduleClash, ScheduleFault, Slot, TextColumn):
     _public.__module__ = __name__

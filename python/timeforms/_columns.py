@@ -4,13 +4,14 @@ from __future__ import annotations
 import ctypes
 import sys
 from array import array
-from itertools import accumulate, islice
+from itertools import accumulate, compress, islice
 from typing import Any, Iterable, NamedTuple
 
 from . import _library
 from ._errors import ConversionError
-from ._forms import NUMBERS, no_such_form
+from ._forms import FORMS, NUMBERS, no_such_form
 from ._interval import Interval
+from ._texts import whole_lines
 
 __all__ = ["IntervalColumn", "TextColumn", "convert_all", "convert_column", "intervals", "to_timedelta64"]
 
@@ -19,6 +20,8 @@ _CELLS = 16_384
 _ROOM = 1 << 19
 _DAY = 86_400_000_000
 _VALID = object()
+# the replies that are no answers, which no form's text is
+_REFUSALS = {f"refused {cause}": cause for cause in _library.CAUSES.values()}
 
 
 class TextColumn(NamedTuple):
@@ -243,7 +246,7 @@ def _packed(cells: list[Any]) -> _Packed:
     try:
         text = "".join(cells)
         if text.isascii():
-            return _Packed(text.encode(), array("I", accumulate(map(len, cells), initial=0)), [], None)
+            return _Packed(text.encode(), _offsets(cells), [], None)
     except TypeError:
         pass
     given, missing = [], []
@@ -257,8 +260,13 @@ def _packed(cells: list[Any]) -> _Packed:
             given.append(b"")
             missing.append(place)
         else:
-            return _Packed(b"".join(given), array("I", accumulate(map(len, given), initial=0)), missing, cell)
-    return _Packed(b"".join(given), array("I", accumulate(map(len, given), initial=0)), missing, None)
+            return _Packed(b"".join(given), _offsets(given), missing, cell)
+    return _Packed(b"".join(given), _offsets(given), missing, None)
+
+
+def _offsets(given: list[Any]) -> array[int]:
+    """Where cells side by side start and end."""
+    return array("I", accumulate(map(len, given), initial=0))
 
 
 def _address(values: array[Any], place: int = 0) -> int:
@@ -315,11 +323,56 @@ def _offsets_of(offsets: Any) -> array[int]:
 
 def _answers(number: int, other: int, cells: list[Any], forms: tuple[str, str], errors: str) -> list[Any]:
     """The answers to some cells, in order."""
+    lines = _as_lines(cells, f"{FORMS[number]} {FORMS[other]} ")
+    if lines is not None:
+        return _line_answers(lines, cells, forms, errors)
     packed = _packed(cells)
     column = _converted(number, other, packed.data, packed.offsets)
     text, start = column.data.decode(), 0
     answers: list[Any] = [text[start : (start := end)] for end in islice(column.offsets.tolist(), 1, None)]
     _put_back(answers, cells, packed, column.codes, forms, errors)
+    return answers
+
+
+class _Lines(NamedTuple):
+    """Cells as lines, and the places of those that are missing, whose lines have no text."""
+
+    lines: bytes
+    missing: list[int]
+
+
+def _as_lines(cells: list[Any], names: str) -> _Lines | None:
+    """Cells as lines behind these names, where each is missing or a `str` without a line feed or half a surrogate pair."""
+    behind = f"\n{names}"
+    missing: list[int] = []
+    try:
+        text = behind.join(cells)
+    except TypeError:
+        missing = [place for place, cell in enumerate(cells) if not isinstance(cell, str)]
+        if not all(_is_missing(cells[place]) for place in missing):
+            return None
+        given = cells[:]
+        for place in missing:
+            given[place] = ""
+        text = behind.join(given)
+    try:
+        lines = f"{names}{text}\n".encode()
+    except UnicodeEncodeError:
+        return None
+    return _Lines(lines, missing) if lines.count(b"\n") == len(cells) else None
+
+
+def _line_answers(asked: _Lines, cells: list[Any], forms: tuple[str, str], errors: str) -> list[Any]:
+    """The answers to cells that stand in lines: to split replies takes less than to cut each answer out of a column."""
+    text = b"".join(whole_lines(asked.lines)[0]).decode()
+    answers: list[Any] = text.split("\n")
+    del answers[-1]
+    for place in asked.missing:
+        answers[place] = cells[place]
+    # the letter of "refused" that no answer has, which is found sooner than the word
+    if "f" in text:
+        for place in compress(range(len(answers)), map(_REFUSALS.__contains__, answers)):
+            answers[place] = _refused(cells[place], _REFUSALS[answers[place]], forms, errors)
     return answers
 
 

@@ -30,6 +30,8 @@ class ConversionError(ValueError):
     - `Precision`: the value is no whole number of the second form's least unit
     - `Ambiguous`: the second form's text would be read as another value
 
+    Those of `schedule` are subclasses, which have further causes.
+
     `from_`, `to` and `text` are what was asked, and None where the call has no such argument. In the message a long text is cut.
 
     >>> print(ConversionError("Syntax", "Postgres", "PgIso", "1 dya"))
@@ -65,4 +67,6 @@ _SAID: dict[str, Callable[[ConversionError], str]] = {
     "Kind": lambda error: f"{_shown(error.text)} is of a kind that {error.to} doesn't have",
     "Precision": lambda error: f"{_shown(error.text)} is finer than {error.to}",
     "Ambiguous": lambda error: f"{_shown(error.text)} in {error.to} would be read as another value",
+    "Line": lambda error: f"{_shown(error.text)} is no start, tab and length in UTF-8",
+    "Empty": lambda error: f"{_shown(error.text)} lasts no time",
 }
