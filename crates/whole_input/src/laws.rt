@@ -1,9 +1,10 @@
 //! Laws of what is taken and written, each the contract of a function with an empty body.
-ghost use Rattle.std.specs.Prelude.{◌≡◌, ◌↔◌, IsTrue};
+ghost use Rattle.std.specs.Prelude.{◌≡◌, ◌↔◌, ◌==◌, ◌&&◌, true, false, ℕ, IsTrue};
 ghost use Rattle.whole_input.specs.declared.command.Response.{Response as AnyResponse};
 ghost use Rattle.whole_input.specs.declared.reading.Taken.{Taken as AnyTaken};
 
 use crate::command::Response;
+use crate::lines::LineError;
 use crate::reading::Taken;
 
 /// Ends of taking an input are equal where they are one, and responses where their statuses are too.
@@ -11,4 +12,15 @@ pub fn equality_is_that_of_the_fields()
     ensures taken { (a b : AnyTaken) → IsTrue (⟦<Taken as PartialEq>⟧.eq a b) ↔ (a ≡ b) }
     ensures responses { (a b : AnyResponse)
         → IsTrue (⟦<Response as PartialEq>⟧.eq a b) ↔ (a ≡ b) }
+{}
+
+/// Why lines have no values is equal where the line and the fault are, or where both times there was no memory.
+pub fn line_errors_are_equal_by_line_and_fault<F: PartialEq>()
+    ensures refused { (line other : ℕ) (fault another : F)
+        → ⟦<LineError<F> as PartialEq>⟧.eq (LineError.Refused line fault)
+        (LineError.Refused other another) ≡ (line == other && F.eq fault another) }
+    ensures no_memory { ⟦<LineError<F> as PartialEq>⟧.eq LineError.NoMemory LineError.NoMemory ≡ true }
+    ensures apart { (line : ℕ) (fault : F)
+        → ⟦<LineError<F> as PartialEq>⟧.eq (LineError.Refused line fault) LineError.NoMemory
+        ≡ false }
 {}
