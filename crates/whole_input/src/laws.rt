@@ -1,6 +1,7 @@
 //! Laws of what is taken and written, each the contract of a function with an empty body.
 ghost use Rattle.std.specs.Prelude.{◌≡◌, ◌↔◌, ◌==◌, ◌&&◌, true, false, ℕ, IsTrue};
 ghost use Rattle.whole_input.specs.declared.command.Response.{Response as AnyResponse};
+ghost use Rattle.whole_input.specs.declared.lines.LineError.TheVariants.{NoMemory, Refused};
 ghost use Rattle.whole_input.specs.declared.reading.Taken.{Taken as AnyTaken};
 
 use crate::command::Response;
@@ -17,10 +18,10 @@ pub fn equality_is_that_of_the_fields()
 /// Why lines have no values is equal where the line and the fault are, or where both times there was no memory.
 pub fn line_errors_are_equal_by_line_and_fault<F: PartialEq>()
     ensures refused { (line other : ℕ) (fault another : F)
-        → ⟦<LineError<F> as PartialEq>⟧.eq (LineError.Refused line fault)
-        (LineError.Refused other another) ≡ (line == other && F.eq fault another) }
-    ensures no_memory { ⟦<LineError<F> as PartialEq>⟧.eq LineError.NoMemory LineError.NoMemory ≡ true }
+        → ⟦<LineError<F> as PartialEq>⟧.eq (Refused line fault) (Refused other another)
+        ≡ (line == other && F.eq fault another) }
+    ensures no_memory { ⟦<LineError<F> as PartialEq>⟧.eq NoMemory NoMemory ≡ true }
     ensures apart { (line : ℕ) (fault : F)
-        → ⟦<LineError<F> as PartialEq>⟧.eq (LineError.Refused line fault) LineError.NoMemory
-        ≡ false }
+        → (⟦<LineError<F> as PartialEq>⟧.eq (Refused line fault) NoMemory ≡ false)
+        × (⟦<LineError<F> as PartialEq>⟧.eq NoMemory (Refused line fault) ≡ false) }
 {}

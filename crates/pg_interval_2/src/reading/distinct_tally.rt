@@ -237,7 +237,8 @@ impl DistinctTally {
         requires room { self.old.tally.totals.adds < 2 ^ 63 }
         ensures room { LeavesRoom (self.old.tally.totals.adds + length (ahead scan.old))
             (self.new.tally.totals.adds + length (ahead scan.new)) result }
-        ensures step { (counts : List Count) → IsDistinctTally self.old (turned_counts turned counts)
+        ensures step { (counts : List Count)
+            → IsDistinctTally self.old (turned_counts turned counts)
             → IsItemStep (names_in names) turned scan.new.text
             (read_named negative (digits_of scan.old.text whole) (ahead scan.old))
             (ahead scan.new) counts self.new result }
@@ -268,7 +269,8 @@ impl DistinctTally {
         requires room { self.old.tally.totals.adds < 2 ^ 63 }
         ensures room { LeavesRoom (self.old.tally.totals.adds + length (ahead scan.old))
             (self.new.tally.totals.adds + length (ahead scan.new)) result }
-        ensures step { (counts : List Count) → IsDistinctTally self.old (turned_counts turned counts)
+        ensures step { (counts : List Count)
+            → IsDistinctTally self.old (turned_counts turned counts)
             → IsItemStep (names_in names) turned scan.new.text
             (read_named negative (digits_of scan.old.text whole) (ahead scan.old))
             (ahead scan.new) counts self.new result }
@@ -307,7 +309,8 @@ impl DistinctTally {
         requires room { self.old.tally.totals.adds < 2 ^ 63 }
         ensures room { LeavesRoom (self.old.tally.totals.adds + length (ahead scan.old))
             (self.new.tally.totals.adds + length (ahead scan.new)) result }
-        ensures step { (counts : List Count) → IsDistinctTally self.old (turned_counts turned counts)
+        ensures step { (counts : List Count)
+            → IsDistinctTally self.old (turned_counts turned counts)
             → IsItemStep (names_in names) turned scan.new.text
             (read_named negative (digits_of scan.old.text whole) (ahead scan.old))
             (ahead scan.new) counts self.new result }
@@ -392,7 +395,8 @@ impl DistinctTally {
         requires room { self.old.tally.totals.adds + length (ahead scan.old) < 2 ^ 63 }
         ensures room { LeavesRoom (self.old.tally.totals.adds + length (ahead scan.old))
             (self.new.tally.totals.adds + length (ahead scan.new)) result }
-        ensures step { (counts : List Count) → IsDistinctTally self.old (turned_counts turned counts)
+        ensures step { (counts : List Count)
+            → IsDistinctTally self.old (turned_counts turned counts)
             → IsStep (names_in names) turned scan.new.text (ahead scan.old) (ahead scan.new)
             counts self.new result }
         ensures same { scan.new.text ≡ scan.old.text }
