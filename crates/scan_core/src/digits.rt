@@ -12,8 +12,9 @@ pub fn digits_u32(digits: &[u8]) -> Option<u32>
     u32::try_from(digits_u64(digits)?).ok()
 }
 
-/// The number that the digits write, which is 0 for none, or None exactly where it is above `u64::MAX`.
-pub(crate) fn digits_u64(digits: &[u8]) -> Option<u64>
+/// The number that the digits write, which is 0 for none, or None exactly where it is above `u64::MAX`:
+/// `digits_u64(b"007")` is 7.
+pub fn digits_u64(digits: &[u8]) -> Option<u64>
     requires { AreDigits digits.now }
     ensures fits { IsSome result ↔ (number_of digits.now < 2 ^ 64) }
     ensures value { IfSome result (λ value. value ≡ number_of digits.now) }

@@ -21,7 +21,7 @@ mod text;
 mod totals;
 
 pub use blank::is_blank;
-pub use digits::{digits_u32, n_digits_in};
+pub use digits::{digits_u32, digits_u64, n_digits_in};
 pub use front::split_digits;
 pub use looked::Looked;
 pub use looked_digits::looked_share;
