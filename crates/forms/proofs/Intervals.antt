@@ -1,7 +1,7 @@
 -- The interval forms: what counts are worth, what interval is held of a value, and that it is read back. What is said is said of any style.
 use Rattle.std.proofs.Common.{◌≡◌, ℕ, ◌/◌, ◌%◌, ◌==◌, ◌&&◌, true, false, IsTrue, List, Some, None, Ok, Err, FitsSigned, w32, w64, refl, sym}
 use Rattle.std.proofs.Common.{◌∙◌, ap, subst, inl, inr, arith}
-use Rattle.std.specs.Prelude.{ℤ, pos}
+use Rattle.std.specs.Prelude.{ℤ, pos, Result}
 use Rattle.std.proofs.lemmas.Bool.{and_parts, and_left, and_right, false_from_ne_true}
 use Rattle.std.proofs.lemmas.Bool.Decides.{nat_tests}
 use Rattle.std.proofs.lemmas.Int.{ints}
@@ -25,9 +25,9 @@ use Rattle.forms.specs.declared.value.Value.{Value}
 use Rattle.forms.specs.declared.value.Value.TheVariants.{Triple, Length}
 use Rattle.forms.specs.Answers.{Is, ReadsBy}
 use Rattle.forms.specs.Values.{IsWithinBounds, Same, IsLength}
-use Rattle.forms.specs.form.Intervals.{worth, interval_of, interval_of_length, held}
+use Rattle.forms.specs.form.Intervals.{FindsInterval, worth, interval_of, interval_of_length, held}
 use Rattle.forms.specs.inside.Lawful.{Lawful}
-use Rattle.forms.specs.inside.Readers.{IsNoInterval, IsRefusedBy}
+use Rattle.forms.specs.inside.Readers.{IsRefusedBy}
 use Rattle.scan_core.proofs.FitFacts.{within_32, within_64, fits_32, fits_64}
 use Rattle.forms.proofs.Fitting.{widen}
 use Rattle.forms.proofs.Lawful.{then_ok, same_ok, one_image, IsHeldBack, HasRows, lawful_by}
@@ -79,10 +79,43 @@ pub reads_no_shape : (s : Style) (text : List ℕ) → HasNoShape (Shape s) text
     → ReadsBy (Shape s) (Is worth) text (Err Syntax)
 reads_no_shape s text h = inr (h, refl)
 
-pub reads_refused : (s : Style) (text : List ℕ) (cause : Cause) → IsNoInterval s text cause → ReadsBy (Shape s) (Is worth) text (Err cause)
+pub reads_refused : (s : Style) (text : List ℕ) (cause : Cause) → FindsInterval s text (Err cause)
+    → ReadsBy (Shape s) (Is worth) text (Err cause)
 reads_refused s text Syntax h = reads_no_shape s text h
-reads_refused s text Range h = inl (h.0, h.1, sym (worth_misfits h.0 h.2))
+reads_refused s text Range h = inl (h.1.0, h.1.1, sym (worth_misfits h.1.0 (not_fitting h.1.0 h.0 h.1.2)))
 reads_refused s text _ h = absurd h
+
+-- ---- one answer
+
+-- a text spells one list of counts in each style
+abbrev pub OneList : Type 0
+OneList = (s : Style) (text : List ℕ) (a b : List Count) → Shape s text a → Shape s text b → a ≡ b
+
+-- counts that fit have no part that doesn't
+fit_or_not : (counts : List Count) (part : Part) → IsTrue (fits counts) → misfit counts ≡ Some part → ⊥
+fit_or_not counts part all some = absurd (let none : None ≡ Some part = sym ((misfit-none counts).1 all) ∙ some in cc)
+
+one_and_none : OneList → (s : Style) (text : List ℕ) (t : Interval) (part : Part) → Denotes (Shape s) text t → Misfits (Shape s) text part
+    → ⊥
+one_and_none one s text t part (counts, spelled, fit, is) (counts₂, spelled₂, misfits) =
+    fit_or_not counts part fit (ap misfit (one s text counts counts₂ spelled spelled₂) ∙ misfits)
+
+pub one_found : OneList → (s : Style) (text : List ℕ) (a b : Result Interval Cause) → FindsInterval s text a → FindsInterval s text b
+    → a ≡ b
+one_found one s text (Ok t) (Ok u) (counts, spelled, fit, is) (counts₂, spelled₂, fit₂, is₂) =
+    ap Ok (is ∙ (ap sum_of (one s text counts counts₂ spelled spelled₂) ∙ sym is₂))
+one_found one s text (Ok t) (Err Syntax) h k = absurd (k h.0 h.1)
+one_found one s text (Ok t) (Err Range) h k = absurd (one_and_none one s text t k.0 h k.1)
+one_found one s text (Ok t) (Err _) h k = absurd k
+one_found one s text (Err Syntax) (Ok u) h k = absurd (h k.0 k.1)
+one_found one s text (Err Syntax) (Err Syntax) h k = refl
+one_found one s text (Err Syntax) (Err Range) h k = absurd (h k.1.0 k.1.1)
+one_found one s text (Err Syntax) (Err _) h k = absurd k
+one_found one s text (Err Range) (Ok u) h k = absurd (one_and_none one s text u h.0 k h.1)
+one_found one s text (Err Range) (Err Syntax) h k = absurd (k h.1.0 h.1.1)
+one_found one s text (Err Range) (Err Range) h k = refl
+one_found one s text (Err Range) (Err _) h k = absurd k
+one_found one s text (Err _) b h k = absurd h
 
 -- ---- what a reader's error says
 

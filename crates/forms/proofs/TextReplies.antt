@@ -15,8 +15,9 @@ use Rattle.forms.specs.declared.form.Form.{Form}
 use Rattle.forms.specs.Names.{cause_name, style_of}
 use Rattle.forms.specs.Replies.{IsAnswer, IsIntervalAnswer}
 use Rattle.forms.specs.TextReplies.{IsTextReply}
-use Rattle.forms.specs.inside.Readers.{IsNoInterval}
+use Rattle.forms.specs.form.Intervals.{FindsInterval}
 use Rattle.forms.proofs.AsciiNames.{ascii}
+use Rattle.forms.proofs.Intervals.{not_fitting}
 use Rattle.forms.proofs.SampleReplies.{all_small}
 
 -- what the law of the crate below says of texts with a shape
@@ -27,9 +28,10 @@ spelled_utf8 : AreOfAlphabet → (s : Style) (text : List ℕ) (counts : List Co
 spelled_utf8 alphabet s text counts h = IsUtf8-from_ascii text (ascii text (all_small text (alphabet s text counts h)))
 
 -- a text that is refused for another cause than its shape
-pub refused_utf8 : AreOfAlphabet → (s : Style) (text : List ℕ) (cause : Cause) → IsNoInterval s text cause → cause ≢ Syntax → IsUtf8 text
+pub refused_utf8 : AreOfAlphabet → (s : Style) (text : List ℕ) (cause : Cause) → FindsInterval s text (Err cause) → cause ≢ Syntax
+    → IsUtf8 text
 refused_utf8 alphabet s text Syntax h other = absurd (other refl)
-refused_utf8 alphabet s text Range h other = spelled_utf8 alphabet s text h.0 h.1
+refused_utf8 alphabet s text Range h other = spelled_utf8 alphabet s text h.1.0 h.1.1
 refused_utf8 alphabet s text _ h other = absurd h
 
 answers : (s u : Style) (f t : Form) (text : List ℕ) (answer : Result (List ℕ) Cause)
@@ -37,9 +39,9 @@ answers : (s u : Style) (f t : Form) (text : List ℕ) (answer : Result (List �
 unfolding IsAnswer
 answers s u f t text answer from to h = inl (s, u, from, to, h)
 
-no_answer : (s u : Style) (text : List ℕ) (cause : Cause) → IsNoInterval s text cause → IsIntervalAnswer s u text (Err cause)
+no_answer : (s u : Style) (text : List ℕ) (cause : Cause) → FindsInterval s text (Err cause) → IsIntervalAnswer s u text (Err cause)
 no_answer s u text Syntax h = h
-no_answer s u text Range h = h
+no_answer s u text Range h = (h.1.0, h.1.1, not_fitting h.1.0 h.0 h.1.2)
 no_answer s u text _ h = absurd h
 
 -- the text of the interval that a text denotes is its reply
@@ -59,7 +61,8 @@ interval_reply alphabet s u text i h f t from to =
 abbrev pub IsWord : List ℕ → Cause → List ℕ → Type 0
 IsWord text cause word = ((IsUtf8 text → ⊥) × (word ≡ codes "Line")) ⊎ (IsUtf8 text × (word ≡ cause_name cause))
 
-pub no_interval_reply : (s u : Style) (text : List ℕ) (cause : Cause) (word : List ℕ) → IsNoInterval s text cause → IsWord text cause word
+pub no_interval_reply : (s u : Style) (text : List ℕ) (cause : Cause) (word : List ℕ) → FindsInterval s text (Err cause)
+    → IsWord text cause word
     → (f t : Form) → style_of f ≡ Some s → style_of t ≡ Some u
     → IsTextReply f t text (codes "refused " ++ word) true
 no_interval_reply s u text cause word h (inl bad) f t from to = inl (bad.0, ap (λ (l : List ℕ). codes "refused " ++ l) bad.1, refl)

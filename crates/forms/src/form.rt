@@ -161,9 +161,9 @@ impl Form {
         }
     }
 
-    /// The style of an interval form, or None exactly of the other forms.
+    /// The style of an interval form, or None exactly of the other forms: `Form::PgIso.style()` is `Some(Style::Iso)`.
     #[inline(always)]
-    pub(crate) fn style(self) -> Option<Style>
+    pub fn style(self) -> Option<Style>
         ensures { result ≡ style_of self }
     {
         match self {

@@ -22,6 +22,7 @@ ghost use Rattle.forms.specs.Replies.{IsAnswer, IsIntervalAnswer, IsReply, IsReq
 ghost use Rattle.forms.specs.Sample.{answers, refusals, sample_lines};
 ghost use Rattle.forms.specs.Values.{IsWithinBounds};
 ghost use Rattle.forms.specs.Waiting.{Moves};
+ghost use Rattle.forms.specs.form.Intervals.{FindsInterval};
 ghost use Rattle.forms.specs.inside.Lawful.{Lawful};
 
 use crate::answer::{ConvertError, line_reply};
@@ -50,6 +51,15 @@ pub fn texts_have_one_reading()
         → Reads form text a → Reads form text b → a ≡ b }
 {
     all_lawful();
+}
+
+/// A text denotes one interval at most in each style, and where it denotes none there is one cause: what [`crate::read_interval`]
+/// answers.
+pub fn texts_have_one_interval_or_cause()
+    ensures { (style : AnyStyle) (text : List ℕ) (a b : AnyResult AnyInterval AnyCause)
+        → FindsInterval style text a → FindsInterval style text b → a ≡ b }
+{
+    pg_interval_2::laws::text_has_one_list_of_counts();
 }
 
 /// A value has one written text at most in each form, and where it has none there is one cause.

@@ -35,6 +35,7 @@ pub use cause::Cause;
 pub use decimal::number_in_decimal;
 pub use form::Form;
 pub use form::file_time::file_time_of;
+pub use form::intervals::read_interval;
 pub use memory_sink::MemSink;
 pub use memory_source::MemSource;
 pub use program::{run, top};

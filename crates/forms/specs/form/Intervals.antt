@@ -3,12 +3,23 @@ use Rattle.std.specs.Prelude.{ℕ, ◌/◌, ◌%◌, ◌==◌, ◌&&◌, List, �
 use Rattle.scan_core.specs.Count.{Count}
 use Rattle.scan_core.specs.Shares.{fits_type}
 use Rattle.scan_core.specs.Sums.{total, fits}
+use Rattle.scan_core.specs.declared.share.Part.{Part}
 use Rattle.scan_core.specs.declared.share.Part.TheVariants.{Months, Days, Micros}
+use Rattle.pg_interval_2.specs.Denotes.{Denotes, HasNoShape, Misfits}
+use Rattle.pg_interval_2.specs.Styles.{Shape}
 use Rattle.pg_interval_2.specs.declared.interval.Interval.{Interval}
+use Rattle.pg_interval_2.specs.declared.style.Style.{Style}
 use Rattle.forms.specs.declared.cause.Cause.{Cause}
-use Rattle.forms.specs.declared.cause.Cause.TheVariants.{Range, Kind, Precision}
+use Rattle.forms.specs.declared.cause.Cause.TheVariants.{Syntax, Range, Kind, Precision}
 use Rattle.forms.specs.declared.value.Value.{Value}
 use Rattle.forms.specs.declared.value.Value.TheVariants.{Triple, Length}
+
+-- what an interval form finds of a text: the interval that it denotes, `Syntax` where it spells none, `Range` where its counts don't fit
+abbrev pub FindsInterval : Style → List ℕ → Result Interval Cause → Type 0
+FindsInterval style text (Ok t) = Denotes (Shape style) text t
+FindsInterval style text (Err Syntax) = HasNoShape (Shape style) text
+FindsInterval style text (Err Range) = (part : Part) × Misfits (Shape style) text part
+FindsInterval style text (Err _) = ⊥
 
 -- the sums of counts that fit
 unfoldable pub worth : List Count → Result Value Cause

@@ -1,21 +1,10 @@
 -- What the readers of the crates below answer, as the readers of forms hand it on.
-use Rattle.std.specs.Prelude.{◌≡◌, ℕ, false, List}
-use Rattle.scan_core.specs.Count.{Count}
-use Rattle.scan_core.specs.Sums.{fits}
+use Rattle.std.specs.Prelude.{ℕ, List}
 use Rattle.scan_core.specs.declared.share.Part.{Part}
 use Rattle.pg_interval_2.specs.Denotes.{HasNoShape, Misfits, IsRange}
 use Rattle.pg_interval_2.specs.Styles.{Shape}
 use Rattle.pg_interval_2.specs.declared.error.ParseError.{ParseError}
 use Rattle.pg_interval_2.specs.declared.style.Style.{Style}
-use Rattle.forms.specs.declared.cause.Cause.{Cause}
-use Rattle.forms.specs.declared.cause.Cause.TheVariants.{Syntax, Range}
-
--- why a text denotes no interval in the style: it has no shape, or what it spells doesn't fit
-abbrev pub IsNoInterval : Style → List ℕ → Cause → Type 0
-IsNoInterval style text Syntax = HasNoShape (Shape style) text
-IsNoInterval style text Range =
-    (counts : List Count) × Shape style text counts × (fits counts ≡ false)
-IsNoInterval style text _ = ⊥
 
 -- what a reader's error says of a text of the style
 pub record IsRefusedBy (style : Style) (text : List ℕ) (error : ParseError) : Type 0 where

@@ -1,14 +1,12 @@
 //! The interval forms, each a style of intervals.
-ghost use Rattle.std.specs.Prelude.{◌≡◌, ◌+◌, ◌*◌, ◌<◌, ◌≤◌, IfOk, IfErr, length};
+ghost use Rattle.std.specs.Prelude.{◌≡◌, ◌+◌, ◌*◌, ◌<◌, ◌≤◌, IfOk, length};
 ghost use Rattle.arrayvec.specs.ArrayString.{array_string_len};
-ghost use Rattle.pg_interval_2.specs.Denotes.{Denotes};
 ghost use Rattle.pg_interval_2.specs.Styles.{Shape, style_text};
 ghost use Rattle.forms.specs.Answers.{Is, ReadsBy, WritesBy};
 ghost use Rattle.forms.specs.Putting.{Puts};
 ghost use Rattle.forms.specs.Values.{IsWithinBounds};
-ghost use Rattle.forms.specs.form.Intervals.{worth, held, interval_of, interval_of_length};
+ghost use Rattle.forms.specs.form.Intervals.{FindsInterval, worth, held, interval_of, interval_of_length};
 ghost use Rattle.forms.specs.inside.Lawful.{Lawful};
-ghost use Rattle.forms.specs.inside.Readers.{IsNoInterval};
 ghost use Rattle.forms.specs.declared.form.Form.{Form as AnyForm};
 
 use crate::cause::Cause;
@@ -42,11 +40,12 @@ pub fn read_counted<L: Ledger>(
     }
 }
 
-/// The interval that a text, which may be no UTF-8, denotes in the style.
+/// The interval that a text, which may be no UTF-8, denotes in the style: `read_interval(Style::Iso, b"P1Y1Y")` is 24 months.
+///
+/// `Syntax` where the text hasn't the style's shape, `Range` where a count's share or a sum leaves its part. It takes no memory.
 #[inline(always)]
 pub fn read_interval(style: Style, text: &[u8]) -> Result<Interval, Cause>
-    ensures ok { IfOk result (λ t. Denotes (Shape style) text.now t) }
-    ensures err { IfErr result (λ cause. IsNoInterval style text.now cause) }
+    ensures { FindsInterval style text.now result }
 {
     interval_alone::<Brand>(style, &Looked::of_bytes(text), Blank::new(1))
 }
@@ -61,8 +60,7 @@ fn interval_alone<L: Ledger>(
     requires name { blank.name ≡ L.name }
     requires parts { blank.parts ≡ L.parts }
     requires some { 0 < L.parts }
-    ensures ok { IfOk result (λ t. Denotes (Shape style) text.now t) }
-    ensures err { IfErr result (λ cause. IsNoInterval style text.now cause) }
+    ensures { FindsInterval style text.now result }
 {
     interval_counted(style, text, &mut Steps::<L>::new(blank))
 }
@@ -74,8 +72,7 @@ fn interval_counted<L: Ledger>(
     text: &Looked<'_>,
     steps: &mut Steps<L>,
 ) -> Result<Interval, Cause>
-    ensures ok { IfOk result (λ t. Denotes (Shape style) text.now t) }
-    ensures err { IfErr result (λ cause. IsNoInterval style text.now cause) }
+    ensures found { FindsInterval style text.now result }
     ensures most { steps.new ≤ steps.old + (2 * length text.now + 4) }
     ensures least { IfOk result (λ _. steps.old + length text.now ≤ steps.new) }
 {

@@ -7,16 +7,16 @@ use Rattle.forms.proofs.text_reply.push_interval_reply.Goals as goal
 pub returns-in-Ok-clause-reply : goal.returns-in-Ok-clause-reply
 returns-in-Ok-clause-reply g c = (
   style_text c.args.to c.in-Ok.interval,
-  interval_reply c.texts_are_of_one_alphabet.ensures c.args.from c.args.to c.args.text.now c.in-Ok.interval c.in-Ok.ensures.ok,
+  interval_reply c.texts_are_of_one_alphabet.ensures c.args.from c.args.to c.args.text.now c.in-Ok.interval c.in-Ok.ensures,
   c.push_text.ensures.bytes,
 )
 
 pub refusal-requires : goal.refusal-requires
-refusal-requires g c = refused_utf8 c.texts_are_of_one_alphabet.ensures c.args.from c.args.text.now c.in-Err.cause c.in-Err.ensures.err
+refusal-requires g c = refused_utf8 c.texts_are_of_one_alphabet.ensures c.args.from c.args.text.now c.in-Err.cause c.in-Err.ensures
 
 pub returns-in-Err-clause-reply : goal.returns-in-Err-clause-reply
 returns-in-Err-clause-reply g c = (
   codes "refused " ++ c.refusal.result.now,
-  no_interval_reply c.args.from c.args.to c.args.text.now c.in-Err.cause c.refusal.result.now c.in-Err.ensures.err c.refusal.ensures.word,
+  no_interval_reply c.args.from c.args.to c.args.text.now c.in-Err.cause c.refusal.result.now c.in-Err.ensures c.refusal.ensures.word,
   c.push_refusal.ensures.bytes,
 )

@@ -1,11 +1,10 @@
 -- Answers to the goals of `form::intervals::interval_counted`.
 use Rattle.pg_interval_2.specs.Styles.{IsBadPlace, not_in}
-use Rattle.forms.proofs.Intervals.{error_says, not_fitting}
+use Rattle.forms.proofs.Intervals.{error_says}
 use Rattle.forms.proofs.form.intervals.interval_counted.Goals as goal
 
-pub returns-in-Err-clause-err : goal.returns-in-Err-clause-err
-returns-in-Err-clause-err g c =
+pub returns-in-Err-clause-found : goal.returns-in-Err-clause-found
+returns-in-Err-clause-found g c =
     let style = c.args.style in
     let says = error_says style (IsBadPlace style) (not_in style) c.args.text.now c.in-Err.error c.in-Err.ensures.answers.err in
-    let misfit = says.range (c.is_range.ensures.0 c.if-is_range.true) in
-    (misfit.1.0, misfit.1.1, not_fitting misfit.1.0 misfit.0 misfit.1.2)
+    says.range (c.is_range.ensures.0 c.if-is_range.true)
