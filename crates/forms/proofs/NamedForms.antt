@@ -5,12 +5,15 @@ use Rattle.std.proofs.lemmas.Bool.{and_parts}
 use Rattle.std.specs.Str.{bytes_eq}
 use Rattle.forms.specs.declared.form.Form.{Form}
 use Rattle.forms.specs.declared.form.Form.TheVariants.{FileTime, IsoDateTime, IsoDate, IsoDuration, Toml, Fancy, PgIso, Postgres, PgVerbose}
-use Rattle.forms.specs.declared.form.Form.TheVariants.{PgSql, IsoStrict}
+use Rattle.forms.specs.declared.form.Form.TheVariants.{PgSql, IsoStrict, Unix}
 use Rattle.forms.specs.Names.{name_of}
 
 -- all forms
 abbrev pub forms : List Form
-forms = FileTime ∷ IsoDateTime ∷ IsoDate ∷ IsoDuration ∷ Toml ∷ Fancy ∷ PgIso ∷ Postgres ∷ PgVerbose ∷ PgSql ∷ IsoStrict ∷ []
+forms =
+    FileTime ∷ IsoDateTime ∷ IsoDate ∷ IsoDuration ∷ Toml ∷ Fancy ∷ PgIso ∷ Postgres ∷ PgVerbose ∷ PgSql ∷ IsoStrict
+    ∷ Unix
+    ∷ []
 
 -- the first of these forms with the name
 abbrev form_named : List ℕ → List Form → Option Form
@@ -29,6 +32,7 @@ finds_form Postgres = refl
 finds_form PgVerbose = refl
 finds_form PgSql = refl
 finds_form IsoStrict = refl
+finds_form Unix = refl
 
 pub one_form : (f g : Form) → name_of f ≡ name_of g → f ≡ g
 one_form f g same =

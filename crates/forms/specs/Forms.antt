@@ -15,7 +15,7 @@ use Rattle.pg_interval_2.specs.declared.style.Style.TheVariants as style
 use Rattle.forms.specs.declared.cause.Cause.{Cause}
 use Rattle.forms.specs.declared.form.Form.{Form}
 use Rattle.forms.specs.declared.form.Form.TheVariants.{FileTime, IsoDateTime, IsoDate, IsoDuration, Toml, Fancy, PgIso, Postgres, PgVerbose}
-use Rattle.forms.specs.declared.form.Form.TheVariants.{PgSql, IsoStrict}
+use Rattle.forms.specs.declared.form.Form.TheVariants.{PgSql, IsoStrict, Unix}
 use Rattle.forms.specs.declared.value.Value.{Value}
 use Rattle.forms.specs.Answers.{Is, ReadsBy, WritesBy}
 use Rattle.forms.specs.form.FileTime as file_time
@@ -24,6 +24,7 @@ use Rattle.forms.specs.form.IsoDate as iso_date
 use Rattle.forms.specs.form.IsoDuration as iso_duration
 use Rattle.forms.specs.form.Toml as toml
 use Rattle.forms.specs.form.Fancy as fancy
+use Rattle.forms.specs.form.Unix as unix
 use Rattle.forms.specs.form.Intervals as interval
 
 -- what a text stands for in the form: a value, or the cause why it is none
@@ -39,6 +40,7 @@ Reads Postgres = ReadsBy (Shape style.Postgres) (Is interval.worth)
 Reads PgVerbose = ReadsBy (Shape style.Verbose) (Is interval.worth)
 Reads PgSql = ReadsBy (Shape style.Sql) (Is interval.worth)
 Reads IsoStrict = ReadsBy (Shape style.IsoStrict) (Is interval.worth)
+Reads Unix = ReadsBy unix.Spells (Is unix.worth)
 
 -- the written text of a value in the form, or the cause why there is none
 abbrev pub Writes : Form → Value → Result (List ℕ) Cause → Type 0
@@ -53,3 +55,4 @@ Writes Postgres = WritesBy (Is interval.held) (style_text style.Postgres)
 Writes PgVerbose = WritesBy (Is interval.held) (style_text style.Verbose)
 Writes PgSql = WritesBy (Is interval.held) (style_text style.Sql)
 Writes IsoStrict = WritesBy (Is interval.held) (style_text style.IsoStrict)
+Writes Unix = WritesBy (Is unix.held) unix.unix_text

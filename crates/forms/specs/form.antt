@@ -6,3 +6,4 @@ pub mod IsoDuration
 pub mod Toml
 pub mod Fancy
 pub mod Intervals
+pub mod Unix

@@ -12,6 +12,7 @@ pub mod iso_date;
 pub mod iso_date_time;
 pub mod iso_duration;
 pub mod toml;
+pub mod unix;
 
 use pg_interval_2::Style;
 
@@ -40,6 +41,8 @@ pub enum Form {
     PgSql,
     /// Intervals as in `PgIso`, with the units in one order and each once at most: `P1Y2M3W4DT5H6M7S`.
     IsoStrict,
+    /// Unix time, the seconds since 1970 with at most nine digits behind the point: `1796167471.051677`.
+    Unix,
 }
 
 impl Form {
@@ -129,6 +132,9 @@ impl Form {
         if let Some(rest) = Form::Toml.after_name(text) {
             return Some((Form::Toml, rest));
         }
+        if let Some(rest) = Form::Unix.after_name(text) {
+            return Some((Form::Unix, rest));
+        }
         None
     }
 
@@ -158,6 +164,7 @@ impl Form {
             Form::PgVerbose => "PgVerbose",
             Form::PgSql => "PgSql",
             Form::IsoStrict => "IsoStrict",
+            Form::Unix => "Unix",
         }
     }
 

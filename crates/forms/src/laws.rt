@@ -27,7 +27,9 @@ ghost use Rattle.forms.specs.inside.Lawful.{Lawful};
 
 use crate::answer::{ConvertError, line_reply};
 use crate::cause::Cause;
-use crate::form::{Form, fancy, file_time, intervals, iso_date, iso_date_time, iso_duration, toml};
+use crate::form::{
+    Form, fancy, file_time, intervals, iso_date, iso_date_time, iso_duration, toml, unix,
+};
 use crate::run_end::RunEnd;
 use crate::streams::Failed;
 use crate::value::Value;
@@ -43,6 +45,7 @@ pub(crate) fn all_lawful()
     toml::lawful();
     fancy::lawful();
     intervals::lawful();
+    unix::lawful();
 }
 
 /// A text stands for one value at most in each form, and where it stands for none there is one cause.

@@ -10,7 +10,9 @@ ghost use Rattle.forms.specs.Putting.{Puts};
 ghost use Rattle.forms.specs.Values.{IsWithinBounds};
 
 use crate::cause::Cause;
-use crate::form::{Form, fancy, file_time, intervals, iso_date, iso_date_time, iso_duration, toml};
+use crate::form::{
+    Form, fancy, file_time, intervals, iso_date, iso_date_time, iso_duration, toml, unix,
+};
 use crate::laws;
 use arrayvec::ArrayString;
 use pg_interval_2::{Short, Style};
@@ -79,6 +81,7 @@ fn read(form: Form, text: &str) -> Result<Value, Cause>
         Form::IsoDate => iso_date::read(text),
         Form::Toml => toml::read(text),
         Form::Fancy => fancy::read(text),
+        Form::Unix => unix::read(text),
         _ => read_alone::<Brand>(form, &Looked::new(text), Blank::new(1)),
     }
 }
@@ -151,5 +154,6 @@ pub fn push_value<const CAP: usize>(
         Form::PgVerbose => intervals::push(Style::Verbose, value, out),
         Form::PgSql => intervals::push(Style::Sql, value, out),
         Form::IsoStrict => intervals::push(Style::IsoStrict, value, out),
+        Form::Unix => unix::push(value, out),
     }
 }
