@@ -20,6 +20,9 @@ use scan_core::{digits_u32, digits_u64, push_num, push_text, push_trimmed, split
 
 const NANOSECONDS_A_SECOND: u128 = 1_000_000_000;
 
+/// The nanoseconds of 10^13 seconds, the most that an instant has to either side.
+const MOST_NANOSECONDS: u128 = 10_000_000_000_000_000_000_000;
+
 /// The instant of seconds since the epoch.
 pub fn read(text: &str) -> Result<Value, Cause>
     ensures { Reads AnyForm.Unix text.now result }
@@ -117,7 +120,7 @@ fn value_of(negative: bool, whole: &[u8], fraction: u32) -> Result<Value, Cause>
 fn instant_of(negative: bool, nanos: u128) -> Result<Value, Cause>
     ensures { result ≡ worth (signed negative nanos) }
 {
-    if nanos <= 10_000_000_000_000_000_000_000 {
+    if nanos <= MOST_NANOSECONDS {
         Ok(Value::Instant(with_sign(negative, nanos)))
     } else {
         Err(Cause::Range)
