@@ -5,7 +5,7 @@ use Rattle.std.proofs.lemmas.Int.{ints}
 use Rattle.scan_core.specs.Calendar.{days_in_month, is_leap_year}
 use Rattle.iso8601.specs.Calendar.{day_of, days_in_year, days_of_months, Exists, new_year}
 use Rattle.iso8601.specs.declared.types.Date.TheVariants.{YMD}
-use Rattle.pg_timestamp.specs.Dates.{IsRealDay, calendar_year, day_number}
+use Rattle.pg_timestamp.specs.Dates.{IsRealDate, calendar_year, date_number}
 use Rattle.pg_timestamp.specs.Values.{first_day, last_day}
 use Rattle.pg_timestamp.specs.declared.date.Date.{Date}
 use Rattle.pg_timestamp.proofs.PlaceFacts.{date_is}
@@ -125,7 +125,7 @@ one_year false false y z p q h = (refl, omega (arith, ints, h))
 one_year true false y z p q h = absurd (omega (arith, ints, h, p, q))
 one_year false true y z p q h = absurd (omega (arith, ints, h, p, q))
 
-pub one_date : YearsFollow → (a b : Date) → IsRealDay a → IsRealDay b → day_number a ≡ day_number b → a ≡ b
+pub one_date : YearsFollow → (a b : Date) → IsRealDate a → IsRealDate b → date_number a ≡ date_number b → a ≡ b
 one_date next a b h k same =
     let parts = one_ymd next (calendar_year a.bc a.year) (calendar_year b.bc b.year) a.month a.day b.month b.day h.day k.day same in
     let years = one_year a.bc b.bc a.year b.year h.year k.year parts.0 in

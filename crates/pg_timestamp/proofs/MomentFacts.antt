@@ -3,8 +3,8 @@ use Rattle.std.proofs.Common.{◌≡◌, ℕ, ◌<◌, arith, refl, ◌∙◌, a
 use Rattle.std.specs.Prelude.{ℤ, pos, negsuc, ◌+ℤ◌, ◌-ℤ◌, ◌*ℤ◌}
 use Rattle.std.specs.Int.{int_div_euclid, int_rem_euclid}
 use Rattle.std.proofs.lemmas.Int.{ints}
-use Rattle.pg_timestamp.specs.Dates.{IsRealDay, day_number}
-use Rattle.pg_timestamp.specs.Values.{IsOnClock, IsShort, micros_of_day, timed}
+use Rattle.pg_timestamp.specs.Dates.{IsRealDate, date_number}
+use Rattle.pg_timestamp.specs.Values.{IsClockTime, IsShort, micros_of_day, timed}
 use Rattle.pg_timestamp.specs.Written.{IsWritten, IsZero}
 use Rattle.pg_timestamp.specs.declared.date.Date.{Date}
 use Rattle.pg_timestamp.specs.declared.time.Time.{Time}
@@ -18,17 +18,17 @@ moment_is : (m day : ℤ) (micros : ℕ) → day ≡ int_div_euclid m (pos 86_40
     → ((day *ℤ pos 86_400_000_000) +ℤ pos micros) -ℤ (pos 0 *ℤ pos 1_000_000) ≡ m
 moment_is m day micros d r = let both = whole m in rw (d, r) (omega (arith, ints, both))
 
-pub moment_written : (m : ℤ) (date : Date) (time : Time) → IsRealDay date → day_number date ≡ int_div_euclid m (pos 86_400_000_000)
-    → date.year < 40_000 → IsOnClock time → pos (micros_of_day time) ≡ int_rem_euclid m (pos 86_400_000_000) → time.offset ≡ Some (pos 0)
+pub moment_written : (m : ℤ) (date : Date) (time : Time) → IsRealDate date → date_number date ≡ int_div_euclid m (pos 86_400_000_000)
+    → date.year < 40_000 → IsClockTime time → pos (micros_of_day time) ≡ int_rem_euclid m (pos 86_400_000_000) → time.offset ≡ Some (pos 0)
     → IsWritten (Moment m) (record { date = date; time = Some time })
 moment_written m date time real day held clock micros offset =
     let short : IsShort time.offset = rw offset (omega arith) in
     let zero_is : IsZero time.offset = rw offset refl in
-    let value : timed (day_number date) (micros_of_day time) time.offset ≡ timed (day_number date) (micros_of_day time) (Some (pos 0)) =
-    ap (λ (o : Option ℤ). timed (day_number date) (micros_of_day time) o) offset in
+    let value : timed (date_number date) (micros_of_day time) time.offset ≡ timed (date_number date) (micros_of_day time) (Some (pos 0)) =
+    ap (λ (o : Option ℤ). timed (date_number date) (micros_of_day time) o) offset in
     record {
       real = (real, (clock, short));
       utc = zero_is;
-      value_is = value ∙ ap (λ (z : ℤ). Moment z) (moment_is m (day_number date) (micros_of_day time) day micros);
+      value_is = value ∙ ap (λ (z : ℤ). Moment z) (moment_is m (date_number date) (micros_of_day time) day micros);
       year = held;
     }

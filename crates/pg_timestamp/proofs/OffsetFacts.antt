@@ -5,8 +5,8 @@ use Rattle.std.specs.Prelude.{ℤ}
 use Rattle.std.proofs.lemmas.List.{take-append-drop}
 use Rattle.scan_core.specs.Fronts.{NoDigitFirst, BeginsWithout}
 use Rattle.scan_core.specs.Shares.{signed}
-use Rattle.pg_timestamp.specs.Pieces.{IsMarked}
-use Rattle.pg_timestamp.specs.Timestamps.{IsMore, IsOffset, IsPerhapsOffset, sign_of}
+use Rattle.pg_timestamp.specs.Pieces.{IsMarkedPair}
+use Rattle.pg_timestamp.specs.Timestamps.{IsMore, IsZoneOffset, IsPerhapsOffset, sign_of}
 use Rattle.pg_timestamp.specs.inside.Places.{has_first, has_sign, is_point, more_front, after_more, IsOffsetAt, after_offset}
 use Rattle.pg_timestamp.specs.inside.Places.{IsPerhapsOffsetAt, after_perhaps, EndsTime}
 use Rattle.pg_timestamp.proofs.PieceFacts.{first_is, front_three, one_number}
@@ -43,20 +43,20 @@ one_more piece m n (inr (p, f, j)) (inl k) = absurd (let e = sym k.0 ∙ j in cc
 one_more piece m n (inr p) (inr q) = one_number 58 58 0 59 piece m n p q
 
 -- where there is no colon, no digits follow
-pub no_more : (text : List ℕ) (n : ℕ) → has_first 58 text ≡ true → IsMore (more_front text) n → IsMarked 58 0 59 (take 3 text) n
+pub no_more : (text : List ℕ) (n : ℕ) → has_first 58 text ≡ true → IsMore (more_front text) n → IsMarkedPair 58 0 59 (take 3 text) n
 no_more [] n h m = absurd cc
 no_more (b ∷ bs) n h (inl k) = absurd (let e : cond (has_first 58 (b ∷ bs)) (take 3 (b ∷ bs)) [] ≡ [] = k.0 in let f = rw h at e in cc)
 no_more (b ∷ bs) n h (inr m) = rw h at m
 
 pub none_more : {A : Type 0} (found : Option A) (text : List ℕ) → has_first 58 text ≡ true
-    → IfNone found ((n : ℕ) → IsMarked 58 0 59 (take 3 text) n → ⊥)
+    → IfNone found ((n : ℕ) → IsMarkedPair 58 0 59 (take 3 text) n → ⊥)
     → IfNone found ((n : ℕ) → IsMore (more_front text) n → ⊥)
 none_more (Some x) text h e = tt
 none_more None text h e = λ n m. e n (no_more text n h m)
 
 -- ---- an offset
 
-offset_found : (text rest : List ℕ) (seconds : ℤ) → IsOffset text seconds → has_first 58 rest ≡ false
+offset_found : (text rest : List ℕ) (seconds : ℤ) → IsZoneOffset text seconds → has_first 58 rest ≡ false
     → IsOffsetAt (text ++ rest) seconds × (after_offset (text ++ rest) ≡ rest)
 offset_found text rest seconds o none =
     let s : List ℕ = o.second_text ++ rest in
@@ -69,7 +69,7 @@ offset_found text rest seconds o none =
     let second = more_found o.second_text rest o.second o.seconds_are (λ e. none) in
     let one : drop 3 (text ++ rest) ≡ m = ap (λ (l : List ℕ). drop 3 l) whole ∙ hour.1 in
     let two : after_more (drop 3 (text ++ rest)) ≡ s = ap after_more one ∙ minute.1 in
-    let H : List ℕ → Type 0 = λ l. IsMarked (sign_of o.negative) 0 24 l o.hour in
+    let H : List ℕ → Type 0 = λ l. IsMarkedPair (sign_of o.negative) 0 24 l o.hour in
     let M : List ℕ → Type 0 = λ l. IsMore l o.minute in
     let S : List ℕ → Type 0 = λ l. IsMore l o.second in (
       record {
@@ -86,7 +86,7 @@ offset_found text rest seconds o none =
     )
 
 -- the front of a text that the parts make
-offset_front : (text : List ℕ) (seconds : ℤ) → IsOffsetAt text seconds → (front : List ℕ) × IsOffset front seconds
+offset_front : (text : List ℕ) (seconds : ℤ) → IsOffsetAt text seconds → (front : List ℕ) × IsZoneOffset front seconds
     × (text ≡ front ++ after_offset text)
 offset_front text seconds p =
     let a : List ℕ = drop 3 text in
@@ -116,7 +116,7 @@ offset_front text seconds p =
       sym first,
     )
 
-pub same_sign : (a b : Bool) (piece : List ℕ) (m n : ℕ) → IsMarked (sign_of a) 0 24 piece m → IsMarked (sign_of b) 0 24 piece n → a ≡ b
+pub same_sign : (a b : Bool) (piece : List ℕ) (m n : ℕ) → IsMarkedPair (sign_of a) 0 24 piece m → IsMarkedPair (sign_of b) 0 24 piece n → a ≡ b
 same_sign true true piece m n p q = refl
 same_sign false false piece m n p q = refl
 same_sign true false piece m n (p, f, j) (q, g, k) = absurd (let first = ap (λ (l : List ℕ). get_or l 0 0) (sym j ∙ k) in omega
@@ -175,7 +175,7 @@ sign_ends : (negative : Bool) (rest : List ℕ) → NoDigitFirst (sign_of negati
 sign_ends true rest = (refl, refl)
 sign_ends false rest = (refl, refl)
 
-offset_ends : (text rest : List ℕ) (seconds : ℤ) → IsOffset text seconds → NoDigitFirst (text ++ rest)
+offset_ends : (text rest : List ℕ) (seconds : ℤ) → IsZoneOffset text seconds → NoDigitFirst (text ++ rest)
     × BeginsWithout is_point (text ++ rest)
 offset_ends text rest seconds o =
     let mark = o.hours in
@@ -190,12 +190,12 @@ perhaps_ends text rest None h e = rw h (e.digit, e.point)
 perhaps_ends text rest (Some seconds) o e = offset_ends text rest seconds o
 
 -- the sign that a reader sees is that of the offset
-sign_by : (seen negative : Bool) (text : List ℕ) (n : ℕ) → seen ≡ has_first 45 text → IsMarked (sign_of negative) 0 24 (take 3 text) n
+sign_by : (seen negative : Bool) (text : List ℕ) (n : ℕ) → seen ≡ has_first 45 text → IsMarkedPair (sign_of negative) 0 24 (take 3 text) n
     → seen ≡ negative
 sign_by seen true text n s m = s ∙ first_is 45 0 24 n text m
 sign_by seen false [] n s (p, f, j) = absurd cc
 sign_by seen false (b ∷ bs) n s (p, f, j) = let same : b ≡ 43 = cc in s ∙ rw same refl
 
 pub sign_is : (text : List ℕ) (seen : Bool) (seconds : ℤ) → seen ≡ has_first 45 text → (o : IsOffsetAt text seconds)
-    → IsMarked (sign_of seen) 0 24 (take 3 text) o.hour
+    → IsMarkedPair (sign_of seen) 0 24 (take 3 text) o.hour
 sign_is text seen seconds s o = let same = sign_by seen o.negative text o.hour s o.hours in rw same o.hours

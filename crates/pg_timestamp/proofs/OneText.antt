@@ -2,8 +2,8 @@
 use Rattle.std.proofs.Common.{◌≡◌, ℕ, ◌/◌, ◌%◌, ◌<◌, List, refl, sym, ◌∙◌, ap, arith, Option, Some, None}
 use Rattle.std.specs.Prelude.{ℤ, pos, ◌+ℤ◌, ◌-ℤ◌, ◌*ℤ◌}
 use Rattle.std.proofs.lemmas.Int.{ints}
-use Rattle.pg_timestamp.specs.Dates.{day_number}
-use Rattle.pg_timestamp.specs.Values.{IsOnClock, IsRealTime, micros_of_day, timed, value_at, value_of}
+use Rattle.pg_timestamp.specs.Dates.{date_number}
+use Rattle.pg_timestamp.specs.Values.{IsClockTime, IsRealTime, micros_of_day, timed, value_at, value_of}
 use Rattle.pg_timestamp.specs.Written.{IsTextOf, IsUtc, IsWritten, IsZero, timestamp_text}
 use Rattle.pg_timestamp.specs.declared.time.Time.{Time}
 use Rattle.pg_timestamp.specs.declared.timestamp.Timestamp.{Timestamp}
@@ -16,19 +16,19 @@ use Rattle.pg_timestamp.proofs.ValueFacts.{clock_small}
 
 -- ---- the fields of a clock by its microseconds
 
-hour_by : (t : Time) → IsOnClock t → t.hour ≡ micros_of_day t / 3_600_000_000
+hour_by : (t : Time) → IsClockTime t → t.hour ≡ micros_of_day t / 3_600_000_000
 hour_by t (h, m, s, f) = omega (arith, m, s, f)
 
-minute_by : (t : Time) → IsOnClock t → t.minute ≡ micros_of_day t / 60_000_000 % 60
+minute_by : (t : Time) → IsClockTime t → t.minute ≡ micros_of_day t / 60_000_000 % 60
 minute_by t (h, m, s, f) = omega (arith, m, s, f)
 
-second_by : (t : Time) → IsOnClock t → t.second ≡ micros_of_day t / 1_000_000 % 60
+second_by : (t : Time) → IsClockTime t → t.second ≡ micros_of_day t / 1_000_000 % 60
 second_by t (h, m, s, f) = omega (arith, m, s, f)
 
-micros_by : (t : Time) → IsOnClock t → t.micros ≡ micros_of_day t % 1_000_000
+micros_by : (t : Time) → IsClockTime t → t.micros ≡ micros_of_day t % 1_000_000
 micros_by t (h, m, s, f) = omega (arith, f)
 
-one_clock : (a b : Time) → IsOnClock a → IsOnClock b → micros_of_day a ≡ micros_of_day b → a.offset ≡ b.offset → a ≡ b
+one_clock : (a b : Time) → IsClockTime a → IsClockTime b → micros_of_day a ≡ micros_of_day b → a.offset ≡ b.offset → a ≡ b
 one_clock a b h k same offset =
     time_is a b (hour_by a h ∙ ap (λ (n : ℕ). n / 3_600_000_000) same ∙ sym (hour_by b k))
     (minute_by a h ∙ ap (λ (n : ℕ). n / 60_000_000 % 60) same ∙ sym (minute_by b k))
@@ -67,7 +67,7 @@ one_at d e (Some t) (Some w) r s u v h =
 one_written : YearsFollow → (value : Value) (a b : Timestamp) → IsWritten value a → IsWritten value b → a ≡ b
 one_written next value a b h k =
     let same : value_of a ≡ value_of b = h.value_is ∙ sym k.value_is in
-    let parts = one_at (day_number a.date) (day_number b.date) a.time b.time h.real.1 k.real.1 h.utc k.utc same in
+    let parts = one_at (date_number a.date) (date_number b.date) a.time b.time h.real.1 k.real.1 h.utc k.utc same in
     timestamp_is a b (one_date next a.date b.date h.real.0 k.real.0 parts.0) parts.1
 
 pub one_text : YearsFollow → (value : Value) (s t : List ℕ) → IsTextOf value s → IsTextOf value t → s ≡ t

@@ -4,7 +4,7 @@ use Rattle.std.proofs.Common.{◌∙◌, ap, subst, arith}
 use Rattle.std.specs.Char.{digit_value}
 use Rattle.scan_core.specs.Digits.{AreDigits, number_of}
 use Rattle.scan_core.specs.Fronts.{NoDigitFirst}
-use Rattle.pg_timestamp.specs.Pieces.{IsMarked, era_text}
+use Rattle.pg_timestamp.specs.Pieces.{IsMarkedPair, era_text}
 use Rattle.pg_timestamp.specs.inside.Places.{has_first}
 use Rattle.std.proofs.lemmas.Bool.Decides.{nat_tests}
 
@@ -17,7 +17,7 @@ two_bytes (a ∷ b ∷ c ∷ more) h = absurd (omega (arith, h))
 
 pub marked_made : (mark lo hi a b n : ℕ) → digit_value a < 10 → digit_value b < 10 → n ≡ digit_value a * 10 + digit_value b → lo ≤ n
     → n ≤ hi
-    → IsMarked mark lo hi (mark ∷ a ∷ b ∷ []) n
+    → IsMarkedPair mark lo hi (mark ∷ a ∷ b ∷ []) n
 marked_made mark lo hi a b n da db is least most = (
   a ∷ b ∷ [],
   record { long = refl; digits = (da, (db, tt)); number = is ∙ omega arith; least = least; most = most },
@@ -32,7 +32,7 @@ pub record AreMarkedParts (mark lo hi m a b n : ℕ) : Type 0 where
   pub least : lo ≤ n
   pub most : n ≤ hi
 
-pub marked_parts : (mark lo hi m a b n : ℕ) → IsMarked mark lo hi (m ∷ a ∷ b ∷ []) n → AreMarkedParts mark lo hi m a b n
+pub marked_parts : (mark lo hi m a b n : ℕ) → IsMarkedPair mark lo hi (m ∷ a ∷ b ∷ []) n → AreMarkedParts mark lo hi m a b n
 marked_parts mark lo hi m a b n (pair, field, joined) =
     let head : m ≡ mark = cc in
     let tail : pair ≡ a ∷ b ∷ [] = cc in
@@ -47,7 +47,7 @@ first_three (a ∷ b ∷ []) h = absurd (omega (arith, h))
 first_three (a ∷ b ∷ c ∷ more) h = refl
 
 -- a piece in front is the first three bytes
-pub front_three : (mark lo hi : ℕ) (piece rest : List ℕ) (n : ℕ) → IsMarked mark lo hi piece n → (take 3 (piece ++ rest) ≡ piece)
+pub front_three : (mark lo hi : ℕ) (piece rest : List ℕ) (n : ℕ) → IsMarkedPair mark lo hi piece n → (take 3 (piece ++ rest) ≡ piece)
     × (drop 3 (piece ++ rest) ≡ rest)
 front_three mark lo hi piece rest n (pair, field, joined) =
     let bytes = two_bytes pair field.long in
@@ -55,12 +55,12 @@ front_three mark lo hi piece rest n (pair, field, joined) =
     rw is (refl, refl)
 
 -- the number behind a mark, whichever it is
-pub one_number : (mark other lo hi : ℕ) (piece : List ℕ) (m n : ℕ) → IsMarked mark lo hi piece m → IsMarked other lo hi piece n → m ≡ n
+pub one_number : (mark other lo hi : ℕ) (piece : List ℕ) (m n : ℕ) → IsMarkedPair mark lo hi piece m → IsMarkedPair other lo hi piece n → m ≡ n
 one_number mark other lo hi piece m n (p, f, j) (q, g, k) =
     let same : p ≡ q = cc in
     f.number ∙ ap number_of same ∙ sym g.number
 
-pub hyphen_no_digit : (lo hi : ℕ) (piece rest : List ℕ) (n : ℕ) → IsMarked 45 lo hi piece n → NoDigitFirst (piece ++ rest)
+pub hyphen_no_digit : (lo hi : ℕ) (piece rest : List ℕ) (n : ℕ) → IsMarkedPair 45 lo hi piece n → NoDigitFirst (piece ++ rest)
 hyphen_no_digit lo hi piece rest n (pair, field, joined) = rw joined refl
 
 pub one_era : (a b : Bool) → era_text a ≡ era_text b → a ≡ b
@@ -69,6 +69,6 @@ one_era false false h = refl
 one_era true false h = absurd cc
 one_era false true h = absurd cc
 
-pub first_is : (mark lo hi n : ℕ) (text : List ℕ) → IsMarked mark lo hi (take 3 text) n → has_first mark text ≡ true
+pub first_is : (mark lo hi n : ℕ) (text : List ℕ) → IsMarkedPair mark lo hi (take 3 text) n → has_first mark text ≡ true
 first_is mark lo hi n [] (p, f, j) = absurd cc
 first_is mark lo hi n (b ∷ bs) (p, f, j) = let same : b ≡ mark = cc in rw same (grind (arith, nat_tests))

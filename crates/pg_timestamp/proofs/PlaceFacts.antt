@@ -5,9 +5,9 @@ use Rattle.std.proofs.lemmas.List.{take-append-drop}
 use Rattle.scan_core.specs.Digits.{AreDigits}
 use Rattle.scan_core.specs.Fronts.{front_digits, after_digits}
 use Rattle.scan_core.proofs.FrontFacts.{front_of, after_of, front_and_after}
-use Rattle.pg_timestamp.specs.Pieces.{IsMarked, era_text}
-use Rattle.pg_timestamp.specs.Dates.{IsYear}
-use Rattle.pg_timestamp.specs.Timestamps.{IsTimestamp, IsPerhapsTime}
+use Rattle.pg_timestamp.specs.Pieces.{IsMarkedPair, era_text}
+use Rattle.pg_timestamp.specs.Dates.{IsLongYear}
+use Rattle.pg_timestamp.specs.Timestamps.{IsTimestampText, IsPerhapsTime}
 use Rattle.pg_timestamp.specs.declared.date.Date.{Date}
 use Rattle.pg_timestamp.specs.declared.time.Time.{Time}
 use Rattle.pg_timestamp.specs.declared.timestamp.Timestamp.{Timestamp}
@@ -33,7 +33,7 @@ end_front text (Some time) bc (at, after) =
     (clock.0, clock.1, ap (λ (l : List ℕ). clock.0 ++ l) (sym after) ∙ sym clock.2)
 
 -- an era is no time
-no_marked : (bc : Bool) (n : ℕ) → IsMarked 32 0 24 (take 3 (era_text bc)) n → ⊥
+no_marked : (bc : Bool) (n : ℕ) → IsMarkedPair 32 0 24 (take 3 (era_text bc)) n → ⊥
 no_marked true n (p, f, j) =
     let tail : p ≡ 66 ∷ 67 ∷ [] = cc in
     let digits = subst AreDigits tail f.digits in
@@ -43,7 +43,7 @@ no_marked false n (p, f, j) = absurd cc
 
 pub no_time : (text : List ℕ) (bc : Bool) (time : Time) → text ≡ era_text bc → AreTimeAt text time → ⊥
 no_time text bc time h t =
-    let P : List ℕ → Type 0 = λ l. IsMarked 32 0 24 (take 3 l) time.hour in
+    let P : List ℕ → Type 0 = λ l. IsMarkedPair 32 0 24 (take 3 l) time.hour in
     no_marked bc time.hour (subst P h t.hours)
 
 one_end : (text : List ℕ) (a b : Option Time) (c d : Bool) → IsEndAt text a c → IsEndAt text b d → (a ≡ b) × (c ≡ d)
@@ -65,7 +65,7 @@ none_end None text e f = no_end text e f
 
 -- ---- a timestamp
 
-pub at_places : (text : List ℕ) (t : Timestamp) → IsTimestamp text t → AreAt text t
+pub at_places : (text : List ℕ) (t : Timestamp) → IsTimestampText text t → AreAt text t
 at_places text t d =
     let e : List ℕ = d.time_text ++ era_text t.date.bc in
     let behind : List ℕ = d.month_text ++ (d.day_text ++ e) in
@@ -76,9 +76,9 @@ at_places text t d =
     let day = front_three 45 1 31 d.day_text e t.date.day d.days in
     let second : drop 3 (after_digits text) ≡ d.day_text ++ e = ap (λ (l : List ℕ). drop 3 l) after ∙ month.1 in
     let third : drop 3 (drop 3 (after_digits text)) ≡ e = ap (λ (l : List ℕ). drop 3 l) second ∙ day.1 in
-    let P : List ℕ → Type 0 = λ l. IsYear l t.date.year in
-    let M : List ℕ → Type 0 = λ l. IsMarked 45 1 12 l t.date.month in
-    let D : List ℕ → Type 0 = λ l. IsMarked 45 1 31 l t.date.day in
+    let P : List ℕ → Type 0 = λ l. IsLongYear l t.date.year in
+    let M : List ℕ → Type 0 = λ l. IsMarkedPair 45 1 12 l t.date.month in
+    let D : List ℕ → Type 0 = λ l. IsMarkedPair 45 1 31 l t.date.day in
     let E : List ℕ → Type 0 = λ l. IsEndAt l t.time t.date.bc in
     record {
       years = subst P (sym front) d.years;
@@ -87,7 +87,7 @@ at_places text t d =
       end = subst E (sym third) (end_found d.time_text t.time t.date.bc d.times);
     }
 
-pub from_places : (text : List ℕ) (t : Timestamp) → AreAt text t → IsTimestamp text t
+pub from_places : (text : List ℕ) (t : Timestamp) → AreAt text t → IsTimestampText text t
 from_places text t p =
     let a : List ℕ = after_digits text in
     let b : List ℕ = drop 3 (drop 3 a) in
@@ -119,7 +119,7 @@ stamp d t = record { date = d; time = t }
 pub timestamp_is : (a b : Timestamp) → a.date ≡ b.date → a.time ≡ b.time → a ≡ b
 timestamp_is a b d t = let same : stamp a.date a.time ≡ stamp b.date b.time = rw (d, t) refl in same
 
-pub one_timestamp : (text : List ℕ) (a b : Timestamp) → IsTimestamp text a → IsTimestamp text b → a ≡ b
+pub one_timestamp : (text : List ℕ) (a b : Timestamp) → IsTimestampText text a → IsTimestampText text b → a ≡ b
 one_timestamp text a b h k =
     let p = at_places text a h in
     let q = at_places text b k in

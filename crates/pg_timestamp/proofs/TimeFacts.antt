@@ -10,8 +10,8 @@ use Rattle.scan_core.specs.Fronts.{front_digits, after_digits, NoDigitFirst, Beg
 use Rattle.scan_core.proofs.DigitFacts.{digits-append, digits-zeros, number_of-append, number_of-lt, number_of-zeros}
 use Rattle.scan_core.proofs.FrontFacts.{front_of, after_of, front_are_digits, front_and_after}
 use Rattle.scan_core.proofs.PaddedFacts.{length-zeros}
-use Rattle.pg_timestamp.specs.Pieces.{IsMarked}
-use Rattle.pg_timestamp.specs.Timestamps.{IsFraction, IsTime}
+use Rattle.pg_timestamp.specs.Pieces.{IsMarkedPair}
+use Rattle.pg_timestamp.specs.Timestamps.{IsMicrosFraction, IsTimeOfDay}
 use Rattle.pg_timestamp.specs.declared.time.Time.{Time}
 use Rattle.pg_timestamp.specs.inside.Places.{fraction_front, after_fraction, has_point, behind_point, AreTimeAt, after_time}
 use Rattle.pg_timestamp.specs.inside.Places.{IsPerhapsOffsetAt, after_perhaps, is_point, EndsTime}
@@ -43,10 +43,10 @@ six_digits_small ds d short =
 -- a point and digits behind it
 pub fraction_made : (digits : List ℕ) (micros : ℕ) → AreDigits digits → (0 < length digits) × (length digits ≤ 6)
     → micros ≡ number_of (six digits)
-    → IsFraction (46 ∷ digits) micros
+    → IsMicrosFraction (46 ∷ digits) micros
 fraction_made digits micros are bound value = inr (digits, bound, are, refl, value)
 
-one_fraction : (text : List ℕ) (m n : ℕ) → IsFraction text m → IsFraction text n → m ≡ n
+one_fraction : (text : List ℕ) (m n : ℕ) → IsMicrosFraction text m → IsMicrosFraction text n → m ≡ n
 one_fraction text m n (inl h) (inl k) = h.1 ∙ sym k.1
 one_fraction text m n (inl h) (inr (ds, bound, are, joined, value)) = absurd (let e = sym h.0 ∙ joined in cc)
 one_fraction text m n (inr (ds, bound, are, joined, value)) (inl k) = absurd (let e = sym k.0 ∙ joined in cc)
@@ -58,7 +58,7 @@ none_front : (rest : List ℕ) → BeginsWithout is_point rest → (fraction_fro
 none_front [] n = (refl, refl)
 none_front (b ∷ bs) n = (rw n refl, rw n refl)
 
-fraction_found : (text rest : List ℕ) (micros : ℕ) → IsFraction text micros → NoDigitFirst rest × BeginsWithout is_point rest
+fraction_found : (text rest : List ℕ) (micros : ℕ) → IsMicrosFraction text micros → NoDigitFirst rest × BeginsWithout is_point rest
     → (fraction_front (text ++ rest) ≡ text) × (after_fraction (text ++ rest) ≡ rest)
 fraction_found text rest micros (inl h) e = let none = none_front rest e.1 in let is = h.0 in rw is none
 fraction_found text rest micros (inr (ds, bound, are, joined, value)) e =
@@ -86,16 +86,16 @@ digits_behind digits rest e = subst AreDigits (sym e) (front_are_digits rest)
 
 pub pointed_found : (text rest digits : List ℕ) (point : Bool) (micros : ℕ) → point ≡ has_point text → rest ≡ behind_point text
     → digits ≡ front_digits rest → point ≡ true
-    → (0 < length digits) × (length digits ≤ 6) → micros ≡ number_of (six digits) → IsFraction (fraction_front text) micros
+    → (0 < length digits) × (length digits ≤ 6) → micros ≡ number_of (six digits) → IsMicrosFraction (fraction_front text) micros
 pointed_found text rest digits point micros p r d seen bound value =
     let parts = pointed text (sym p ∙ seen) in
     let front : fraction_front text ≡ 46 ∷ digits = parts.0 ∙ ap (λ (l : List ℕ). 46 ∷ l) (sym (d ∙ ap front_digits r)) in
-    let F : List ℕ → Type 0 = λ l. IsFraction l micros in
+    let F : List ℕ → Type 0 = λ l. IsMicrosFraction l micros in
     subst F (sym front) (fraction_made digits micros (digits_behind digits rest d) bound value)
 
 -- ---- a time
 
-pub time_places : (text rest : List ℕ) (time : Time) → IsTime text time → EndsTime rest → AreTimeAt (text ++ rest) time
+pub time_places : (text rest : List ℕ) (time : Time) → IsTimeOfDay text time → EndsTime rest → AreTimeAt (text ++ rest) time
     × (after_time (text ++ rest) ≡ rest)
 time_places text rest time t e =
     let o : List ℕ = t.offset_text ++ rest in
@@ -117,10 +117,10 @@ time_places text rest time t e =
     let two : drop 3 (drop 3 (text ++ rest)) ≡ m = ap (λ (l : List ℕ). drop 3 l) one ∙ minute.1 in
     let three : drop 3 (drop 3 (drop 3 (text ++ rest))) ≡ s = ap (λ (l : List ℕ). drop 3 l) two ∙ second.1 in
     let four : after_fraction (drop 3 (drop 3 (drop 3 (text ++ rest)))) ≡ o = ap after_fraction three ∙ fraction.1 in
-    let H : List ℕ → Type 0 = λ l. IsMarked 32 0 24 l time.hour in
-    let M : List ℕ → Type 0 = λ l. IsMarked 58 0 59 l time.minute in
-    let S : List ℕ → Type 0 = λ l. IsMarked 58 0 60 l time.second in
-    let F : List ℕ → Type 0 = λ l. IsFraction l time.micros in
+    let H : List ℕ → Type 0 = λ l. IsMarkedPair 32 0 24 l time.hour in
+    let M : List ℕ → Type 0 = λ l. IsMarkedPair 58 0 59 l time.minute in
+    let S : List ℕ → Type 0 = λ l. IsMarkedPair 58 0 60 l time.second in
+    let F : List ℕ → Type 0 = λ l. IsMicrosFraction l time.micros in
     let O : List ℕ → Type 0 = λ l. IsPerhapsOffsetAt l time.offset in (
       record {
         hours = subst H (sym (ap (λ (l : List ℕ). take 3 l) whole ∙ hour.0)) t.hours;
@@ -133,7 +133,7 @@ time_places text rest time t e =
     )
 
 -- the front of a text that the parts make
-pub time_front : (text : List ℕ) (time : Time) → AreTimeAt text time → (front : List ℕ) × IsTime front time
+pub time_front : (text : List ℕ) (time : Time) → AreTimeAt text time → (front : List ℕ) × IsTimeOfDay front time
     × (text ≡ front ++ after_time text)
 time_front text time p =
     let a : List ℕ = drop 3 text in

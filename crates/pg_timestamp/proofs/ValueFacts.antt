@@ -3,13 +3,13 @@ use Rattle.std.proofs.Common.{◌≡◌, ℕ, ◌<◌, arith, sym, ◌∙◌, ap
 use Rattle.std.specs.Prelude.{ℤ, pos, neg_ℤ, ◌≤ℤ◌, ◌↔◌}
 use Rattle.std.proofs.lemmas.Int.{ints}
 use Rattle.iso8601.specs.Calendar.{IsCivilDay}
-use Rattle.pg_timestamp.specs.Dates.{day_number}
-use Rattle.pg_timestamp.specs.Values.{IsOnClock, IsShort, IsRealTime, IsInRange, IsWithinBounds, micros_of_day, timed, value_at, value_of}
+use Rattle.pg_timestamp.specs.Dates.{date_number}
+use Rattle.pg_timestamp.specs.Values.{IsClockTime, IsShort, IsRealTime, IsInRange, IsWithinBounds, micros_of_day, timed, value_at, value_of}
 use Rattle.pg_timestamp.specs.declared.time.Time.{Time}
 use Rattle.pg_timestamp.specs.declared.timestamp.Timestamp.{Timestamp}
 use Rattle.pg_timestamp.specs.declared.value.Value.{Value}
 
-pub clock_small : (time : Time) → IsOnClock time → micros_of_day time < 86_400_000_000
+pub clock_small : (time : Time) → IsClockTime time → micros_of_day time < 86_400_000_000
 clock_small time (h, m, s, f) = omega (arith, h, m, s, f)
 
 least_timed : (day : ℤ) (micros : ℕ) (offset : Option ℤ) → IsShort offset → micros < 86_400_000_000
@@ -26,16 +26,16 @@ abbrev pub AreCivilDays : Type 0
 AreCivilDays = (day : ℤ) → IsCivilDay day ↔ ((neg_ℤ (pos 4_371_587) ≤ℤ day) × (day ≤ℤ pos 2_932_896))
 
 -- a day that isn't civil is out of range
-pub not_civil : AreCivilDays → (t : Timestamp) → (IsCivilDay (day_number t.date) → ⊥) → IsRealTime t.time → IsInRange t → ⊥
+pub not_civil : AreCivilDays → (t : Timestamp) → (IsCivilDay (date_number t.date) → ⊥) → IsRealTime t.time → IsInRange t → ⊥
 not_civil civil t none real range =
-    none ((civil (day_number t.date)).1 (least_day (day_number t.date) t.time real range.0, range.1))
+    none ((civil (date_number t.date)).1 (least_day (date_number t.date) t.time real range.0, range.1))
 
-pub worth : (t : Timestamp) (day : ℤ) (value : Value) → value ≡ value_at day t.time → day ≡ day_number t.date → value ≡ value_of t
+pub worth : (t : Timestamp) (day : ℤ) (value : Value) → value ≡ value_at day t.time → day ≡ date_number t.date → value ≡ value_of t
 worth t day value is same = is ∙ ap (λ (z : ℤ). value_at z t.time) same
 
 pub not_within : (t : Timestamp) (value : Value) → value ≡ value_of t → (IsWithinBounds value → ⊥) → IsInRange t → ⊥
 not_within t value is none range = none (subst IsWithinBounds (sym is) range.0)
 
-pub within : AreCivilDays → (t : Timestamp) (value : Value) → value ≡ value_of t → IsWithinBounds value → IsCivilDay (day_number t.date)
+pub within : AreCivilDays → (t : Timestamp) (value : Value) → value ≡ value_of t → IsWithinBounds value → IsCivilDay (date_number t.date)
     → IsInRange t
-within civil t value is w day = (subst IsWithinBounds is w, ((civil (day_number t.date)).0 day).1)
+within civil t value is w day = (subst IsWithinBounds is w, ((civil (date_number t.date)).0 day).1)

@@ -10,12 +10,12 @@ use Rattle.scan_core.specs.Digits.{number_of}
 use Rattle.scan_core.specs.Padded.{padded_digits, trimmed_digits}
 use Rattle.scan_core.proofs.PaddedFacts.{padded_field, length-padded, length-zeros, digits-padded, number_of-padded}
 use Rattle.scan_core.proofs.TrimmedFacts.{digits-trimmed, trimmed_fills, trimmed_some}
-use Rattle.pg_timestamp.specs.Pieces.{IsMarked, era_text}
-use Rattle.pg_timestamp.specs.Dates.{IsYear, calendar_year}
-use Rattle.pg_timestamp.specs.Timestamps.{IsFraction, IsOffset, IsPerhapsOffset, IsPerhapsTime, IsTime, IsTimestamp}
-use Rattle.pg_timestamp.specs.Values.{IsReal, IsRealTime, IsOnClock}
-use Rattle.pg_timestamp.specs.Written.{IsTextOf, IsUtc, IsWritten, IsZero, clock_text, date_text, fraction_text, offset_text, pair_text}
-use Rattle.pg_timestamp.specs.Written.{time_text, timestamp_text}
+use Rattle.pg_timestamp.specs.Pieces.{IsMarkedPair, era_text}
+use Rattle.pg_timestamp.specs.Dates.{IsLongYear, calendar_year}
+use Rattle.pg_timestamp.specs.Timestamps.{IsMicrosFraction, IsZoneOffset, IsPerhapsOffset, IsPerhapsTime, IsTimeOfDay, IsTimestampText}
+use Rattle.pg_timestamp.specs.Values.{IsRealTimestamp, IsRealTime, IsClockTime}
+use Rattle.pg_timestamp.specs.Written.{IsTextOf, IsUtc, IsWritten, IsZero, blank_time_text, year_first_text, micros_text, zone_text, pair_text}
+use Rattle.pg_timestamp.specs.Written.{perhaps_time_text, timestamp_text}
 use Rattle.pg_timestamp.specs.declared.time.Time.{Time}
 use Rattle.pg_timestamp.specs.declared.timestamp.Timestamp.{Timestamp}
 use Rattle.pg_timestamp.specs.declared.value.Value.{Value}
@@ -29,19 +29,19 @@ length_decimal_u16 n small = length-decimal-le 5 n (omega arith) (omega arith) (
 
 -- ---- pieces
 
-year_written : (n : ℕ) → n < 40_000 → IsYear (padded_digits 4 n) n
+year_written : (n : ℕ) → n < 40_000 → IsLongYear (padded_digits 4 n) n
 year_written n small =
     let fits : n < 2 ^ 64 = omega arith in
     let long = length-padded 4 n in
     let number : number_of (padded_digits 4 n) ≡ n = number_of-padded 4 n fits in
     record { least = omega (arith, long); digits = digits-padded 4 n fits; number = rw number (sym (held_below n small)) }
 
-pair_written : (mark lo hi n : ℕ) → lo ≤ n → n ≤ hi → hi < 100 → IsMarked mark lo hi (pair_text mark n) n
+pair_written : (mark lo hi n : ℕ) → lo ≤ n → n ≤ hi → hi < 100 → IsMarkedPair mark lo hi (pair_text mark n) n
 pair_written mark lo hi n least most small =
     (padded_digits 2 n, padded_field 2 lo hi n (omega arith) (omega (arith, most, small)) (omega (arith, most, small)) least most, refl)
 
 fraction_if : (t : Bool) (micros : ℕ) → (micros == 0) ≡ t → micros < 1_000_000
-    → IsFraction (cond t [] (codes "." ++ trimmed_digits (padded_digits 6 micros))) micros
+    → IsMicrosFraction (cond t [] (codes "." ++ trimmed_digits (padded_digits 6 micros))) micros
 fraction_if true micros h small = inl (refl, eqb-true micros 0 h)
 fraction_if false micros h small =
     let fits : micros < 2 ^ 64 = omega (arith, small) in
@@ -63,11 +63,11 @@ fraction_if false micros h small =
       sym (number_of-padded 6 micros fits) ∙ ap number_of (fills.1 ∙ ap (λ (k : ℕ). text ++ replicate k 48) left),
     )
 
-fraction_written : (micros : ℕ) → micros < 1_000_000 → IsFraction (fraction_text micros) micros
-unfolding fraction_text
+fraction_written : (micros : ℕ) → micros < 1_000_000 → IsMicrosFraction (micros_text micros) micros
+unfolding micros_text
 fraction_written micros small = fraction_if (micros == 0) micros refl small
 
-utc_written : IsOffset (codes "+00") (pos 0)
+utc_written : IsZoneOffset (codes "+00") (pos 0)
 utc_written = record {
   negative = false;
   hour_text = codes "+00";
@@ -94,20 +94,20 @@ utc_written = record {
   value = refl;
 }
 
-offset_written : (offset : Option ℤ) → IsZero offset → IsPerhapsOffset (offset_text offset) offset
+offset_written : (offset : Option ℤ) → IsZero offset → IsPerhapsOffset (zone_text offset) offset
 offset_written None z = refl
-offset_written (Some seconds) z = subst (λ (s : ℤ). IsOffset (codes "+00") s) (sym z) utc_written
+offset_written (Some seconds) z = subst (λ (s : ℤ). IsZoneOffset (codes "+00") s) (sym z) utc_written
 
 -- ---- times
 
-clock_written : (time : Time) → IsOnClock time → IsZero time.offset → IsTime (clock_text time) time
-unfolding clock_text
+clock_written : (time : Time) → IsClockTime time → IsZero time.offset → IsTimeOfDay (blank_time_text time) time
+unfolding blank_time_text
 clock_written time (h, m, s, f) z = record {
   hour_text = pair_text 32 time.hour;
   minute_text = pair_text 58 time.minute;
   second_text = pair_text 58 time.second;
-  fraction_text = fraction_text time.micros;
-  offset_text = offset_text time.offset;
+  fraction_text = micros_text time.micros;
+  offset_text = zone_text time.offset;
   hours = pair_written 32 0 24 time.hour (omega arith) (omega (arith, h)) (omega arith);
   minutes = pair_written 58 0 59 time.minute (omega arith) (omega (arith, m)) (omega arith);
   seconds = pair_written 58 0 60 time.second (omega arith) (omega (arith, s)) (omega arith);
@@ -116,7 +116,7 @@ clock_written time (h, m, s, f) z = record {
   joined = refl;
 }
 
-time_written : (time : Option Time) → IsRealTime time → IsUtc time → IsPerhapsTime (time_text time) time
+time_written : (time : Option Time) → IsRealTime time → IsUtc time → IsPerhapsTime (perhaps_time_text time) time
 time_written None r u = refl
 time_written (Some time) r u = clock_written time r.0 u
 
@@ -131,8 +131,8 @@ days_most false b false = omega arith
 month_most : (year : ℤ) (month : ℕ) → days_in_month year month ≤ 31
 month_most year month = days_most (month == 2) (is_leap_year year) ((month == 4) || (month == 6) || (month == 9) || (month == 11))
 
-pub read_back : (t : Timestamp) → IsReal t → IsUtc t.time → t.date.year < 40_000 → IsTimestamp (timestamp_text t) t
-unfolding timestamp_text date_text
+pub read_back : (t : Timestamp) → IsRealTimestamp t → IsUtc t.time → t.date.year < 40_000 → IsTimestampText (timestamp_text t) t
+unfolding timestamp_text year_first_text
 read_back t real utc held =
     let day = real.0.day in
     let least_month = day.0 in
@@ -140,12 +140,12 @@ read_back t real utc held =
     let least_day = day.2 in
     let most_day = day.3 in
     let most = month_most (calendar_year t.date.bc t.date.year) t.date.month in
-    let tail : List ℕ = time_text t.time ++ era_text t.date.bc in
+    let tail : List ℕ = perhaps_time_text t.time ++ era_text t.date.bc in
     record {
       year_text = padded_digits 4 t.date.year;
       month_text = pair_text 45 t.date.month;
       day_text = pair_text 45 t.date.day;
-      time_text = time_text t.time;
+      time_text = perhaps_time_text t.time;
       years = year_written t.date.year held;
       months = pair_written 45 1 12 t.date.month least_month most_month (omega arith);
       days = pair_written 45 1 31 t.date.day least_day (omega (arith, most_day, most)) (omega arith);
@@ -155,7 +155,7 @@ read_back t real utc held =
           ∙ ap (λ (l : List ℕ). padded_digits 4 t.date.year ++ l) (append_assoc (pair_text 45 t.date.month) (pair_text 45 t.date.day) tail);
     }
 
-pub text_read_back : (value : Value) (text : List ℕ) → IsTextOf value text → (t : Timestamp) × IsTimestamp text t × IsWritten value t
+pub text_read_back : (value : Value) (text : List ℕ) → IsTextOf value text → (t : Timestamp) × IsTimestampText text t × IsWritten value t
 text_read_back value text (t, w, is) =
-    let P : List ℕ → Type 0 = λ l. IsTimestamp l t in
+    let P : List ℕ → Type 0 = λ l. IsTimestampText l t in
     (t, subst P (sym is) (read_back t w.real w.utc w.year), w)

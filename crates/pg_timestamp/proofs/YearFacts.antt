@@ -6,7 +6,7 @@ use Rattle.scan_core.specs.Digits.{AreDigits, number_of}
 use Rattle.scan_core.specs.Fronts.{front_digits}
 use Rattle.scan_core.proofs.DigitFacts.{digits_right, number_of-append, number_of-lt}
 use Rattle.scan_core.proofs.FrontFacts.{front_are_digits}
-use Rattle.pg_timestamp.specs.Dates.{IsYear, held_year}
+use Rattle.pg_timestamp.specs.Dates.{IsLongYear, held_year}
 
 pub four_last : (ds xs ys : List ℕ) → AreDigits ds → xs ++ ys ≡ ds → length ys ≡ 4
     → AreDigits ys × (number_of ys < 10_000) × (number_of ys ≡ number_of ds % 10_000)
@@ -34,7 +34,7 @@ capped_above n c last is large four = let above : 40_000 ≤ n = omega (arith, i
 
 pub front_year : (text digits : List ℕ) (year : ℕ) → digits ≡ front_digits text → (length digits < 4 → ⊥)
     → year ≡ held_year (number_of digits)
-    → IsYear (front_digits text) year
+    → IsLongYear (front_digits text) year
 front_year text digits year same few number =
     let long = ap length same in
     record {

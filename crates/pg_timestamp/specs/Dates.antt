@@ -12,7 +12,7 @@ unfoldable pub held_year : ℕ → ℕ
 held_year year = if nat_lt year 40_000 then year else (40_000 + year % 10_000)
 
 -- four digits or more, and the year that they write, as it is held
-pub record IsYear (text : List ℕ) (year : ℕ) : Type 0 where
+pub record IsLongYear (text : List ℕ) (year : ℕ) : Type 0 where
   pub least : 4 ≤ length text
   pub digits : AreDigits text
   pub number : year ≡ held_year (number_of text)
@@ -23,10 +23,10 @@ calendar_year true year = pos 1 -ℤ pos year
 calendar_year false year = pos year
 
 -- there is such a day, and its year isn't 0
-pub record IsRealDay (date : Date) : Type 0 where
+pub record IsRealDate (date : Date) : Type 0 where
   pub year : 1 ≤ date.year
   pub day : Exists (YMD (calendar_year date.bc date.year) date.month date.day)
 
 -- the number of its day, where 1970-01-01 is 0
-abbrev pub day_number : Date → ℤ
-day_number date = day_of (YMD (calendar_year date.bc date.year) date.month date.day)
+abbrev pub date_number : Date → ℤ
+date_number date = day_of (YMD (calendar_year date.bc date.year) date.month date.day)

@@ -3,8 +3,8 @@ use Rattle.std.specs.Prelude.{◌≡◌, ℕ, Bool, true, false, List, [], ◌�
 use Rattle.scan_core.specs.Fields.{IsField}
 
 -- the mark and two digits, which write a number from lo to hi
-abbrev pub IsMarked : ℕ → ℕ → ℕ → List ℕ → ℕ → Type 0
-IsMarked mark lo hi piece n =
+abbrev pub IsMarkedPair : ℕ → ℕ → ℕ → List ℕ → ℕ → Type 0
+IsMarkedPair mark lo hi piece n =
     (pair : List ℕ) × IsField 2 lo hi pair n × (piece ≡ mark ∷ pair)
 
 -- a blank and `BC` where the year is before Christ, and else nothing

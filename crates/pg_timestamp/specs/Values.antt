@@ -1,7 +1,7 @@
 -- What a timestamp is worth: a day, a time of a day, or a moment, counted from 1970-01-01 in the proleptic Gregorian calendar, as
 -- PostgreSQL counts (its manual, section 8.5, table 8.9, and appendix B.6, "History of Units"). A day has 86,400 seconds.
 use Rattle.std.specs.Prelude.{ℕ, ◌+◌, ◌*◌, ◌<◌, ⊤, ℤ, pos, neg_ℤ, unsigned_abs, ◌+ℤ◌, ◌-ℤ◌, ◌*ℤ◌, ◌<ℤ◌, ◌≤ℤ◌, Option, None, Some}
-use Rattle.pg_timestamp.specs.Dates.{IsRealDay, day_number}
+use Rattle.pg_timestamp.specs.Dates.{IsRealDate, date_number}
 use Rattle.pg_timestamp.specs.declared.time.Time.{Time}
 use Rattle.pg_timestamp.specs.declared.timestamp.Timestamp.{Timestamp}
 use Rattle.pg_timestamp.specs.declared.value.Value.{Value}
@@ -12,8 +12,8 @@ use Rattle.pg_timestamp.specs.declared.value.NoValue.TheVariants.{NoSuchMoment, 
 -- ---- real days and times
 
 -- a clock shows these fields: no hour 24, and no second 60
-abbrev pub IsOnClock : Time → Type 0
-IsOnClock time =
+abbrev pub IsClockTime : Time → Type 0
+IsClockTime time =
     (time.hour < 24) × (time.minute < 60) × (time.second < 60) × (time.micros < 1_000_000)
 
 -- less than a day, where there is an offset
@@ -24,11 +24,11 @@ IsShort (Some seconds) = unsigned_abs seconds < 86_400
 -- a clock shows the time, where there is one, and its offset is less than a day
 abbrev pub IsRealTime : Option Time → Type 0
 IsRealTime None = ⊤
-IsRealTime (Some time) = IsOnClock time × IsShort time.offset
+IsRealTime (Some time) = IsClockTime time × IsShort time.offset
 
 -- there is such a day and such a time
-abbrev pub IsReal : Timestamp → Type 0
-IsReal timestamp = IsRealDay timestamp.date × IsRealTime timestamp.time
+abbrev pub IsRealTimestamp : Timestamp → Type 0
+IsRealTimestamp timestamp = IsRealDate timestamp.date × IsRealTime timestamp.time
 
 -- ---- values
 
@@ -50,7 +50,7 @@ value_at day (Some time) = timed day (micros_of_day time) time.offset
 
 -- what the timestamp is worth
 abbrev pub value_of : Timestamp → Value
-value_of timestamp = value_at (day_number timestamp.date) timestamp.time
+value_of timestamp = value_at (date_number timestamp.date) timestamp.time
 
 -- ---- bounds
 
@@ -74,9 +74,9 @@ IsWithinBounds (Moment micros) =
 -- the value is within the bounds, and the written day isn't past the last one
 abbrev pub IsInRange : Timestamp → Type 0
 IsInRange timestamp =
-    IsWithinBounds (value_of timestamp) × (day_number timestamp.date ≤ℤ last_day)
+    IsWithinBounds (value_of timestamp) × (date_number timestamp.date ≤ℤ last_day)
 
 -- why a timestamp has no value: there is no such day or time, or else it is out of range
 abbrev pub IsRefusedBy : Timestamp → NoValue → Type 0
-IsRefusedBy timestamp NoSuchMoment = ¬ (IsReal timestamp)
-IsRefusedBy timestamp Range = IsReal timestamp × ¬ (IsInRange timestamp)
+IsRefusedBy timestamp NoSuchMoment = ¬ (IsRealTimestamp timestamp)
+IsRefusedBy timestamp Range = IsRealTimestamp timestamp × ¬ (IsInRange timestamp)

@@ -3,7 +3,7 @@ ghost use Rattle.std.specs.Prelude.{◌≡◌, ◌^◌, ◌<◌, ◌≤◌, ◌-
 ghost use Rattle.scan_core.specs.Digits.{AreDigits, number_of};
 ghost use Rattle.scan_core.specs.Fronts.{front_digits, after_digits};
 ghost use Rattle.pg_timestamp.specs.Pieces.{era_text};
-ghost use Rattle.pg_timestamp.specs.Dates.{IsYear, held_year};
+ghost use Rattle.pg_timestamp.specs.Dates.{IsLongYear, held_year};
 
 use scan_core::{digits_u32, split_digits};
 
@@ -59,9 +59,9 @@ fn year_of(digits: &[u8]) -> u16
 
 /// The year of four digits or more in front, and what follows the digits.
 pub(crate) fn split_year(text: &[u8]) -> Option<(u16, &[u8])>
-    ensures found { IfSome result (λ r. IsYear (front_digits text.now) r.0) }
+    ensures found { IfSome result (λ r. IsLongYear (front_digits text.now) r.0) }
     ensures rest { IfSome result (λ r. r.1.now ≡ after_digits text.now) }
-    ensures none { IfNone result ((year : ℕ) → ¬ (IsYear (front_digits text.now) year)) }
+    ensures none { IfNone result ((year : ℕ) → ¬ (IsLongYear (front_digits text.now) year)) }
 {
     let (digits, rest) = split_digits(text);
     if digits.len() < 4 {

@@ -2,8 +2,8 @@
 ghost use Rattle.std.specs.Prelude.{◌≡◌, ◌↔◌, ℕ, Bool, List, pos, neg_ℤ, ◌-ℤ◌, ◌≤ℤ◌, ◌≤◌, IsTrue};
 ghost use Rattle.iso8601.specs.Calendar.{day_of, Exists};
 ghost use Rattle.iso8601.specs.declared.types.Date.TheVariants.{YMD};
-ghost use Rattle.pg_timestamp.specs.Dates.{IsRealDay, calendar_year, day_number, held_year};
-ghost use Rattle.pg_timestamp.specs.Timestamps.{IsTimestamp};
+ghost use Rattle.pg_timestamp.specs.Dates.{IsRealDate, calendar_year, date_number, held_year};
+ghost use Rattle.pg_timestamp.specs.Timestamps.{IsTimestampText};
 ghost use Rattle.pg_timestamp.specs.Values.{first_day, last_day};
 ghost use Rattle.pg_timestamp.specs.Written.{IsTextOf, IsWritten};
 ghost use Rattle.pg_timestamp.specs.declared.date.Date.{Date};
@@ -16,14 +16,14 @@ use crate::{date, time, timestamp, value};
 
 /// A text is one timestamp at most.
 pub fn a_text_is_one_timestamp()
-    ensures { (text : List ℕ) (a b : Timestamp) → IsTimestamp text a → IsTimestamp text b
+    ensures { (text : List ℕ) (a b : Timestamp) → IsTimestampText text a → IsTimestampText text b
         → a ≡ b }
 {}
 
 /// The written text of a value is read as a timestamp with this value.
 pub fn texts_are_read_back()
     ensures { (value : Value) (text : List ℕ) → IsTextOf value text
-        → (t : Timestamp) × IsTimestamp text t × IsWritten value t }
+        → (t : Timestamp) × IsTimestampText text t × IsWritten value t }
 {}
 
 /// A value has one text at most.
@@ -35,7 +35,7 @@ pub fn a_value_has_one_text()
 
 /// A day is one real date's.
 pub fn a_day_has_one_date()
-    ensures { (a b : Date) → IsRealDay a → IsRealDay b → day_number a ≡ day_number b
+    ensures { (a b : Date) → IsRealDate a → IsRealDate b → date_number a ≡ date_number b
         → a ≡ b }
 {
     iso8601::laws::years_and_weeks_follow_each_other();

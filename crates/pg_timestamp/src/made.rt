@@ -2,8 +2,8 @@
 ghost use Rattle.std.specs.Prelude.{◌≡◌, ◌<◌, ◌≤◌, pos, Option};
 ghost use Rattle.jiff.specs.Words.{IsEpochDay};
 ghost use Rattle.jiff_core.specs.Date.{epoch_day};
-ghost use Rattle.pg_timestamp.specs.Dates.{IsRealDay, calendar_year, day_number};
-ghost use Rattle.pg_timestamp.specs.Values.{IsOnClock, IsWithinBounds, micros_of_day};
+ghost use Rattle.pg_timestamp.specs.Dates.{IsRealDate, calendar_year, date_number};
+ghost use Rattle.pg_timestamp.specs.Values.{IsClockTime, IsWithinBounds, micros_of_day};
 ghost use Rattle.pg_timestamp.specs.Written.{IsWritten};
 ghost use Rattle.pg_timestamp.specs.declared.value.Value.TheVariants.{Moment};
 ghost use Rattle.std.specs.Int.{int_div_euclid, int_rem_euclid};
@@ -50,8 +50,8 @@ fn dated(year: i16, month: u8, day: u8) -> Date
 /// The date of a day.
 fn date_at(day: i32) -> Date
     requires { IsEpochDay day }
-    ensures real { IsRealDay result }
-    ensures day { day_number result ≡ day }
+    ensures real { IsRealDate result }
+    ensures day { date_number result ≡ day }
     ensures held { result.year < 40_000 }
 {
     iso8601::laws::civil_dates_are_calendar_dates();
@@ -62,7 +62,7 @@ fn date_at(day: i32) -> Date
 /// The time so many microseconds after midnight.
 fn time_at(micros: u64, offset: Option<i32>) -> Time
     requires { micros < 86_400_000_000 }
-    ensures clock { IsOnClock result }
+    ensures clock { IsClockTime result }
     ensures micros { micros_of_day result ≡ micros }
     ensures offset { result.offset ≡ offset }
 {

@@ -1,12 +1,12 @@
 //! A mark and two digits.
 ghost use Rattle.std.specs.Prelude.{◌≡◌, ℕ, [], ◌∷◌, take, drop, IfSome, IfNone};
-ghost use Rattle.pg_timestamp.specs.Pieces.{IsMarked};
+ghost use Rattle.pg_timestamp.specs.Pieces.{IsMarkedPair};
 
 /// The number from `lo` to `hi` of two digits behind the mark in front, and what follows them.
 pub(crate) fn pair(text: &[u8], mark: u8, lo: u8, hi: u8) -> Option<(u8, &[u8])>
-    ensures found { IfSome result (λ r. IsMarked mark lo hi (take 3 text.now) r.0) }
+    ensures found { IfSome result (λ r. IsMarkedPair mark lo hi (take 3 text.now) r.0) }
     ensures rest { IfSome result (λ r. r.1.now ≡ drop 3 text.now) }
-    ensures none { IfNone result ((n : ℕ) → ¬ (IsMarked mark lo hi (take 3 text.now) n)) }
+    ensures none { IfNone result ((n : ℕ) → ¬ (IsMarkedPair mark lo hi (take 3 text.now) n)) }
 {
     match text {
         [m, a, b, rest @ ..] => match two(*m, *a, *b, mark, lo, hi) {
@@ -19,8 +19,8 @@ pub(crate) fn pair(text: &[u8], mark: u8, lo: u8, hi: u8) -> Option<(u8, &[u8])>
 
 /// The number from `lo` to `hi` of two digits, where the first byte is the mark.
 fn two(m: u8, a: u8, b: u8, mark: u8, lo: u8, hi: u8) -> Option<u8>
-    ensures found { IfSome result (λ n. IsMarked mark lo hi (m ∷ a ∷ b ∷ []) n) }
-    ensures none { IfNone result ((n : ℕ) → ¬ (IsMarked mark lo hi (m ∷ a ∷ b ∷ []) n)) }
+    ensures found { IfSome result (λ n. IsMarkedPair mark lo hi (m ∷ a ∷ b ∷ []) n) }
+    ensures none { IfNone result ((n : ℕ) → ¬ (IsMarkedPair mark lo hi (m ∷ a ∷ b ∷ []) n)) }
 {
     if m != mark {
         return None;

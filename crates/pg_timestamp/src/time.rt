@@ -1,7 +1,7 @@
 //! Times behind a date.
 ghost use Rattle.std.specs.Prelude.{◌≡◌, ◌^◌, ◌<◌, ◌≤◌, ◌++◌, ℕ, length, replicate, ◌-◌, IfSome, IfNone};
 ghost use Rattle.scan_core.specs.Digits.{AreDigits, number_of};
-ghost use Rattle.pg_timestamp.specs.Timestamps.{IsFraction};
+ghost use Rattle.pg_timestamp.specs.Timestamps.{IsMicrosFraction};
 ghost use Rattle.pg_timestamp.specs.inside.Places.{fraction_front, after_fraction, has_point, behind_point};
 
 use crate::offset::perhaps_offset;
@@ -25,9 +25,9 @@ pub struct Time {
 
 /// The microseconds of a point and one to six digits in front, or 0 where there is no point, and what follows.
 fn fraction(text: &[u8]) -> Option<(u32, &[u8])>
-    ensures found { IfSome result (λ r. IsFraction (fraction_front text.now) r.0) }
+    ensures found { IfSome result (λ r. IsMicrosFraction (fraction_front text.now) r.0) }
     ensures rest { IfSome result (λ r. r.1.now ≡ after_fraction text.now) }
-    ensures none { IfNone result ((micros : ℕ) → ¬ (IsFraction (fraction_front text.now) micros)) }
+    ensures none { IfNone result ((micros : ℕ) → ¬ (IsMicrosFraction (fraction_front text.now) micros)) }
 {
     let (point, rest) = split_point(text);
     if point {

@@ -1,6 +1,6 @@
 //! Timestamps, and reading them.
 ghost use Rattle.std.specs.Prelude.{Bool, Option, Some, IfSome, IfNone};
-ghost use Rattle.pg_timestamp.specs.Timestamps.{IsTimestamp};
+ghost use Rattle.pg_timestamp.specs.Timestamps.{IsTimestampText};
 ghost use Rattle.pg_timestamp.specs.inside.Places.{IsEndAt};
 ghost use Rattle.pg_timestamp.specs.declared.time.Time.{Time as TimeValue};
 ghost use Rattle.pg_timestamp.specs.declared.timestamp.Timestamp.{Timestamp as TimestampValue};
@@ -45,8 +45,8 @@ fn timed_end(text: &[u8]) -> Option<(Option<Time>, bool)>
 ///
 /// A day that its month lacks, year 0, hour 24, second 60 and an offset of 24 hours are read, and have no value.
 pub fn read(text: &[u8]) -> Option<Timestamp>
-    ensures found { IfSome result (IsTimestamp text.now) }
-    ensures none { IfNone result ((t : TimestampValue) → ¬ (IsTimestamp text.now t)) }
+    ensures found { IfSome result (IsTimestampText text.now) }
+    ensures none { IfNone result ((t : TimestampValue) → ¬ (IsTimestampText text.now t)) }
 {
     let (year, rest) = split_year(text)?;
     let (month, rest) = pair(rest, b'-', 1, 12)?;

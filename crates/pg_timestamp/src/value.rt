@@ -3,8 +3,8 @@ ghost use Rattle.std.specs.Prelude.{◌≡◌, ◌↔◌, ◌+◌, ◌*◌, ◌<
 ghost use Rattle.jiff.specs.Words.{IsBetween};
 ghost use Rattle.iso8601.specs.Calendar.{IsCivilDay};
 ghost use Rattle.iso8601.specs.declared.types.Date.TheVariants.{YMD};
-ghost use Rattle.pg_timestamp.specs.Dates.{IsRealDay, calendar_year, day_number};
-ghost use Rattle.pg_timestamp.specs.Values.{IsOnClock, IsShort, IsRealTime, micros_of_day, timed, value_at};
+ghost use Rattle.pg_timestamp.specs.Dates.{IsRealDate, calendar_year, date_number};
+ghost use Rattle.pg_timestamp.specs.Values.{IsClockTime, IsShort, IsRealTime, micros_of_day, timed, value_at};
 
 use crate::date::Date;
 use crate::time::Time;
@@ -53,7 +53,7 @@ fn calendar_date(date: &Date) -> iso8601::Date
 
 /// Whether there is such a day.
 pub(crate) fn is_real_day(date: &Date) -> bool
-    ensures { IsTrue result ↔ IsRealDay date.now }
+    ensures { IsTrue result ↔ IsRealDate date.now }
 {
     if date.year == 0 {
         return false;
@@ -63,9 +63,9 @@ pub(crate) fn is_real_day(date: &Date) -> bool
 
 /// The number of a day, or `None` exactly where it isn't a civil one.
 pub(crate) fn civil_day(date: &Date) -> Option<i32>
-    requires { IsRealDay date.now }
-    ensures some { IsSome result ↔ IsCivilDay (day_number date.now) }
-    ensures value { IfSome result (λ day. day ≡ day_number date.now) }
+    requires { IsRealDate date.now }
+    ensures some { IsSome result ↔ IsCivilDay (date_number date.now) }
+    ensures value { IfSome result (λ day. day ≡ date_number date.now) }
 {
     let day = calendar_date(date).into_naive()?;
     Some(day.to_plain().to_unix_epoch_day())
@@ -73,7 +73,7 @@ pub(crate) fn civil_day(date: &Date) -> Option<i32>
 
 /// Whether a clock shows the time.
 fn is_on_clock(time: &Time) -> bool
-    ensures { IsTrue result ↔ IsOnClock time.now }
+    ensures { IsTrue result ↔ IsClockTime time.now }
 {
     time.hour < 24 && time.minute < 60 && time.second < 60 && time.micros < 1_000_000
 }
@@ -100,7 +100,7 @@ pub(crate) fn is_real_time(time: &Option<Time>) -> bool
 
 /// Microseconds since midnight.
 fn micros_of_day(time: &Time) -> u64
-    requires { IsOnClock time.now }
+    requires { IsClockTime time.now }
     ensures value { result ≡ micros_of_day time.now }
     ensures bound { result < 86_400_000_000 }
 {

@@ -3,7 +3,7 @@ ghost use Rattle.std.specs.Prelude.{◌≡◌, ◌+◌, ◌<◌, ◌≤◌, ◌+
 ghost use Rattle.arrayvec.specs.ArrayString.{array_string_len};
 ghost use Rattle.scan_core.specs.Padded.{padded_digits};
 ghost use Rattle.pg_timestamp.specs.Pieces.{era_text};
-ghost use Rattle.pg_timestamp.specs.Written.{clock_text, date_text, fraction_text, offset_text, time_text, timestamp_text};
+ghost use Rattle.pg_timestamp.specs.Written.{blank_time_text, year_first_text, micros_text, zone_text, perhaps_time_text, timestamp_text};
 
 use crate::date::Date;
 use crate::made::timestamp_of;
@@ -36,10 +36,10 @@ fn push_year<const CAP: usize>(out: &mut ArrayString<CAP>, year: u16)
 }
 
 /// A date without its era.
-#[tactic(auto, unfolding(crate::specs::Written::date_text))]
+#[tactic(auto, unfolding(crate::specs::Written::year_first_text))]
 fn push_date<const CAP: usize>(out: &mut ArrayString<CAP>, date: &Date)
     requires room { array_string_len out.old + 13 ≤ CAP }
-    ensures bytes { out.new.bytes ≡ out.old.bytes ++ date_text date.now }
+    ensures bytes { out.new.bytes ≡ out.old.bytes ++ year_first_text date.now }
     ensures len { array_string_len out.new ≤ array_string_len out.old + 13 }
 {
     push_year(out, date.year);
@@ -48,10 +48,10 @@ fn push_date<const CAP: usize>(out: &mut ArrayString<CAP>, date: &Date)
 }
 
 /// A point and the digits of a fraction, or nothing.
-#[tactic(auto, using(scan_core::proofs::DigitFacts::length_decimal_u32), unfolding(crate::specs::Written::fraction_text))]
+#[tactic(auto, using(scan_core::proofs::DigitFacts::length_decimal_u32), unfolding(crate::specs::Written::micros_text))]
 fn push_fraction<const CAP: usize>(out: &mut ArrayString<CAP>, micros: u32)
     requires room { array_string_len out.old + 11 ≤ CAP }
-    ensures bytes { out.new.bytes ≡ out.old.bytes ++ fraction_text micros }
+    ensures bytes { out.new.bytes ≡ out.old.bytes ++ micros_text micros }
     ensures len { array_string_len out.new ≤ array_string_len out.old + 11 }
 {
     if micros != 0 {
@@ -63,7 +63,7 @@ fn push_fraction<const CAP: usize>(out: &mut ArrayString<CAP>, micros: u32)
 /// The offset of UTC, or nothing.
 fn push_offset<const CAP: usize>(out: &mut ArrayString<CAP>, offset: Option<i32>)
     requires room { array_string_len out.old + 3 ≤ CAP }
-    ensures bytes { out.new.bytes ≡ out.old.bytes ++ offset_text offset }
+    ensures bytes { out.new.bytes ≡ out.old.bytes ++ zone_text offset }
     ensures len { array_string_len out.new ≤ array_string_len out.old + 3 }
 {
     if offset.is_some() {
@@ -72,10 +72,10 @@ fn push_offset<const CAP: usize>(out: &mut ArrayString<CAP>, offset: Option<i32>
 }
 
 /// A time.
-#[tactic(auto, unfolding(crate::specs::Written::clock_text))]
+#[tactic(auto, unfolding(crate::specs::Written::blank_time_text))]
 fn push_clock<const CAP: usize>(out: &mut ArrayString<CAP>, time: &Time)
     requires room { array_string_len out.old + 26 ≤ CAP }
-    ensures bytes { out.new.bytes ≡ out.old.bytes ++ clock_text time.now }
+    ensures bytes { out.new.bytes ≡ out.old.bytes ++ blank_time_text time.now }
     ensures len { array_string_len out.new ≤ array_string_len out.old + 26 }
 {
     push_pair(out, " ", time.hour);
@@ -88,7 +88,7 @@ fn push_clock<const CAP: usize>(out: &mut ArrayString<CAP>, time: &Time)
 /// A time, or nothing.
 fn push_time<const CAP: usize>(out: &mut ArrayString<CAP>, time: &Option<Time>)
     requires room { array_string_len out.old + 26 ≤ CAP }
-    ensures bytes { out.new.bytes ≡ out.old.bytes ++ time_text time.now }
+    ensures bytes { out.new.bytes ≡ out.old.bytes ++ perhaps_time_text time.now }
     ensures len { array_string_len out.new ≤ array_string_len out.old + 26 }
 {
     if let Some(time) = time {

@@ -2,9 +2,9 @@
 use Rattle.std.specs.Prelude.{◌≡◌, ℕ, ◌+◌, ◌*◌, ◌==◌, ◌||◌, Bool, false, List, [], ◌∷◌, take, drop, if◌then◌else◌, Option, Some, None, ℤ}
 use Rattle.scan_core.specs.Fronts.{front_digits, after_digits, NoDigitFirst, BeginsWithout}
 use Rattle.scan_core.specs.Shares.{signed}
-use Rattle.pg_timestamp.specs.Pieces.{IsMarked, era_text}
-use Rattle.pg_timestamp.specs.Dates.{IsYear}
-use Rattle.pg_timestamp.specs.Timestamps.{IsFraction, IsMore, sign_of}
+use Rattle.pg_timestamp.specs.Pieces.{IsMarkedPair, era_text}
+use Rattle.pg_timestamp.specs.Dates.{IsLongYear}
+use Rattle.pg_timestamp.specs.Timestamps.{IsMicrosFraction, IsMore, sign_of}
 use Rattle.pg_timestamp.specs.declared.time.Time.{Time}
 use Rattle.pg_timestamp.specs.declared.timestamp.Timestamp.{Timestamp}
 
@@ -47,7 +47,7 @@ pub record IsOffsetAt (text : List ℕ) (seconds : ℤ) : Type 0 where
   pub hour : ℕ
   pub minute : ℕ
   pub second : ℕ
-  pub hours : IsMarked (sign_of negative) 0 24 (take 3 text) hour
+  pub hours : IsMarkedPair (sign_of negative) 0 24 (take 3 text) hour
   pub minutes : IsMore (more_front (drop 3 text)) minute
   pub seconds_are : IsMore (more_front (after_more (drop 3 text))) second
   pub value : seconds ≡ signed negative ((hour * 60 + minute) * 60 + second)
@@ -76,10 +76,10 @@ pub record EndsTime (rest : List ℕ) : Type 0 where
 
 -- the parts of a time in front of a text
 pub record AreTimeAt (text : List ℕ) (time : Time) : Type 0 where
-  pub hours : IsMarked 32 0 24 (take 3 text) time.hour
-  pub minutes : IsMarked 58 0 59 (take 3 (drop 3 text)) time.minute
-  pub seconds : IsMarked 58 0 60 (take 3 (drop 3 (drop 3 text))) time.second
-  pub fraction : IsFraction (fraction_front (drop 3 (drop 3 (drop 3 text)))) time.micros
+  pub hours : IsMarkedPair 32 0 24 (take 3 text) time.hour
+  pub minutes : IsMarkedPair 58 0 59 (take 3 (drop 3 text)) time.minute
+  pub seconds : IsMarkedPair 58 0 60 (take 3 (drop 3 (drop 3 text))) time.second
+  pub fraction : IsMicrosFraction (fraction_front (drop 3 (drop 3 (drop 3 text)))) time.micros
   pub offset : IsPerhapsOffsetAt (after_fraction (drop 3 (drop 3 (drop 3 text)))) time.offset
 
 -- what follows a time
@@ -93,7 +93,7 @@ IsEndAt text (Some time) bc = AreTimeAt text time × (after_time text ≡ era_te
 
 -- the parts of a timestamp
 pub record AreAt (text : List ℕ) (timestamp : Timestamp) : Type 0 where
-  pub years : IsYear (front_digits text) timestamp.date.year
-  pub months : IsMarked 45 1 12 (take 3 (after_digits text)) timestamp.date.month
-  pub days : IsMarked 45 1 31 (take 3 (drop 3 (after_digits text))) timestamp.date.day
+  pub years : IsLongYear (front_digits text) timestamp.date.year
+  pub months : IsMarkedPair 45 1 12 (take 3 (after_digits text)) timestamp.date.month
+  pub days : IsMarkedPair 45 1 31 (take 3 (drop 3 (after_digits text))) timestamp.date.day
   pub end : IsEndAt (drop 3 (drop 3 (after_digits text))) timestamp.time timestamp.date.bc
