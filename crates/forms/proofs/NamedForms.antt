@@ -5,15 +5,14 @@ use Rattle.std.proofs.lemmas.Bool.{and_parts}
 use Rattle.std.specs.Str.{bytes_eq}
 use Rattle.forms.specs.declared.form.Form.{Form}
 use Rattle.forms.specs.declared.form.Form.TheVariants.{FileTime, IsoDateTime, IsoDate, IsoDuration, Toml, Fancy, PgIso, Postgres, PgVerbose}
-use Rattle.forms.specs.declared.form.Form.TheVariants.{PgSql, IsoStrict, Unix}
+use Rattle.forms.specs.declared.form.Form.TheVariants.{PgSql, IsoStrict, Unix, PgTimestamp}
 use Rattle.forms.specs.Names.{name_of}
 
 -- all forms
 abbrev pub forms : List Form
 forms =
     FileTime ∷ IsoDateTime ∷ IsoDate ∷ IsoDuration ∷ Toml ∷ Fancy ∷ PgIso ∷ Postgres ∷ PgVerbose ∷ PgSql ∷ IsoStrict
-    ∷ Unix
-    ∷ []
+    ∷ Unix ∷ PgTimestamp ∷ []
 
 -- the first of these forms with the name
 abbrev form_named : List ℕ → List Form → Option Form
@@ -33,6 +32,7 @@ finds_form PgVerbose = refl
 finds_form PgSql = refl
 finds_form IsoStrict = refl
 finds_form Unix = refl
+finds_form PgTimestamp = refl
 
 pub one_form : (f g : Form) → name_of f ≡ name_of g → f ≡ g
 one_form f g same =

@@ -10,12 +10,13 @@ use Rattle.iso8601.specs.WrittenDurations.{duration_text}
 use Rattle.nt_time.specs.Text.{IsTextOf}
 use Rattle.port_toml_datetime.specs.Datetimes.{IsDatetime}
 use Rattle.port_toml_datetime.specs.Texts.{text_of}
+use Rattle.pg_timestamp.specs.Timestamps.{IsTimestampText}
 use Rattle.pg_interval_2.specs.Styles.{Shape, style_text}
 use Rattle.pg_interval_2.specs.declared.style.Style.TheVariants as style
 use Rattle.forms.specs.declared.cause.Cause.{Cause}
 use Rattle.forms.specs.declared.form.Form.{Form}
 use Rattle.forms.specs.declared.form.Form.TheVariants.{FileTime, IsoDateTime, IsoDate, IsoDuration, Toml, Fancy, PgIso, Postgres, PgVerbose}
-use Rattle.forms.specs.declared.form.Form.TheVariants.{PgSql, IsoStrict, Unix}
+use Rattle.forms.specs.declared.form.Form.TheVariants.{PgSql, IsoStrict, Unix, PgTimestamp}
 use Rattle.forms.specs.declared.value.Value.{Value}
 use Rattle.forms.specs.Answers.{Is, ReadsBy, WritesBy}
 use Rattle.forms.specs.form.FileTime as file_time
@@ -26,6 +27,7 @@ use Rattle.forms.specs.form.Toml as toml
 use Rattle.forms.specs.form.Fancy as fancy
 use Rattle.forms.specs.form.Unix as unix
 use Rattle.forms.specs.form.Intervals as interval
+use Rattle.forms.specs.form.PgTimestamp as pg_timestamp
 
 -- what a text stands for in the form: a value, or the cause why it is none
 abbrev pub Reads : Form → List ℕ → Result Value Cause → Type 0
@@ -41,6 +43,7 @@ Reads PgVerbose = ReadsBy (Shape style.Verbose) (Is interval.worth)
 Reads PgSql = ReadsBy (Shape style.Sql) (Is interval.worth)
 Reads IsoStrict = ReadsBy (Shape style.IsoStrict) (Is interval.worth)
 Reads Unix = ReadsBy unix.Spells (Is unix.worth)
+Reads PgTimestamp = ReadsBy IsTimestampText pg_timestamp.Worth
 
 -- the written text of a value in the form, or the cause why there is none
 abbrev pub Writes : Form → Value → Result (List ℕ) Cause → Type 0
@@ -56,3 +59,4 @@ Writes PgVerbose = WritesBy (Is interval.held) (style_text style.Verbose)
 Writes PgSql = WritesBy (Is interval.held) (style_text style.Sql)
 Writes IsoStrict = WritesBy (Is interval.held) (style_text style.IsoStrict)
 Writes Unix = WritesBy (Is unix.held) unix.unix_text
+Writes PgTimestamp = WritesBy pg_timestamp.Holds (λ text. text)

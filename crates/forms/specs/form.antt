@@ -7,3 +7,4 @@ pub mod Toml
 pub mod Fancy
 pub mod Intervals
 pub mod Unix
+pub mod PgTimestamp

@@ -11,6 +11,7 @@ pub mod intervals;
 pub mod iso_date;
 pub mod iso_date_time;
 pub mod iso_duration;
+pub mod timestamps;
 pub mod toml;
 pub mod unix;
 
@@ -43,6 +44,8 @@ pub enum Form {
     IsoStrict,
     /// Unix time, the seconds since 1970 with at most nine digits behind the point: `1796167471.051677`.
     Unix,
+    /// PostgreSQL's timestamps, with an offset, without one, or a day alone: `2026-12-01 23:24:31.051677+00`.
+    PgTimestamp,
 }
 
 impl Form {
@@ -92,6 +95,9 @@ impl Form {
         }
         if let Some(rest) = Form::PgSql.after_name(text) {
             return Some((Form::PgSql, rest));
+        }
+        if let Some(rest) = Form::PgTimestamp.after_name(text) {
+            return Some((Form::PgTimestamp, rest));
         }
         None
     }
@@ -165,6 +171,7 @@ impl Form {
             Form::PgSql => "PgSql",
             Form::IsoStrict => "IsoStrict",
             Form::Unix => "Unix",
+            Form::PgTimestamp => "PgTimestamp",
         }
     }
 

@@ -11,7 +11,8 @@ ghost use Rattle.forms.specs.Values.{IsWithinBounds};
 
 use crate::cause::Cause;
 use crate::form::{
-    Form, fancy, file_time, intervals, iso_date, iso_date_time, iso_duration, toml, unix,
+    Form, fancy, file_time, intervals, iso_date, iso_date_time, iso_duration, timestamps, toml,
+    unix,
 };
 use crate::laws;
 use arrayvec::ArrayString;
@@ -82,6 +83,7 @@ fn read(form: Form, text: &str) -> Result<Value, Cause>
         Form::Toml => toml::read(text),
         Form::Fancy => fancy::read(text),
         Form::Unix => unix::read(text),
+        Form::PgTimestamp => timestamps::read(text),
         _ => read_alone::<Brand>(form, &Looked::new(text), Blank::new(1)),
     }
 }
@@ -155,5 +157,6 @@ pub fn push_value<const CAP: usize>(
         Form::PgSql => intervals::push(Style::Sql, value, out),
         Form::IsoStrict => intervals::push(Style::IsoStrict, value, out),
         Form::Unix => unix::push(value, out),
+        Form::PgTimestamp => timestamps::push(value, out),
     }
 }

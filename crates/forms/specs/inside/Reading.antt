@@ -2,7 +2,7 @@
 use Rattle.std.specs.Prelude.{◌≡◌, ℕ, ⊤, List, [], ◌∷◌, ◌++◌, codes, Option, Some, None}
 use Rattle.forms.specs.declared.form.Form.{Form}
 use Rattle.forms.specs.declared.form.Form.TheVariants.{FileTime, IsoDateTime, IsoDate, IsoDuration, Toml, Fancy, PgIso, Postgres, PgVerbose}
-use Rattle.forms.specs.declared.form.Form.TheVariants.{PgSql, IsoStrict, Unix}
+use Rattle.forms.specs.declared.form.Form.TheVariants.{PgSql, IsoStrict, Unix, PgTimestamp}
 use Rattle.forms.specs.Names.{name_of}
 use Rattle.forms.specs.Buffers.{IsReplyLine}
 
@@ -23,7 +23,7 @@ HasNoneOf (form ∷ forms) text =
 
 -- the forms by the first letter of their names: P, I, another
 abbrev pub by_p : List Form
-by_p = PgIso ∷ Postgres ∷ PgVerbose ∷ PgSql ∷ []
+by_p = PgIso ∷ Postgres ∷ PgVerbose ∷ PgSql ∷ PgTimestamp ∷ []
 
 abbrev pub by_i : List Form
 by_i = IsoDateTime ∷ IsoDuration ∷ IsoDate ∷ IsoStrict ∷ []
