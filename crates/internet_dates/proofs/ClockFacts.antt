@@ -4,7 +4,7 @@ use Rattle.std.proofs.Common.{append_assoc, inl, inr}
 use Rattle.std.proofs.lemmas.Bool.{eqb-true}
 use Rattle.std.proofs.lemmas.Option.{some_pair_parts, option_and_then_some}
 use Rattle.scan_core.specs.Fields.{IsField}
-use Rattle.internet_dates.specs.Fields.{IsClock, IsShortClock}
+use Rattle.internet_dates.specs.Fields.{IsFullClock, IsShortClock}
 use Rattle.internet_dates.specs.declared.fields.Clock.{Clock}
 use Rattle.internet_dates.specs.inside.Reading.{clock_made, read_clock, read_two, read_seconds, read_mail_clock}
 use Rattle.internet_dates.proofs.Readers.{pair_sound, pair_exact, two_sound, two_exact}
@@ -15,7 +15,7 @@ clock_joins h m s rest = simp append_assoc refl
 short_joins : (h m rest : List ℕ) → h ++ (58 ∷ (m ++ rest)) ≡ (h ++ (58 ∷ m)) ++ rest
 short_joins h m rest = simp append_assoc refl
 
-pub clock_exact : (text rest : List ℕ) (h m s : ℕ) → IsClock text h m s → read_clock (32 ∷ (text ++ rest)) ≡ Some (clock_made h m s, rest)
+pub clock_exact : (text rest : List ℕ) (h m s : ℕ) → IsFullClock text h m s → read_clock (32 ∷ (text ++ rest)) ≡ Some (clock_made h m s, rest)
 unfolding read_clock
 clock_exact text rest h m s c =
     let split : text ++ rest ≡ c.hour_text ++ (58 ∷ (c.minute_text ++ (58 ∷ (c.second_text ++ rest)))) =
@@ -26,7 +26,7 @@ clock_exact text rest h m s c =
     rw (split, hours, minutes, seconds) refl
 
 pub clock_sound : (bytes rest : List ℕ) (c : Clock) → read_clock bytes ≡ Some (c, rest)
-    → (text : List ℕ) × IsClock text c.hour c.minute c.second × (bytes ≡ 32 ∷ (text ++ rest))
+    → (text : List ℕ) × IsFullClock text c.hour c.minute c.second × (bytes ≡ 32 ∷ (text ++ rest))
 unfolding read_clock
 clock_sound bytes rest c h =
     option_and_then_some _ _ _ h (λ x found_hour body. option_and_then_some _ _ _ body
@@ -36,7 +36,7 @@ clock_sound bytes rest c h =
     let seconds = pair_sound 58 0 60 y.1 z.1 z.0 found_second in
     let parts = some_pair_parts _ _ _ _ ready in
     let text : List ℕ = hours.0 ++ (58 ∷ (minutes.0 ++ (58 ∷ seconds.0))) in
-    let P : Clock → Type 0 = λ v. IsClock text v.hour v.minute v.second in
+    let P : Clock → Type 0 = λ v. IsFullClock text v.hour v.minute v.second in
     let clock : P (clock_made x.0 y.0 z.0) = record {
       hour_text = hours.0;
       minute_text = minutes.0;
@@ -56,7 +56,7 @@ clock_sound bytes rest c h =
 -- ---- perhaps without seconds
 
 abbrev pub IsMailClock : List ℕ → ℕ → ℕ → ℕ → Type 0
-IsMailClock text h m s = IsClock text h m s ⊎ IsShortClock text h m s
+IsMailClock text h m s = IsFullClock text h m s ⊎ IsShortClock text h m s
 
 abbrev AreSeconds : List ℕ → List ℕ → ℕ → Type 0
 AreSeconds bytes rest n = ((text : List ℕ) × IsField 2 0 60 text n × (bytes ≡ 58 ∷ (text ++ rest))) ⊎ ((n ≡ 0) × (bytes ≡ rest))

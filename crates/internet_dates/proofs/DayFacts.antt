@@ -11,7 +11,7 @@ use Rattle.jiff_core.proofs.SignedLemmas.{signed_arith}
 use Rattle.scan_core.specs.Calendar.{days_in_month}
 use Rattle.iso8601.specs.Calendar.{after_monday, day_of, Exists, IsCivilDay}
 use Rattle.iso8601.specs.declared.types.Date.TheVariants.{YMD}
-use Rattle.internet_dates.specs.DateTimes.{day_number, clock_of, IsReal, IsAt}
+use Rattle.internet_dates.specs.DateTimes.{number_of_day, clock_of, IsRealMoment, IsNamedDateAt}
 use Rattle.internet_dates.specs.declared.date_time.DateTime.{DateTime}
 use Rattle.internet_dates.specs.inside.Days.{IsDay}
 
@@ -109,26 +109,26 @@ remainder : (day seconds : ℤ) (clock : ℕ) → clock < 86_400 → (day *ℤ p
     → pos clock ≡ int_rem_euclid seconds (pos 86_400)
 remainder day seconds clock small same = omega (arith, signed_arith)
 
-at_utc : (first : ℕ) (seconds : ℤ) (t : DateTime) → IsAt first seconds t
-    → (day_number t *ℤ pos 86_400 +ℤ pos (clock_of t)) -ℤ pos 0 *ℤ pos 60 ≡ seconds
-at_utc first seconds t is = ap (λ (z : ℤ). (day_number t *ℤ pos 86_400 +ℤ pos (clock_of t)) -ℤ z *ℤ pos 60) (sym is.utc) ∙ is.same
+at_utc : (first : ℕ) (seconds : ℤ) (t : DateTime) → IsNamedDateAt first seconds t
+    → (number_of_day t *ℤ pos 86_400 +ℤ pos (clock_of t)) -ℤ pos 0 *ℤ pos 60 ≡ seconds
+at_utc first seconds t is = ap (λ (z : ℤ). (number_of_day t *ℤ pos 86_400 +ℤ pos (clock_of t)) -ℤ z *ℤ pos 60) (sym is.utc) ∙ is.same
 
-clock_small : (t : DateTime) → IsReal t → clock_of t < 86_400
+clock_small : (t : DateTime) → IsRealMoment t → clock_of t < 86_400
 clock_small t r = clock_bound t.hour t.minute t.second r.hour r.minute r.second
 
-pub day_at : (first : ℕ) (seconds : ℤ) (t : DateTime) → IsAt first seconds t
+pub day_at : (first : ℕ) (seconds : ℤ) (t : DateTime) → IsNamedDateAt first seconds t
     → IsDay first (int_div_euclid seconds (pos 86_400)) t.year t.month t.day
 day_at first seconds t is = record {
   least = is.least;
   most = is.real.year;
   real = is.real.day;
-  same = quotient (day_number t) seconds (clock_of t) (clock_small t is.real) (at_utc first seconds t is);
+  same = quotient (number_of_day t) seconds (clock_of t) (clock_small t is.real) (at_utc first seconds t is);
 }
 
 pub at_is : (first : ℕ) (seconds number : ℤ) (y m d clock h n s w : ℕ) → number ≡ int_div_euclid seconds (pos 86_400)
     → pos clock ≡ int_rem_euclid seconds (pos 86_400)
     → IsDay first number y m d → (h * 60 + n) * 60 + s ≡ clock → (h < 24) × (n < 60) × (s < 60) → pos w ≡ after_monday number
-    → IsAt first seconds (record { weekday = Some w; year = y; month = m; day = d; hour = h; minute = n; second = s; offset = pos 0 })
+    → IsNamedDateAt first seconds (record { weekday = Some w; year = y; month = m; day = d; hour = h; minute = n; second = s; offset = pos 0 })
 at_is first seconds number y m d clock h n s w quotient_is rest_is day time shown name =
     let same = day.same in
     let whole : (day_of (YMD (pos y) m d) *ℤ pos 86_400 +ℤ pos ((h * 60 + n) * 60 + s)) -ℤ pos 0 *ℤ pos 60 ≡ seconds =
@@ -184,23 +184,24 @@ same_date days first number y m d z n e a b =
     let years = parts.0 in
     (omega (arith, ints), parts.1, parts.2)
 
-pub one_date_time : SameDays → (first : ℕ) (seconds : ℤ) (a b : DateTime) → IsAt first seconds a → IsAt first seconds b → a ≡ b
+pub one_date_time : SameDays → (first : ℕ) (seconds : ℤ) (a b : DateTime) → IsNamedDateAt first seconds a
+    → IsNamedDateAt first seconds b → a ≡ b
 one_date_time days first seconds a b at here =
     let number = int_div_euclid seconds (pos 86_400) in
     let date =
     same_date days first number a.year a.month a.day b.year b.month b.day (day_at first seconds a at) (day_at first seconds b here) in
     let clocks : pos (clock_of a) ≡ pos (clock_of b) =
-    remainder (day_number a) seconds (clock_of a) (clock_small a at.real) (at_utc first seconds a at)
-    ∙ sym (remainder (day_number b) seconds (clock_of b) (clock_small b here.real) (at_utc first seconds b here)) in
+    remainder (number_of_day a) seconds (clock_of a) (clock_small a at.real) (at_utc first seconds a at)
+    ∙ sym (remainder (number_of_day b) seconds (clock_of b) (clock_small b here.real) (at_utc first seconds b here)) in
     let clock = same_clock a.hour a.minute a.second b.hour b.minute b.second at.real.minute at.real.second here.real.minute here.real.second
     (omega (arith, ints)) in
-    let day : day_number a ≡ day_number b = (day_at first seconds a at).same ∙ sym (day_at first seconds b here).same in
-    let name = same_name a.weekday b.weekday (day_number a) (day_number b) at.named here.named at.real.name here.real.name day in
+    let day : number_of_day a ≡ number_of_day b = (day_at first seconds a at).same ∙ sym (day_at first seconds b here).same in
+    let name = same_name a.weekday b.weekday (number_of_day a) (number_of_day b) at.named here.named at.real.name here.real.name day in
     let offset = at.utc ∙ sym here.utc in
     let same : made a.weekday a.year a.month a.day a.hour a.minute a.second a.offset
     ≡ made b.weekday b.year b.month b.day b.hour b.minute b.second b.offset =
     rw (name, date.0, date.1, date.2, clock.0, clock.1, clock.2, offset) refl in
     same
 
-pub name_small : (t : DateTime) → IsReal t → IfSome t.weekday (λ w. w < 7)
-name_small t r = named_small t.weekday (day_number t) r.name
+pub name_small : (t : DateTime) → IsRealMoment t → IfSome t.weekday (λ w. w < 7)
+name_small t r = named_small t.weekday (number_of_day t) r.name

@@ -1,7 +1,7 @@
 -- What is found of a text, and what it is judged as.
 use Rattle.std.proofs.Common.{◌≡◌, ◌≢◌, ℕ, ◌<◌, ◌≤◌, ℤ, List, Option, Some, None, Result, Ok, Err, refl, sym, ◌∙◌}
 use Rattle.std.specs.Prelude.{IfSome, IfNone, IfOk}
-use Rattle.internet_dates.specs.DateTimes.{IsReal, seconds_of}
+use Rattle.internet_dates.specs.DateTimes.{IsRealMoment, seconds_of}
 use Rattle.internet_dates.specs.Readings.{IsRead}
 use Rattle.internet_dates.specs.declared.date_time.DateTime.{DateTime}
 use Rattle.internet_dates.specs.declared.error.DateError.{DateError}
@@ -17,9 +17,9 @@ none_of (Some x) f P e h = tt
 
 pub read_as : (Spells : List ℕ → DateTime → Type 0) (first : ℕ) (text : List ℕ) (t : DateTime) (answer : Result ℤ DateError) → Spells text t
     → answer ≢ Err Syntax
-    → IfOk answer (λ seconds. IsReal t × (first ≤ t.year) × (seconds ≡ seconds_of t))
-    → (answer ≡ Err NoSuchMoment → IsReal t → ⊥)
-    → (answer ≡ Err Range → IsReal t × (t.year < first))
+    → IfOk answer (λ seconds. IsRealMoment t × (first ≤ t.year) × (seconds ≡ seconds_of t))
+    → (answer ≡ Err NoSuchMoment → IsRealMoment t → ⊥)
+    → (answer ≡ Err Range → IsRealMoment t × (t.year < first))
     → IsRead Spells first text answer
 read_as Spells first text t (Ok seconds) spelled syntax ok unreal range = (t, spelled, ok.0, ok.1, ok.2)
 read_as Spells first text t (Err Syntax) spelled syntax ok unreal range = absurd (syntax refl)

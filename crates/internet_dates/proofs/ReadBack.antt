@@ -6,12 +6,12 @@ use Rattle.scan_core.specs.Padded.{padded_digits}
 use Rattle.scan_core.proofs.PaddedFacts.{padded_field}
 use Rattle.iso8601.specs.Calendar.{after_monday}
 use Rattle.internet_dates.specs.Names.{day_name, month_name}
-use Rattle.internet_dates.specs.Fields.{IsClock}
-use Rattle.internet_dates.specs.DateTimes.{day_number, seconds_of, IsReal, IsAt}
+use Rattle.internet_dates.specs.Fields.{IsFullClock}
+use Rattle.internet_dates.specs.DateTimes.{number_of_day, seconds_of, IsRealMoment, IsNamedDateAt}
 use Rattle.internet_dates.specs.HttpDate.{IsHttpDate}
 use Rattle.internet_dates.specs.MailDate.{IsZone, IsMailDate}
 use Rattle.internet_dates.specs.Readings.{IsRead}
-use Rattle.internet_dates.specs.Written.{weekday_text, clock_text, date_text, moment_text, http_date_text, mail_date_text}
+use Rattle.internet_dates.specs.Written.{weekday_text, full_clock_text, named_date_text, moment_text, http_date_text, mail_date_text}
 use Rattle.internet_dates.specs.declared.date_time.DateTime.{DateTime}
 use Rattle.internet_dates.specs.declared.error.DateError.{DateError}
 use Rattle.internet_dates.specs.declared.error.DateError.TheVariants.{Syntax, NoSuchMoment, Range}
@@ -19,8 +19,8 @@ use Rattle.internet_dates.proofs.DayFacts.{weekday_small}
 use Rattle.internet_dates.proofs.WrittenFacts.{most_days}
 
 clock_spelled : (hour minute second : ℕ) → hour < 24 → minute < 60 → second < 60
-    → IsClock (clock_text hour minute second) hour minute second
-unfolding clock_text
+    → IsFullClock (full_clock_text hour minute second) hour minute second
+unfolding full_clock_text
 clock_spelled hour minute second h m s = record {
   hour_text = padded_digits 2 hour;
   minute_text = padded_digits 2 minute;
@@ -37,19 +37,19 @@ moment_joins : (a b c d e f : List ℕ)
 moment_joins a b c d e f = simp append_assoc refl
 
 -- the name of the day, which is there
-named_by : (name : Option ℕ) (t : DateTime) → IsSome name → IfSome name (λ w. pos w ≡ after_monday (day_number t))
+named_by : (name : Option ℕ) (t : DateTime) → IsSome name → IfSome name (λ w. pos w ≡ after_monday (number_of_day t))
     → (weekday : ℕ) × (weekday < 7) × (name ≡ Some weekday) × (weekday_text name ≡ day_name weekday)
 named_by None t some h = absurd cc
-named_by (Some w) t some h = (w, weekday_small w (day_number t) h, refl, refl)
+named_by (Some w) t some h = (w, weekday_small w (number_of_day t) h, refl, refl)
 
-pub http_spelled : (t : DateTime) → IsReal t → IsSome t.weekday → t.offset ≡ pos 0 → IsHttpDate (http_date_text t) t
-unfolding moment_text date_text
+pub http_spelled : (t : DateTime) → IsRealMoment t → IsSome t.weekday → t.offset ≡ pos 0 → IsHttpDate (http_date_text t) t
+unfolding moment_text named_date_text
 http_spelled t r some utc =
     let name = named_by t.weekday t some r.name in
     let day = most_days t r in
     let date = r.day in
     let year = r.year in
-    let clock = clock_text t.hour t.minute t.second in
+    let clock = full_clock_text t.hour t.minute t.second in
     let joined =
     moment_joins (weekday_text t.weekday) (padded_digits 2 t.day) (month_name t.month) (padded_digits 4 t.year) clock (codes " GMT") in
     inl (record {
@@ -87,14 +87,14 @@ mail_joins : (a b c d e : List ℕ)
     ≡ (a ++ codes ", ") ++ (b ++ (codes " " ++ (c ++ (codes " " ++ (d ++ (codes " " ++ (e ++ (codes " " ++ (codes "+0000" ++ [])))))))))
 mail_joins a b c d e = simp append_assoc refl
 
-pub mail_spelled : (t : DateTime) → IsReal t → IsSome t.weekday → t.offset ≡ pos 0 → IsMailDate (mail_date_text t) t
-unfolding moment_text date_text
+pub mail_spelled : (t : DateTime) → IsRealMoment t → IsSome t.weekday → t.offset ≡ pos 0 → IsMailDate (mail_date_text t) t
+unfolding moment_text named_date_text
 mail_spelled t r some utc =
     let name = named_by t.weekday t some r.name in
     let day = most_days t r in
     let date = r.day in
     let year = r.year in
-    let clock = clock_text t.hour t.minute t.second in
+    let clock = full_clock_text t.hour t.minute t.second in
     let joined = mail_joins (weekday_text t.weekday) (padded_digits 2 t.day) (month_name t.month) (padded_digits 4 t.year) clock in
     let P : ℤ → Type 0 = λ z. IsZone (codes "+0000") z in
     record {
@@ -118,13 +118,13 @@ mail_spelled t r some utc =
 -- ---- the moment that was written
 
 pub moment_back : (Spells : List ℕ → DateTime → Type 0) → ((text : List ℕ) (a b : DateTime) → Spells text a → Spells text b → a ≡ b)
-    → (first : ℕ) (seconds : ℤ) (t : DateTime) (text : List ℕ) (answer : Result ℤ DateError) → Spells text t → IsAt first seconds t
+    → (first : ℕ) (seconds : ℤ) (t : DateTime) (text : List ℕ) (answer : Result ℤ DateError) → Spells text t → IsNamedDateAt first seconds t
     → IsRead Spells first text answer → answer ≡ Ok seconds
 moment_back Spells one first seconds t text (Ok s) spelled at (u, is, real, least, value) =
     ap Ok (value ∙ ap seconds_of (one text u t is spelled) ∙ at.same)
 moment_back Spells one first seconds t text (Err Syntax) spelled at none = absurd (none t spelled)
 moment_back Spells one first seconds t text (Err NoSuchMoment) spelled at (u, is, unreal) =
-    absurd (unreal (subst IsReal (one text t u spelled is) at.real))
+    absurd (unreal (subst IsRealMoment (one text t u spelled is) at.real))
 moment_back Spells one first seconds t text (Err Range) spelled at (u, is, real, less) =
     let year = ap (λ (v : DateTime). v.year) (one text t u spelled is) in
     let least = at.least in

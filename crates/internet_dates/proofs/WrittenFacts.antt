@@ -5,7 +5,7 @@ use Rattle.std.specs.Prelude.{decimal}
 use Rattle.internet_dates.specs.Names.{day_names, month_names, day_name, month_name}
 use Rattle.std.specs.Prelude.{pos}
 use Rattle.scan_core.specs.Calendar.{is_leap_year}
-use Rattle.internet_dates.specs.DateTimes.{IsReal}
+use Rattle.internet_dates.specs.DateTimes.{IsRealMoment}
 use Rattle.internet_dates.specs.declared.date_time.DateTime.{DateTime}
 use Rattle.internet_dates.proofs.NameFacts.{AllBelow, below}
 
@@ -33,7 +33,7 @@ month_most true false c = omega arith
 month_most false b true = omega arith
 month_most false b false = omega arith
 
-pub most_days : (t : DateTime) → IsReal t → t.day ≤ 31
+pub most_days : (t : DateTime) → IsRealMoment t → t.day ≤ 31
 most_days t r =
     let month : ℕ = t.month in
     let most = month_most (month == 2) (is_leap_year (pos t.year)) ((month == 4) || (month == 6) || (month == 9) || (month == 11)) in

@@ -6,8 +6,8 @@ use Rattle.iso8601.specs.declared.types.Date.TheVariants.{YMD}
 use Rattle.internet_dates.specs.declared.date_time.DateTime.{DateTime}
 
 -- the number of the day
-abbrev pub day_number : DateTime → ℤ
-day_number t = day_of (YMD (pos t.year) t.month t.day)
+abbrev pub number_of_day : DateTime → ℤ
+number_of_day t = day_of (YMD (pos t.year) t.month t.day)
 
 -- the seconds since midnight
 abbrev pub clock_of : DateTime → ℕ
@@ -15,10 +15,10 @@ clock_of t = (t.hour * 60 + t.minute) * 60 + t.second
 
 -- There is such a moment: the calendar has the day, the name that stands is the day's, a clock shows the time, and the offset is
 -- less than a day.
-pub record IsReal (t : DateTime) : Type 0 where
+pub record IsRealMoment (t : DateTime) : Type 0 where
   pub year : t.year ≤ 9999
   pub day : Exists (YMD (pos t.year) t.month t.day)
-  pub name : IfSome t.weekday (λ weekday. pos weekday ≡ after_monday (day_number t))
+  pub name : IfSome t.weekday (λ weekday. pos weekday ≡ after_monday (number_of_day t))
   pub hour : t.hour < 24
   pub minute : t.minute < 60
   pub second : t.second < 60
@@ -27,11 +27,11 @@ pub record IsReal (t : DateTime) : Type 0 where
 -- the moment in seconds
 abbrev pub seconds_of : DateTime → ℤ
 seconds_of t =
-    (day_number t *ℤ pos 86_400 +ℤ pos (clock_of t)) -ℤ t.offset *ℤ pos 60
+    (number_of_day t *ℤ pos 86_400 +ℤ pos (clock_of t)) -ℤ t.offset *ℤ pos 60
 
 -- the date and the time of this moment in UTC, with the day's name, in a year from this first one on to 9999
-pub record IsAt (first : ℕ) (seconds : ℤ) (t : DateTime) : Type 0 where
-  pub real : IsReal t
+pub record IsNamedDateAt (first : ℕ) (seconds : ℤ) (t : DateTime) : Type 0 where
+  pub real : IsRealMoment t
   pub named : IsSome t.weekday
   pub utc : t.offset ≡ pos 0
   pub least : first ≤ t.year

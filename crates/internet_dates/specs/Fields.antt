@@ -4,7 +4,7 @@ use Rattle.std.specs.Prelude.{◌≡◌, ℕ, List, ◌++◌, codes}
 use Rattle.scan_core.specs.Fields.{IsField}
 
 -- hours, minutes and seconds of two digits each: `08:49:37`
-pub record IsClock (text : List ℕ) (hour minute second : ℕ) : Type 0 where
+pub record IsFullClock (text : List ℕ) (hour minute second : ℕ) : Type 0 where
   pub hour_text : List ℕ
   pub minute_text : List ℕ
   pub second_text : List ℕ

@@ -1,7 +1,7 @@
 -- Dates of HTTP: RFC 9110, section 5.6.7, but for the form of RFC 850, which that section has recipients accept: its years have two digits.
 use Rattle.std.specs.Prelude.{◌≡◌, ◌⊎◌, ℕ, pos, List, ◌++◌, codes, Some}
 use Rattle.scan_core.specs.Fields.{IsField}
-use Rattle.internet_dates.specs.Fields.{IsClock}
+use Rattle.internet_dates.specs.Fields.{IsFullClock}
 use Rattle.internet_dates.specs.Names.{IsDayName, IsMonthName}
 use Rattle.internet_dates.specs.declared.date_time.DateTime.{DateTime}
 
@@ -17,7 +17,7 @@ pub record IsFixdate (text : List ℕ) (t : DateTime) : Type 0 where
   pub days : IsField 2 1 31 day_text t.day
   pub months : IsMonthName month t.month
   pub years : IsField 4 0 9999 year_text t.year
-  pub clocks : IsClock clock t.hour t.minute t.second
+  pub clocks : IsFullClock clock t.hour t.minute t.second
   pub named : t.weekday ≡ Some weekday
   pub utc : t.offset ≡ pos 0
   pub joined : text
@@ -41,7 +41,7 @@ pub record IsAsctimeDate (text : List ℕ) (t : DateTime) : Type 0 where
   pub names : IsDayName name weekday
   pub months : IsMonthName month t.month
   pub days : IsPaddedDay day_text t.day
-  pub clocks : IsClock clock t.hour t.minute t.second
+  pub clocks : IsFullClock clock t.hour t.minute t.second
   pub years : IsField 4 0 9999 year_text t.year
   pub named : t.weekday ≡ Some weekday
   pub utc : t.offset ≡ pos 0

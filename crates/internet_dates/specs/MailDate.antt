@@ -5,7 +5,7 @@ use Rattle.std.specs.Prelude.{if◌then◌else◌}
 use Rattle.std.specs.List.{list_all}
 use Rattle.scan_core.specs.Fields.{IsField}
 use Rattle.scan_core.specs.Shares.{signed}
-use Rattle.internet_dates.specs.Fields.{IsClock, IsShortClock}
+use Rattle.internet_dates.specs.Fields.{IsFullClock, IsShortClock}
 use Rattle.internet_dates.specs.Names.{IsDayName, IsMonthName, IsZoneName}
 use Rattle.internet_dates.specs.declared.date_time.DateTime.{DateTime}
 
@@ -58,7 +58,7 @@ pub record IsMailDate (text : List ℕ) (t : DateTime) : Type 0 where
   pub days : IsField 2 1 31 day_text t.day ⊎ IsField 1 1 9 day_text t.day
   pub months : IsMonthName month t.month
   pub years : IsField 4 0 9999 year_text t.year
-  pub clocks : IsClock clock t.hour t.minute t.second
+  pub clocks : IsFullClock clock t.hour t.minute t.second
       ⊎ IsShortClock clock t.hour t.minute t.second
   pub zones : IsZone zone t.offset
   pub comments : IsComment comment

@@ -10,20 +10,20 @@ weekday_text (Some weekday) = day_name weekday
 weekday_text None = []
 
 -- `08:49:37`
-unfoldable pub clock_text : ℕ → ℕ → ℕ → List ℕ
-clock_text hour minute second =
+unfoldable pub full_clock_text : ℕ → ℕ → ℕ → List ℕ
+full_clock_text hour minute second =
     padded_digits 2 hour ++ (codes ":" ++ (padded_digits 2 minute ++ (codes ":"
     ++ padded_digits 2 second)))
 
 -- `Sun, 06 Nov 1994`
-unfoldable pub date_text : DateTime → List ℕ
-date_text t =
+unfoldable pub named_date_text : DateTime → List ℕ
+named_date_text t =
     weekday_text t.weekday ++ (codes ", " ++ (padded_digits 2 t.day ++ (codes " "
     ++ (month_name t.month ++ (codes " " ++ padded_digits 4 t.year)))))
 
 -- `Sun, 06 Nov 1994 08:49:37`, without the zone
 unfoldable pub moment_text : DateTime → List ℕ
-moment_text t = date_text t ++ (codes " " ++ clock_text t.hour t.minute t.second)
+moment_text t = named_date_text t ++ (codes " " ++ full_clock_text t.hour t.minute t.second)
 
 -- `Sun, 06 Nov 1994 08:49:37 GMT`
 abbrev pub http_date_text : DateTime → List ℕ

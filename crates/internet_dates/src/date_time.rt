@@ -159,7 +159,7 @@ fn time_of(clock: u32) -> Clock
 
 impl DateTime {
     ghost use Rattle.std.specs.Prelude.{◌≡◌, ◌≢◌, ◌↔◌, ◌<◌, ◌≤◌, Err, IsSome, IfSome, IfNone, IfOk};
-    ghost use Rattle.internet_dates.specs.DateTimes.{IsAt, IsReal, seconds_of};
+    ghost use Rattle.internet_dates.specs.DateTimes.{IsNamedDateAt, IsRealMoment, seconds_of};
     ghost use Rattle.internet_dates.specs.declared.date_time.DateTime.{DateTime as Fields};
 
     /// The moment in seconds since 1970-01-01 in UTC, or None exactly where there is none: the calendar lacks the day, the name is that
@@ -167,7 +167,7 @@ impl DateTime {
     ///
     /// `Sun, 06 Nov 1994 08:49:37 GMT` is 784111777.
     pub fn seconds(self) -> Option<i64>
-        ensures some { IsSome result ↔ IsReal self }
+        ensures some { IsSome result ↔ IsRealMoment self }
         ensures value { IfSome result (λ seconds. seconds ≡ seconds_of self) }
     {
         let day = day_number(self.year, self.month, self.day)?;
@@ -188,10 +188,10 @@ impl DateTime {
     #[inline(always)]
     pub(crate) fn judged(self, first: u16) -> Result<i64, DateError>
         ensures syntax { result ≢ Err DateError.Syntax }
-        ensures ok { IfOk result (λ seconds. IsReal self × (first ≤ self.year)
+        ensures ok { IfOk result (λ seconds. IsRealMoment self × (first ≤ self.year)
             × (seconds ≡ seconds_of self)) }
-        ensures unreal { result ≡ Err DateError.NoSuchMoment → IsReal self → ⊥ }
-        ensures range { result ≡ Err DateError.Range → IsReal self × (self.year < first) }
+        ensures unreal { result ≡ Err DateError.NoSuchMoment → IsRealMoment self → ⊥ }
+        ensures range { result ≡ Err DateError.Range → IsRealMoment self × (self.year < first) }
     {
         match self.seconds() {
             Some(seconds) => {
@@ -208,8 +208,8 @@ impl DateTime {
     /// The date and the time in UTC of so many seconds since 1970-01-01, with the day's name, or None exactly where the year isn't from
     /// `first` to 9999.
     pub fn at(seconds: i64, first: u16) -> Option<DateTime>
-        ensures found { IfSome result (λ t. IsAt first seconds t) }
-        ensures none { IfNone result ((t : Fields) → ¬ (IsAt first seconds t)) }
+        ensures found { IfSome result (λ t. IsNamedDateAt first seconds t) }
+        ensures none { IfNone result ((t : Fields) → ¬ (IsNamedDateAt first seconds t)) }
     {
         let (number, clock) = split_seconds(seconds);
         let Some((year, month, day)) = date_at(number, first) else {

@@ -2,7 +2,7 @@
 ghost use Rattle.std.specs.Prelude.{◌≡◌, ◌+◌, ◌≤◌, ◌++◌, codes, option_map, IsSome, IfSome, IfNone};
 ghost use Rattle.internet_dates.specs.inside.Reading.{is_text, read_asctime, read_fixdate, read_http_date, read_padded, read_padded_day, tens};
 ghost use Rattle.arrayvec.specs.ArrayString.{array_string_len};
-ghost use Rattle.internet_dates.specs.DateTimes.{IsReal};
+ghost use Rattle.internet_dates.specs.DateTimes.{IsRealMoment};
 ghost use Rattle.internet_dates.specs.HttpDate.{IsHttpDate};
 ghost use Rattle.internet_dates.specs.Readings.{IsRead};
 ghost use Rattle.internet_dates.specs.Written.{http_date_text};
@@ -141,7 +141,7 @@ pub fn read(text: &[u8]) -> Result<i64, DateError>
 
 /// Appends an IMF-fixdate of 29 bytes, such as `Sun, 06 Nov 1994 08:49:37 GMT`, of a real date in UTC that has the name of its day.
 pub fn push_text<const CAP: usize>(out: &mut ArrayString<CAP>, t: &DateTime)
-    requires real { IsReal t.now }
+    requires real { IsRealMoment t.now }
     requires named { IsSome t.now.weekday }
     requires room { array_string_len out.old + 29 ≤ CAP }
     ensures bytes { out.new.bytes ≡ out.old.bytes ++ http_date_text t.now }

@@ -5,7 +5,7 @@ ghost use Rattle.scan_core.specs.Shares.{signed};
 ghost use Rattle.internet_dates.specs.MailDate.{is_comment_byte};
 ghost use Rattle.internet_dates.specs.inside.Reading.{begins_with_digit, is_comment, is_text, read_day, read_day_behind, read_front, read_mail_clock, read_mail_date, read_named, read_numeric, read_opening, read_seconds, read_spaced_zone, read_ut, read_zone, read_zone_name};
 ghost use Rattle.arrayvec.specs.ArrayString.{array_string_len};
-ghost use Rattle.internet_dates.specs.DateTimes.{IsReal};
+ghost use Rattle.internet_dates.specs.DateTimes.{IsRealMoment};
 ghost use Rattle.internet_dates.specs.MailDate.{IsMailDate};
 ghost use Rattle.internet_dates.specs.Readings.{IsRead};
 ghost use Rattle.internet_dates.specs.Written.{mail_date_text};
@@ -270,7 +270,7 @@ pub fn read(text: &[u8]) -> Result<i64, DateError>
 
 /// Appends a date of 31 bytes, such as `Tue, 01 Dec 2026 23:24:31 +0000`, of a real date in UTC that has the name of its day.
 pub fn push_text<const CAP: usize>(out: &mut ArrayString<CAP>, t: &DateTime)
-    requires real { IsReal t.now }
+    requires real { IsRealMoment t.now }
     requires named { IsSome t.now.weekday }
     requires room { array_string_len out.old + 31 ≤ CAP }
     ensures bytes { out.new.bytes ≡ out.old.bytes ++ mail_date_text t.now }

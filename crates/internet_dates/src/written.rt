@@ -2,9 +2,9 @@
 ghost use Rattle.std.specs.Prelude.{◌≡◌, ◌+◌, ◌<◌, ◌≤◌, ◌++◌, IsSome, IfSome};
 ghost use Rattle.arrayvec.specs.ArrayString.{array_string_len};
 ghost use Rattle.scan_core.specs.Padded.{padded_digits};
-ghost use Rattle.internet_dates.specs.DateTimes.{IsReal};
+ghost use Rattle.internet_dates.specs.DateTimes.{IsRealMoment};
 ghost use Rattle.internet_dates.specs.Names.{month_name};
-ghost use Rattle.internet_dates.specs.Written.{clock_text, date_text, moment_text, weekday_text};
+ghost use Rattle.internet_dates.specs.Written.{full_clock_text, named_date_text, moment_text, weekday_text};
 
 use crate::date_time::DateTime;
 use crate::names::{day_name, month_name};
@@ -51,13 +51,13 @@ fn push_year<const CAP: usize>(out: &mut ArrayString<CAP>, year: u16)
 }
 
 /// A time of day.
-#[tactic(auto, unfolding(crate::specs::Written::clock_text))]
+#[tactic(auto, unfolding(crate::specs::Written::full_clock_text))]
 fn push_clock<const CAP: usize>(out: &mut ArrayString<CAP>, hour: u8, minute: u8, second: u8)
     requires hour { hour < 100 }
     requires minute { minute < 100 }
     requires second { second < 100 }
     requires room { array_string_len out.old + 8 ≤ CAP }
-    ensures bytes { out.new.bytes ≡ out.old.bytes ++ clock_text hour minute second }
+    ensures bytes { out.new.bytes ≡ out.old.bytes ++ full_clock_text hour minute second }
     ensures len { array_string_len out.new ≡ array_string_len out.old + 8 }
 {
     push_two(out, u64::from(hour));
@@ -68,12 +68,12 @@ fn push_clock<const CAP: usize>(out: &mut ArrayString<CAP>, hour: u8, minute: u8
 }
 
 /// The date.
-#[tactic(auto, using(crate::proofs::DayFacts::name_small, crate::proofs::WrittenFacts::most_days), unfolding(crate::specs::Written::date_text))]
+#[tactic(auto, using(crate::proofs::DayFacts::name_small, crate::proofs::WrittenFacts::most_days), unfolding(crate::specs::Written::named_date_text))]
 fn push_date<const CAP: usize>(out: &mut ArrayString<CAP>, t: &DateTime)
     requires named { IsSome t.now.weekday }
-    requires real { IsReal t.now }
+    requires real { IsRealMoment t.now }
     requires room { array_string_len out.old + 16 ≤ CAP }
-    ensures bytes { out.new.bytes ≡ out.old.bytes ++ date_text t.now }
+    ensures bytes { out.new.bytes ≡ out.old.bytes ++ named_date_text t.now }
     ensures len { array_string_len out.new ≡ array_string_len out.old + 16 }
 {
     push_weekday(out, t.weekday);
@@ -89,7 +89,7 @@ fn push_date<const CAP: usize>(out: &mut ArrayString<CAP>, t: &DateTime)
 #[tactic(auto, unfolding(crate::specs::Written::moment_text))]
 pub(crate) fn push_moment<const CAP: usize>(out: &mut ArrayString<CAP>, t: &DateTime)
     requires named { IsSome t.now.weekday }
-    requires real { IsReal t.now }
+    requires real { IsRealMoment t.now }
     requires room { array_string_len out.old + 25 ≤ CAP }
     ensures bytes { out.new.bytes ≡ out.old.bytes ++ moment_text t.now }
     ensures len { array_string_len out.new ≡ array_string_len out.old + 25 }

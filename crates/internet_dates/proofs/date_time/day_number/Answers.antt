@@ -1,4 +1,4 @@
--- Answers to the goals of `date_time::day_number`.
+-- Answers to the goals of `date_time::number_of_day`.
 use Rattle.internet_dates.proofs.DayFacts.{no_civil}
 use Rattle.internet_dates.proofs.date_time.day_number.Goals as goal
 
