@@ -27,7 +27,7 @@ use Rattle.forms.specs.declared.value.Value.{Value}
 use Rattle.forms.specs.declared.value.Value.TheVariants.{Instant}
 use Rattle.forms.specs.Answers.{Is, ReadsBy}
 use Rattle.forms.specs.Values.{IsWithinBounds}
-use Rattle.forms.specs.form.Unix.{IsShortFraction, nine, Spells, worth, held, fraction_text, magnitude_text, unix_text}
+use Rattle.forms.specs.form.Unix.{IsShortFraction, nine_digits, Spells, worth, held, fraction_text, magnitude_text, unix_text}
 use Rattle.forms.specs.inside.Lawful.{Lawful}
 use Rattle.forms.specs.inside.UnixParts.{minus_of, behind_minus}
 use Rattle.forms.proofs.Lawful.{then_ok, same_ok, one_image, IsHeldBack, lawful_by}
@@ -74,18 +74,18 @@ fraction_digits fraction tail (inr h) = h.1
 
 -- ---- nine digits
 
-nine_long : (fraction : List ℕ) → length fraction ≤ 9 → length (nine fraction) ≡ 9
+nine_long : (fraction : List ℕ) → length fraction ≤ 9 → length (nine_digits fraction) ≡ 9
 nine_long fraction short = omega (arith, length-append fraction (replicate (9 - length fraction) 48), length-zeros (9 - length fraction), short)
 
-pub nine_small : (fraction : List ℕ) → AreDigits fraction → length fraction ≤ 9 → number_of (nine fraction) < 10 ^ 9
+pub nine_small : (fraction : List ℕ) → AreDigits fraction → length fraction ≤ 9 → number_of (nine_digits fraction) < 10 ^ 9
 nine_small fraction digits short =
     let long = nine_long fraction short in
     let zeros = digits-zeros (9 - length fraction) in
-    rw long at (number_of-lt (nine fraction) (digits-append fraction (replicate (9 - length fraction) 48) digits zeros))
+    rw long at (number_of-lt (nine_digits fraction) (digits-append fraction (replicate (9 - length fraction) 48) digits zeros))
 
 whole_and_nine : (whole fraction : List ℕ) → length fraction ≤ 9
-    → number_of (whole ++ nine fraction) ≡ number_of whole * 10 ^ 9 + number_of (nine fraction)
-whole_and_nine whole fraction short = let long = nine_long fraction short in rw long at (number_of-append whole (nine fraction))
+    → number_of (whole ++ nine_digits fraction) ≡ number_of whole * 10 ^ 9 + number_of (nine_digits fraction)
+whole_and_nine whole fraction short = let long = nine_long fraction short in rw long at (number_of-append whole (nine_digits fraction))
 
 -- digits and zeros behind them
 number_filled : (ds : List ℕ) (k : ℕ) → number_of (ds ++ replicate k 48) ≡ number_of ds * 10 ^ k
@@ -94,7 +94,7 @@ number_filled ds k =
     let long = length-zeros k in
     number_of-append ds (replicate k 48) ∙ rw (zeros, long) (omega arith)
 
-pub scaled : (ds : List ℕ) → number_of ds * 10 ^ (9 - length ds) ≡ number_of (nine ds)
+pub scaled : (ds : List ℕ) → number_of ds * 10 ^ (9 - length ds) ≡ number_of (nine_digits ds)
 scaled ds = sym (number_filled ds (9 - length ds))
 
 -- ---- digits alone
@@ -153,11 +153,11 @@ spelled_parts text nanos s =
     }
 
 by_parts : (text : List ℕ) (nanos : ℤ) (s : Spells text nanos)
-    → nanos ≡ signed (minus_of text) (number_of (front_digits (behind_minus text) ++ nine s.fraction))
+    → nanos ≡ signed (minus_of text) (number_of (front_digits (behind_minus text) ++ nine_digits s.fraction))
 by_parts text nanos s =
     let p = spelled_parts text nanos s in
-    s.value ∙ ap (λ (n : Bool). signed n (number_of (s.whole ++ nine s.fraction))) p.sign
-    ∙ ap (λ (w : List ℕ). signed (minus_of text) (number_of (w ++ nine s.fraction))) p.front
+    s.value ∙ ap (λ (n : Bool). signed n (number_of (s.whole ++ nine_digits s.fraction))) p.sign
+    ∙ ap (λ (w : List ℕ). signed (minus_of text) (number_of (w ++ nine_digits s.fraction))) p.front
 
 one : (text : List ℕ) (a b : ℤ) → Spells text a → Spells text b → a ≡ b
 one text a b s t =
@@ -165,7 +165,7 @@ one text a b s t =
     let q = spelled_parts text b t in
     let other : IsShortFraction t.fraction s.tail = subst (IsShortFraction t.fraction) (q.rest ∙ sym p.rest) t.point in
     let same : s.fraction ≡ t.fraction = one_fraction s.fraction t.fraction s.tail s.point other in
-    by_parts text a s ∙ ap (λ (f : List ℕ). signed (minus_of text) (number_of (front_digits (behind_minus text) ++ nine f))) same
+    by_parts text a s ∙ ap (λ (f : List ℕ). signed (minus_of text) (number_of (front_digits (behind_minus text) ++ nine_digits f))) same
     ∙ sym (by_parts text b t)
 
 pub parts_digits : (text : List ℕ) (negative : Bool) (whole tail : List ℕ) → AreParts text negative whole tail → AreDigits whole
@@ -175,7 +175,7 @@ parts_digits text negative whole tail p = subst AreDigits (sym p.front) (front_a
 
 pub reads_number : (text : List ℕ) (negative : Bool) (whole tail fraction : List ℕ) (n : ℕ) (result : Result Value Cause)
     → AreParts text negative whole tail
-    → (length whole ≡ 0 → ⊥) → IsShortFraction fraction tail → n ≡ number_of (nine fraction)
+    → (length whole ≡ 0 → ⊥) → IsShortFraction fraction tail → n ≡ number_of (nine_digits fraction)
     → result ≡ worth (signed negative (number_of whole * 10 ^ 9 + n)) → ReadsBy Spells (Is worth) text result
 reads_number text negative whole tail fraction n result p some point is h = inl (
   signed negative (number_of whole * 10 ^ 9 + n),
@@ -213,7 +213,7 @@ reads_no_fraction text negative whole tail p none = inr (
   refl,
 )
 
-pub fraction_small : (fraction tail : List ℕ) (n : ℕ) → IsShortFraction fraction tail → n ≡ number_of (nine fraction) → n < 10 ^ 9
+pub fraction_small : (fraction tail : List ℕ) (n : ℕ) → IsShortFraction fraction tail → n ≡ number_of (nine_digits fraction) → n < 10 ^ 9
 fraction_small fraction tail n point is = rw is (nine_small fraction (fraction_digits fraction tail point) (fraction_short fraction tail point))
 
 -- ---- worth
@@ -249,7 +249,7 @@ worth_within z w = rw (le_true (unsigned_abs z) (10 ^ 22) (omega (arith, ints, w
 pub length_decimal_nine : (n : ℕ) → n < 10 ^ 9 → length (decimal n) ≤ 9
 length_decimal_nine n small = length-decimal-le 9 n (omega arith) small (omega arith)
 
-nine_trimmed : (r : ℕ) → r < 10 ^ 9 → nine (trimmed_digits (padded_digits 9 r)) ≡ padded_digits 9 r
+nine_trimmed : (r : ℕ) → r < 10 ^ 9 → nine_digits (trimmed_digits (padded_digits 9 r)) ≡ padded_digits 9 r
 nine_trimmed r h =
     let field = padded_field 9 0 (10 ^ 9 - 1) r (omega arith) h (omega arith) (omega arith) (omega arith) in
     let fills = trimmed_fills (padded_digits 9 r) in
@@ -271,7 +271,7 @@ trimmed_short r h =
 pub record IsWrittenFraction (tail : List ℕ) (r : ℕ) : Type 0 where
   pub fraction : List ℕ
   pub point : IsShortFraction fraction tail
-  pub number : number_of (nine fraction) ≡ r
+  pub number : number_of (nine_digits fraction) ≡ r
 
 fraction_if : (t : Bool) (r : ℕ) → (r == 0) ≡ t → r < 10 ^ 9
     → IsWrittenFraction (cond t [] (codes "." ++ trimmed_digits (padded_digits 9 r))) r

@@ -2,6 +2,9 @@
 use Rattle.std.specs.Prelude.{ℕ, List, decimal, Result}
 use Rattle.fancy_duration.specs.Spelled.{SpellsLength}
 use Rattle.fancy_duration.specs.Written.{length_text}
+use Rattle.internet_dates.specs.HttpDate.{IsHttpDate}
+use Rattle.internet_dates.specs.MailDate.{IsMailDate}
+use Rattle.internet_dates.specs.Written.{http_date_text, mail_date_text}
 use Rattle.iso8601.specs.Dates.{IsDate}
 use Rattle.iso8601.specs.DateTimes.{IsDateTime}
 use Rattle.iso8601.specs.Durations.{IsDuration}
@@ -16,7 +19,7 @@ use Rattle.pg_interval_2.specs.declared.style.Style.TheVariants as style
 use Rattle.forms.specs.declared.cause.Cause.{Cause}
 use Rattle.forms.specs.declared.form.Form.{Form}
 use Rattle.forms.specs.declared.form.Form.TheVariants.{FileTime, IsoDateTime, IsoDate, IsoDuration, Toml, Fancy, PgIso, Postgres, PgVerbose}
-use Rattle.forms.specs.declared.form.Form.TheVariants.{PgSql, IsoStrict, Unix, PgTimestamp}
+use Rattle.forms.specs.declared.form.Form.TheVariants.{PgSql, IsoStrict, Unix, PgTimestamp, HttpDate, MailDate}
 use Rattle.forms.specs.declared.value.Value.{Value}
 use Rattle.forms.specs.Answers.{Is, ReadsBy, WritesBy}
 use Rattle.forms.specs.form.FileTime as file_time
@@ -28,6 +31,7 @@ use Rattle.forms.specs.form.Fancy as fancy
 use Rattle.forms.specs.form.Unix as unix
 use Rattle.forms.specs.form.Intervals as interval
 use Rattle.forms.specs.form.PgTimestamp as pg_timestamp
+use Rattle.forms.specs.form.InternetDates as internet
 
 -- what a text stands for in the form: a value, or the cause why it is none
 abbrev pub Reads : Form → List ℕ → Result Value Cause → Type 0
@@ -44,6 +48,8 @@ Reads PgSql = ReadsBy (Shape style.Sql) (Is interval.worth)
 Reads IsoStrict = ReadsBy (Shape style.IsoStrict) (Is interval.worth)
 Reads Unix = ReadsBy unix.Spells (Is unix.worth)
 Reads PgTimestamp = ReadsBy IsTimestampText pg_timestamp.Worth
+Reads HttpDate = ReadsBy IsHttpDate (internet.Worth 0)
+Reads MailDate = ReadsBy IsMailDate (internet.Worth 1900)
 
 -- the written text of a value in the form, or the cause why there is none
 abbrev pub Writes : Form → Value → Result (List ℕ) Cause → Type 0
@@ -60,3 +66,5 @@ Writes PgSql = WritesBy (Is interval.held) (style_text style.Sql)
 Writes IsoStrict = WritesBy (Is interval.held) (style_text style.IsoStrict)
 Writes Unix = WritesBy (Is unix.held) unix.unix_text
 Writes PgTimestamp = WritesBy pg_timestamp.Holds (λ text. text)
+Writes HttpDate = WritesBy (internet.Holds 0) http_date_text
+Writes MailDate = WritesBy (internet.Holds 1900) mail_date_text

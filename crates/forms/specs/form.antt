@@ -8,3 +8,4 @@ pub mod Fancy
 pub mod Intervals
 pub mod Unix
 pub mod PgTimestamp
+pub mod InternetDates

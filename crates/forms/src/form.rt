@@ -7,6 +7,7 @@ ghost use Rattle.forms.specs.declared.form.Form.{Form as AnyForm};
 
 pub mod fancy;
 pub mod file_time;
+pub mod http_mail;
 pub mod intervals;
 pub mod iso_date;
 pub mod iso_date_time;
@@ -46,6 +47,10 @@ pub enum Form {
     Unix,
     /// PostgreSQL's timestamps, with an offset, without one, or a day alone: `2026-12-01 23:24:31.051677+00`.
     PgTimestamp,
+    /// Dates of HTTP: `Sun, 06 Nov 1994 08:49:37 GMT`.
+    HttpDate,
+    /// Dates of mail: `Sun, 6 Nov 1994 08:49:37 +0000`.
+    MailDate,
 }
 
 impl Form {
@@ -141,6 +146,12 @@ impl Form {
         if let Some(rest) = Form::Unix.after_name(text) {
             return Some((Form::Unix, rest));
         }
+        if let Some(rest) = Form::HttpDate.after_name(text) {
+            return Some((Form::HttpDate, rest));
+        }
+        if let Some(rest) = Form::MailDate.after_name(text) {
+            return Some((Form::MailDate, rest));
+        }
         None
     }
 
@@ -172,6 +183,8 @@ impl Form {
             Form::IsoStrict => "IsoStrict",
             Form::Unix => "Unix",
             Form::PgTimestamp => "PgTimestamp",
+            Form::HttpDate => "HttpDate",
+            Form::MailDate => "MailDate",
         }
     }
 

@@ -28,8 +28,8 @@ ghost use Rattle.forms.specs.inside.Lawful.{Lawful};
 use crate::answer::{ConvertError, line_reply};
 use crate::cause::Cause;
 use crate::form::{
-    Form, fancy, file_time, intervals, iso_date, iso_date_time, iso_duration, timestamps, toml,
-    unix,
+    Form, fancy, file_time, http_mail, intervals, iso_date, iso_date_time, iso_duration,
+    timestamps, toml, unix,
 };
 use crate::run_end::RunEnd;
 use crate::streams::Failed;
@@ -48,6 +48,7 @@ pub(crate) fn all_lawful()
     intervals::lawful();
     unix::lawful();
     timestamps::lawful();
+    http_mail::lawful();
 }
 
 /// A text stands for one value at most in each form, and where it stands for none there is one cause.

@@ -11,8 +11,8 @@ ghost use Rattle.forms.specs.Values.{IsWithinBounds};
 
 use crate::cause::Cause;
 use crate::form::{
-    Form, fancy, file_time, intervals, iso_date, iso_date_time, iso_duration, timestamps, toml,
-    unix,
+    Form, fancy, file_time, http_mail, intervals, iso_date, iso_date_time, iso_duration,
+    timestamps, toml, unix,
 };
 use crate::laws;
 use arrayvec::ArrayString;
@@ -84,6 +84,8 @@ fn read(form: Form, text: &str) -> Result<Value, Cause>
         Form::Fancy => fancy::read(text),
         Form::Unix => unix::read(text),
         Form::PgTimestamp => timestamps::read(text),
+        Form::HttpDate => http_mail::read_http(text),
+        Form::MailDate => http_mail::read_mail(text),
         _ => read_alone::<Brand>(form, &Looked::new(text), Blank::new(1)),
     }
 }
@@ -158,5 +160,7 @@ pub fn push_value<const CAP: usize>(
         Form::IsoStrict => intervals::push(Style::IsoStrict, value, out),
         Form::Unix => unix::push(value, out),
         Form::PgTimestamp => timestamps::push(value, out),
+        Form::HttpDate => http_mail::push_http(value, out),
+        Form::MailDate => http_mail::push_mail(value, out),
     }
 }

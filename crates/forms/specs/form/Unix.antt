@@ -20,8 +20,8 @@ IsShortFraction fraction tail =
     × (tail ≡ codes "." ++ fraction))
 
 -- the digits of a fraction of a second, filled with zeros to its nanoseconds
-abbrev pub nine : List ℕ → List ℕ
-nine fraction = fraction ++ replicate (9 - length fraction) 48
+abbrev pub nine_digits : List ℕ → List ℕ
+nine_digits fraction = fraction ++ replicate (9 - length fraction) 48
 
 -- digits, perhaps a minus before them, also before 0, and perhaps a fraction behind: these nanoseconds
 pub record Spells (text : List ℕ) (nanos : ℤ) : Type 0 where
@@ -33,7 +33,7 @@ pub record Spells (text : List ℕ) (nanos : ℤ) : Type 0 where
   pub digits : AreDigits whole
   pub point : IsShortFraction fraction tail
   pub joined : text ≡ minus negative ++ (whole ++ tail)
-  pub value : nanos ≡ signed negative (number_of (whole ++ nine fraction))
+  pub value : nanos ≡ signed negative (number_of (whole ++ nine_digits fraction))
 
 -- at most 10^22 nanoseconds to either side, as an instant has
 unfoldable pub worth : ℤ → Result Value Cause

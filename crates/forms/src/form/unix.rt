@@ -9,7 +9,7 @@ ghost use Rattle.forms.specs.declared.form.Form.{Form as AnyForm};
 ghost use Rattle.forms.specs.Forms.{Reads, Writes};
 ghost use Rattle.forms.specs.Putting.{Puts};
 ghost use Rattle.forms.specs.Values.{IsWithinBounds};
-ghost use Rattle.forms.specs.form.Unix.{IsShortFraction, fraction_text, held, magnitude_text, nine, unix_text, worth};
+ghost use Rattle.forms.specs.form.Unix.{IsShortFraction, fraction_text, held, magnitude_text, nine_digits, unix_text, worth};
 ghost use Rattle.forms.specs.inside.Lawful.{Lawful};
 ghost use Rattle.forms.specs.inside.UnixParts.{behind_minus, minus_of};
 
@@ -52,7 +52,7 @@ fn split_minus(text: &[u8]) -> (bool, &[u8])
 /// The nanoseconds of a point and one to nine digits, or of nothing.
 fn fraction_of(tail: &[u8]) -> Option<u32>
     ensures found { IfSome result (λ n. (fraction : List ℕ) × IsShortFraction fraction tail.now
-        × (n ≡ number_of (nine fraction))) }
+        × (n ≡ number_of (nine_digits fraction))) }
     ensures none { IfNone result ((fraction : List ℕ) → ¬ (IsShortFraction fraction tail.now)) }
 {
     match tail {
@@ -65,7 +65,7 @@ fn fraction_of(tail: &[u8]) -> Option<u32>
 /// The nanoseconds of one to nine digits of a fraction.
 fn nanoseconds(digits: &[u8]) -> Option<u32>
     ensures found { IfSome result (λ n. ((0 < length digits.now) × (length digits.now ≤ 9))
-        × AreDigits digits.now × (n ≡ number_of (nine digits.now))) }
+        × AreDigits digits.now × (n ≡ number_of (nine_digits digits.now))) }
     ensures none { IfNone result
         (¬ (((0 < length digits.now) × (length digits.now ≤ 9)) × AreDigits digits.now)) }
 {
