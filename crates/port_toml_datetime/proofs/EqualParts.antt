@@ -1,4 +1,4 @@
--- Optional parts are equal as their values are, and so are values of three parts.
+-- Optional parts are equal as their values are, and so are values of two and of three parts.
 use Rattle.std.proofs.Common.{◌≡◌, ◌&&◌, Bool, true, false, Option, Some, None, refl, ap}
 use Rattle.std.specs.Prelude.{◌↔◌, IsTrue}
 use Rattle.std.specs.Option.{option_eq}
@@ -21,3 +21,11 @@ pub three_are : {P Q R W : Type 0} (x y z : Bool) → (IsTrue x ↔ P) → (IsTr
     → IsTrue (x && (y && z)) ↔ W
 three_are x y z p q r w =
     (λ h. let t = all_true x y z h in w.0 (p.0 t.0, q.0 t.1, r.0 t.2), λ h. let t = w.1 h in rw (p.1 t.0, q.1 t.1, r.1 t.2) refl)
+
+both_true : (x y : Bool) → IsTrue (x && y) → IsTrue x × IsTrue y
+both_true true true h = (refl, refl)
+both_true false y h = absurd (cc)
+both_true true false h = absurd (cc)
+
+pub two_are : {P Q W : Type 0} (x y : Bool) → (IsTrue x ↔ P) → (IsTrue y ↔ Q) → ((P × Q) ↔ W) → IsTrue (x && y) ↔ W
+two_are x y p q w = (λ h. let t = both_true x y h in w.0 (p.0 t.0, q.0 t.1), λ h. let t = w.1 h in rw (p.1 t.0, q.1 t.1) refl)

@@ -2,8 +2,7 @@
 use Rattle.std.proofs.Common.{◌≡◌, ℕ, Bool, true, false, cond, List, [], ◌∷◌, ◌++◌, Option, Some, None, append-nil, append_assoc, codes}
 use Rattle.std.proofs.Common.{refl, sym, ◌∙◌, ap, subst, arith, inl, inr}
 use Rattle.std.specs.Prelude.{Result, Ok, Err, IfOk, IfErr}
-use Rattle.port_toml_datetime.specs.declared.error.DatetimeParseError.{DatetimeParseError}
-use Rattle.port_toml_datetime.specs.Faults.{fault_of}
+use Rattle.port_toml_datetime.specs.Faults.{Fault}
 use Rattle.port_toml_datetime.specs.declared.date.Date.{Date}
 use Rattle.port_toml_datetime.specs.declared.time.Time.{Time}
 use Rattle.port_toml_datetime.specs.declared.offset.Offset.{Offset}
@@ -226,13 +225,13 @@ one_value text a b is_a is_b = sym (table_exact text a is_a).reads ∙ (table_ex
 
 -- ---- what a reader answers by the table
 
-pub ok_from : (r : Result Datetime DatetimeParseError) (text : List ℕ) → IfOk r (λ v. first_failing (checks text) ≡ None)
+pub ok_from : (r : Result Datetime Fault) (text : List ℕ) → IfOk r (λ v. first_failing (checks text) ≡ None)
     → IfOk r (λ v. v ≡ value_of text) → IfOk r (λ v. IsDatetime text v)
 ok_from (Ok v) text p q = rw q (table_sound text p)
 ok_from (Err e) text p q = tt
 
-pub all_from : (r : Result Datetime DatetimeParseError) (text : List ℕ) (value : Datetime) → IfOk r (λ v. v ≡ value_of text)
-    → IfErr r (λ e. first_failing (checks text) ≡ Some (fault_of e))
+pub all_from : (r : Result Datetime Fault) (text : List ℕ) (value : Datetime) → IfOk r (λ v. v ≡ value_of text)
+    → IfErr r (λ e. first_failing (checks text) ≡ Some e)
     → IsDatetime text value → r ≡ Ok value
 all_from (Ok v) text value q f is = ap (λ (d : Datetime). Ok d) (q ∙ (table_exact text value is).reads)
 all_from (Err e) text value q f is = let none = sym (table_exact text value is).pass ∙ f in absurd (cc)

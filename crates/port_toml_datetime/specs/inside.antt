@@ -1,3 +1,4 @@
 -- What private contracts alone cite, by subject.
 pub mod Values
 pub mod GrammarParts
+pub mod Words

@@ -1,9 +1,11 @@
 //! Why a text is no date-time.
 ghost use Rattle.std.specs.Prelude.{◌≡◌, Some, option_map};
-ghost use Rattle.port_toml_datetime.specs.Faults.{fault_of, fault_text, words_of};
+ghost use Rattle.port_toml_datetime.specs.Faults.{fault_text};
+ghost use Rattle.port_toml_datetime.specs.inside.Words.{words_of};
 
 use std::fmt;
 use std::fmt::Display;
+use std::marker::Model;
 
 /// The checks that can fail, in the order of the table.
 ///
@@ -92,15 +94,28 @@ fn words(check: Check) -> (Option<&'static str>, Option<&'static str>)
 /// Why a text is no date-time: the part that is wrong, and what was expected there.
 ///
 /// Two errors are equal exactly where they say the same.
-#[derive(Clone, Copy, Debug, PartialEq, Eq)]
+#[derive(Clone, Copy, Debug)]
 pub struct DatetimeParseError {
     check: Check,
+}
+
+impl Model for DatetimeParseError {
+    ghost use Rattle.port_toml_datetime.specs.Faults.{Fault};
+    ghost use Rattle.port_toml_datetime.specs.inside.Words.{words_of, check_of, same_check};
+
+    ghost Value = { Fault };
+
+    ghost view = { λ error. words_of error.check };
+
+    ghost inverse = { λ said. record { check = check_of said } };
+
+    ghost inverse_ok = { λ error _ i. record { check = same_check error.check i } };
 }
 
 impl DatetimeParseError {
     /// The error of the check that failed.
     pub(crate) fn new(check: Check) -> DatetimeParseError
-        ensures { fault_of result ≡ words_of check }
+        ensures { result ≡ words_of check }
     {
         DatetimeParseError { check }
     }
@@ -108,7 +123,7 @@ impl DatetimeParseError {
     /// The part that is wrong: `date`, `date-time`, `time` or `offset`. None where the text doesn't
     /// begin as a date or a time does, or where something follows a date-time.
     pub fn what(&self) -> Option<&'static str>
-        ensures { option_map (λ s. s.now) result ≡ (fault_of self.now).what }
+        ensures { option_map (λ s. s.now) result ≡ self.now.what }
     {
         words(self.check).0
     }
@@ -116,16 +131,41 @@ impl DatetimeParseError {
     /// What was expected where the text is wrong, such as `month between 01 and 12`. None where
     /// something follows a date-time.
     pub fn expected(&self) -> Option<&'static str>
-        ensures { option_map (λ s. s.now) result ≡ (fault_of self.now).expected }
+        ensures { option_map (λ s. s.now) result ≡ self.now.expected }
     {
         words(self.check).1
     }
 }
 
+/// Errors are equal exactly where they say the same.
+impl PartialEq for DatetimeParseError {
+    ghost use Rattle.std.specs.Cmp.{on_equiv, and_equiv, partial_equiv_from_equiv};
+    ghost use Rattle.std.specs.Cmp.Lexicographic.{nat_list_eq_equiv, options_equiv};
+    ghost use Rattle.port_toml_datetime.specs.Faults.{says_same};
+
+    ghost eq = { says_same };
+
+    ghost laws = { partial_equiv_from_equiv
+        (and_equiv (on_equiv (λ f. f.what) (options_equiv nat_list_eq_equiv))
+        (on_equiv (λ f. f.expected) (options_equiv nat_list_eq_equiv))) };
+
+    fn eq(&self, other: &DatetimeParseError) -> bool {
+        self.what() == other.what() && self.expected() == other.expected()
+    }
+}
+
+impl Eq for DatetimeParseError {
+    ghost use Rattle.std.specs.Cmp.{on_equiv, and_equiv};
+    ghost use Rattle.std.specs.Cmp.Lexicographic.{nat_list_eq_equiv, options_equiv};
+
+    ghost laws = { and_equiv (on_equiv (λ f. f.what) (options_equiv nat_list_eq_equiv))
+        (on_equiv (λ f. f.expected) (options_equiv nat_list_eq_equiv)) };
+}
+
 /// `invalid date, expected day between 01 and 28`: `invalid`, the part or `datetime`, and what was
 /// expected.
 impl Display for DatetimeParseError {
-    ghost output = { λ error. Some (fault_text (fault_of error)) };
+    ghost output = { λ error. Some (fault_text error) };
 
     fn fmt<W: fmt::Write>(&self, f: &mut fmt::Formatter<W>) -> fmt::Result {
         let what = self.what().unwrap_or("datetime");

@@ -4,7 +4,7 @@ ghost use Rattle.std.specs.Prelude.{◌≡◌, ◌↔◌, ℕ, List, None, IsTru
 ghost use Rattle.std.specs.Ordering.{ordering_then};
 ghost use Rattle.port_toml_datetime.specs.Checks.{checks, first_failing};
 ghost use Rattle.port_toml_datetime.specs.Datetimes.{IsDatetime};
-ghost use Rattle.port_toml_datetime.specs.Faults.{fault_of};
+ghost use Rattle.port_toml_datetime.specs.Faults.{Fault};
 ghost use Rattle.port_toml_datetime.specs.Orders.{date_cmp, none_first, offset_cmp, time_cmp};
 ghost use Rattle.port_toml_datetime.specs.Texts.{text_of};
 ghost use Rattle.port_toml_datetime.specs.WellFormed.{IsWellFormed};
@@ -12,7 +12,6 @@ ghost use Rattle.port_toml_datetime.specs.declared.date.Date.{Date as DateValue}
 ghost use Rattle.port_toml_datetime.specs.declared.time.Time.{Time as TimeValue};
 ghost use Rattle.port_toml_datetime.specs.declared.offset.Offset.{Offset as OffsetValue};
 ghost use Rattle.port_toml_datetime.specs.declared.datetime.Datetime.{Datetime as DatetimeValue};
-ghost use Rattle.port_toml_datetime.specs.declared.error.DatetimeParseError.{DatetimeParseError as ErrorValue};
 
 use crate::{Date, Datetime, DatetimeParseError, Offset, Time};
 
@@ -49,8 +48,7 @@ pub fn equality_is_by_parts()
 
 /// Errors are equal exactly where they say the same.
 pub fn equal_errors_say_the_same()
-    ensures { (a b : ErrorValue) → IsTrue (⟦<DatetimeParseError as PartialEq>⟧.eq a b)
-        ↔ (fault_of a ≡ fault_of b) }
+    ensures { (a b : Fault) → IsTrue (⟦<DatetimeParseError as PartialEq>⟧.eq a b) ↔ (a ≡ b) }
 {}
 
 /// The order goes by the parts in turn. A part that isn't there comes before each that is, and `Z`

@@ -2,7 +2,6 @@
 ghost use Rattle.std.specs.Prelude.{◌≡◌, Some, None, IfOk, IfErr, codes};
 ghost use Rattle.scan_core.specs.Digits.{AreDigits};
 ghost use Rattle.port_toml_datetime.specs.Datetimes.{datetime_of};
-ghost use Rattle.port_toml_datetime.specs.Faults.{fault_of};
 ghost use Rattle.port_toml_datetime.specs.Tokens.{is_one_of};
 ghost use Rattle.port_toml_datetime.specs.Checks.{after_date, checks, dated_rows, first_failing, full_time_rows, local_time_rows, tail_rows};
 ghost use Rattle.port_toml_datetime.specs.inside.Values.{date_of, date_time_of, tail_of, time_of, value_of};
@@ -19,7 +18,7 @@ use crate::{Date, Datetime};
 fn read_full_time(date: Date, bytes: &[u8]) -> Result<Datetime, DatetimeParseError>
     ensures pass { IfOk result (λ r. first_failing (full_time_rows bytes.now) ≡ None) }
     ensures value { IfOk result (λ r. r ≡ date_time_of date bytes.now) }
-    ensures err { IfErr result (λ e. first_failing (full_time_rows bytes.now) ≡ Some (fault_of e)) }
+    ensures err { IfErr result (λ e. first_failing (full_time_rows bytes.now) ≡ Some e) }
 {
     let (hour, bytes) = digits(bytes, Check::Hour)?;
     let bytes = mark(b':', bytes, Check::HourMark)?;
@@ -44,7 +43,7 @@ fn is_delimiter(byte: u8) -> bool
 fn read_tail(date: Date, bytes: &[u8]) -> Result<Datetime, DatetimeParseError>
     ensures pass { IfOk result (λ r. first_failing (tail_rows bytes.now) ≡ None) }
     ensures value { IfOk result (λ r. r ≡ tail_of date bytes.now) }
-    ensures err { IfErr result (λ e. first_failing (tail_rows bytes.now) ≡ Some (fault_of e)) }
+    ensures err { IfErr result (λ e. first_failing (tail_rows bytes.now) ≡ Some e) }
 {
     match bytes {
         [] => Ok(Datetime {
@@ -65,7 +64,7 @@ fn read_local_time(hour: &[u8], bytes: &[u8]) -> Result<Datetime, DatetimeParseE
     ensures value { IfOk result (λ r.
         r ≡ datetime_of None (Some (time_of hour.now bytes.now)) None) }
     ensures err { IfErr result (λ e.
-        first_failing (local_time_rows hour.now bytes.now) ≡ Some (fault_of e)) }
+        first_failing (local_time_rows hour.now bytes.now) ≡ Some e) }
 {
     let (time, rest) = read_time(hour, bytes)?;
     end(rest)?;
@@ -84,7 +83,7 @@ fn read_dated(year: &[u8], bytes: &[u8]) -> Result<Datetime, DatetimeParseError>
     ensures value { IfOk result (λ r.
         r ≡ tail_of (date_of year.now bytes.now) (after_date bytes.now)) }
     ensures err { IfErr result (λ e.
-        first_failing (dated_rows year.now bytes.now) ≡ Some (fault_of e)) }
+        first_failing (dated_rows year.now bytes.now) ≡ Some e) }
 {
     let (date, rest) = read_date(year, bytes)?;
     read_tail(date, rest)
@@ -95,7 +94,7 @@ fn read_dated(year: &[u8], bytes: &[u8]) -> Result<Datetime, DatetimeParseError>
 pub(crate) fn read(bytes: &[u8]) -> Result<Datetime, DatetimeParseError>
     ensures pass { IfOk result (λ r. first_failing (checks bytes.now) ≡ None) }
     ensures value { IfOk result (λ r. r ≡ value_of bytes.now) }
-    ensures err { IfErr result (λ e. first_failing (checks bytes.now) ≡ Some (fault_of e)) }
+    ensures err { IfErr result (λ e. first_failing (checks bytes.now) ≡ Some e) }
 {
     let (first, rest) = digits(bytes, Check::YearOrHour)?;
     match rest {

@@ -2,7 +2,8 @@
 ghost use Rattle.std.specs.Prelude.{◌≡◌, pos, Some, None, codes, IfOk, IfErr};
 ghost use Rattle.scan_core.specs.Digits.{AreDigits};
 ghost use Rattle.scan_core.specs.Calendar.{days_in_month, is_leap_year};
-ghost use Rattle.port_toml_datetime.specs.Faults.{fault, fault_of, words_of};
+ghost use Rattle.port_toml_datetime.specs.Faults.{fault};
+ghost use Rattle.port_toml_datetime.specs.inside.Words.{words_of};
 ghost use Rattle.port_toml_datetime.specs.Checks.{after_date, date_rows, day_words, first_failing};
 ghost use Rattle.port_toml_datetime.specs.inside.Values.{date_of};
 
@@ -54,7 +55,7 @@ pub(crate) fn read_date<'a>(
     ensures date { IfOk result (λ r. r.0 ≡ date_of year.now bytes.now) }
     ensures rest { IfOk result (λ r. r.1.now ≡ after_date bytes.now) }
     ensures err { IfErr result (λ e.
-        first_failing (date_rows year.now bytes.now) ≡ Some (fault_of e)) }
+        first_failing (date_rows year.now bytes.now) ≡ Some e) }
 {
     let (month, bytes) = read_field(bytes, Check::Month)?;
     let bytes = mark(b'-', bytes, Check::MonthMark)?;

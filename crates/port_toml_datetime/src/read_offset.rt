@@ -1,7 +1,6 @@
 //! Offsets. The checks stand in the order of the table.
 ghost use Rattle.std.specs.Prelude.{◌≡◌, ◌≤◌, Some, None, IfOk, IfErr};
 ghost use Rattle.scan_core.specs.Shares.{signed};
-ghost use Rattle.port_toml_datetime.specs.Faults.{fault_of};
 ghost use Rattle.port_toml_datetime.specs.Checks.{first_failing, numeric_offset_rows, offset_rows};
 ghost use Rattle.port_toml_datetime.specs.inside.Values.{numeric_offset_of, offset_of};
 
@@ -25,7 +24,7 @@ fn read_numeric_offset(negative: bool, bytes: &[u8]) -> Result<Offset, DatetimeP
     ensures pass { IfOk result (λ r. first_failing (numeric_offset_rows bytes.now) ≡ None) }
     ensures offset { IfOk result (λ r. r ≡ numeric_offset_of negative bytes.now) }
     ensures err { IfErr result (λ e.
-        first_failing (numeric_offset_rows bytes.now) ≡ Some (fault_of e)) }
+        first_failing (numeric_offset_rows bytes.now) ≡ Some e) }
 {
     let (hours, bytes) = read_field(bytes, Check::OffsetHour)?;
     let bytes = mark(b':', bytes, Check::OffsetHourMark)?;
@@ -46,7 +45,7 @@ fn read_numeric_offset(negative: bool, bytes: &[u8]) -> Result<Offset, DatetimeP
 pub(crate) fn read_offset(bytes: &[u8]) -> Result<Option<Offset>, DatetimeParseError>
     ensures pass { IfOk result (λ r. first_failing (offset_rows bytes.now) ≡ None) }
     ensures offset { IfOk result (λ r. r ≡ offset_of bytes.now) }
-    ensures err { IfErr result (λ e. first_failing (offset_rows bytes.now) ≡ Some (fault_of e)) }
+    ensures err { IfErr result (λ e. first_failing (offset_rows bytes.now) ≡ Some e) }
 {
     match bytes {
         [] => Ok(None),

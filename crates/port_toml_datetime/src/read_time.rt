@@ -3,7 +3,7 @@ ghost use Rattle.std.specs.Prelude.{◌≡◌, Some, None, nat_le, IfOk, IfErr, 
 ghost use Rattle.scan_core.specs.Digits.{AreDigits, number_of};
 ghost use Rattle.port_toml_datetime.specs.Times.{nanoseconds};
 ghost use Rattle.port_toml_datetime.specs.Tokens.{is_digits};
-ghost use Rattle.port_toml_datetime.specs.Faults.{fault_of, words_of};
+ghost use Rattle.port_toml_datetime.specs.inside.Words.{words_of};
 ghost use Rattle.port_toml_datetime.specs.Checks.{after_fraction, after_marked, after_time, first_failing, fraction, has_length, marked, time_rows, where_there};
 ghost use Rattle.port_toml_datetime.specs.inside.Values.{time_of};
 
@@ -25,7 +25,7 @@ fn read_second(bytes: &[u8]) -> Result<(Option<Field>, &[u8]), DatetimeParseErro
     ensures rest { IfOk result (λ r. r.1.now ≡ after_marked (codes ":") bytes.now) }
     ensures isnt { IfErr result (λ e.
         where_there is_digits (marked (codes ":") bytes.now) ≡ false) }
-    ensures err { IfErr result (λ e. fault_of e ≡ words_of Check.Second) }
+    ensures err { IfErr result (λ e. e ≡ words_of Check.Second) }
 {
     match bytes {
         [b':', rest @ ..] => {
@@ -46,7 +46,7 @@ fn read_fraction(has_second: bool, bytes: &[u8]) -> Result<(Option<u32>, &[u8]),
     ensures rest { IfOk result (λ r. r.1.now ≡ after_fraction has_second bytes.now) }
     ensures isnt { IfErr result (λ e.
         where_there is_digits (fraction has_second bytes.now) ≡ false) }
-    ensures err { IfErr result (λ e. fault_of e ≡ words_of Check.Nanosecond) }
+    ensures err { IfErr result (λ e. e ≡ words_of Check.Nanosecond) }
 {
     match bytes {
         [b'.', rest @ ..] if has_second => {
@@ -100,7 +100,7 @@ pub(crate) fn read_time<'a>(
     ensures time { IfOk result (λ r. r.0 ≡ time_of hour.now bytes.now) }
     ensures rest { IfOk result (λ r. r.1.now ≡ after_time bytes.now) }
     ensures err { IfErr result (λ e.
-        first_failing (time_rows hour.now bytes.now) ≡ Some (fault_of e)) }
+        first_failing (time_rows hour.now bytes.now) ≡ Some e) }
 {
     let (minute, bytes) = read_field(bytes, Check::Minute)?;
     let (second, bytes) = read_second(bytes)?;

@@ -2,7 +2,7 @@
 //! through these.
 ghost use Rattle.std.specs.Prelude.{◌≡◌, true, false, [], ◌∷◌, IfOk, IfErr};
 ghost use Rattle.scan_core.specs.Digits.{AreDigits, number_of};
-ghost use Rattle.port_toml_datetime.specs.Faults.{fault_of, words_of};
+ghost use Rattle.port_toml_datetime.specs.inside.Words.{words_of};
 ghost use Rattle.port_toml_datetime.specs.Checks.{has_length};
 ghost use Rattle.port_toml_datetime.specs.Tokens.{after_token, first_token, is_digits, is_end, is_mark, is_of};
 
@@ -16,7 +16,7 @@ pub(crate) fn digits(bytes: &[u8], asked: Check) -> Result<(&[u8], &[u8]), Datet
     ensures rest { IfOk result (λ r. r.1.now ≡ after_token bytes.now) }
     ensures digits { IfOk result (λ r. AreDigits r.0.now) }
     ensures isnt { IfErr result (λ e. is_digits (first_token bytes.now) ≡ false) }
-    ensures err { IfErr result (λ e. fault_of e ≡ words_of asked) }
+    ensures err { IfErr result (λ e. e ≡ words_of asked) }
 {
     let (front, rest) = split_digits(bytes);
     if front.is_empty() {
@@ -55,7 +55,7 @@ pub(crate) fn read_field(bytes: &[u8], asked: Check) -> Result<(Field, &[u8]), D
         → r.0.number ≡ number_of (first_token bytes.now)) }
     ensures rest { IfOk result (λ r. r.1.now ≡ after_token bytes.now) }
     ensures isnt { IfErr result (λ e. is_digits (first_token bytes.now) ≡ false) }
-    ensures err { IfErr result (λ e. fault_of e ≡ words_of asked) }
+    ensures err { IfErr result (λ e. e ≡ words_of asked) }
 {
     match bytes {
         [tens, ones, rest @ ..]
@@ -89,7 +89,7 @@ pub(crate) fn mark(mark: u8, bytes: &[u8], asked: Check) -> Result<&[u8], Dateti
     ensures is { IfOk result (λ r. is_of (mark ∷ []) (first_token bytes.now) ≡ true) }
     ensures rest { IfOk result (λ r. r.now ≡ after_token bytes.now) }
     ensures isnt { IfErr result (λ e. is_of (mark ∷ []) (first_token bytes.now) ≡ false) }
-    ensures err { IfErr result (λ e. fault_of e ≡ words_of asked) }
+    ensures err { IfErr result (λ e. e ≡ words_of asked) }
 {
     match bytes {
         [byte, rest @ ..] if *byte == mark => Ok(rest),
@@ -101,7 +101,7 @@ pub(crate) fn mark(mark: u8, bytes: &[u8], asked: Check) -> Result<&[u8], Dateti
 pub(crate) fn check(holds: bool, asked: Check) -> Result<(), DatetimeParseError>
     ensures is { IfOk result (λ r. holds ≡ true) }
     ensures isnt { IfErr result (λ e. holds ≡ false) }
-    ensures err { IfErr result (λ e. fault_of e ≡ words_of asked) }
+    ensures err { IfErr result (λ e. e ≡ words_of asked) }
 {
     if holds {
         Ok(())
@@ -114,7 +114,7 @@ pub(crate) fn check(holds: bool, asked: Check) -> Result<(), DatetimeParseError>
 pub(crate) fn end(bytes: &[u8]) -> Result<(), DatetimeParseError>
     ensures is { IfOk result (λ r. is_end bytes.now ≡ true) }
     ensures isnt { IfErr result (λ e. is_end bytes.now ≡ false) }
-    ensures err { IfErr result (λ e. fault_of e ≡ words_of Check.End) }
+    ensures err { IfErr result (λ e. e ≡ words_of Check.End) }
 {
     check(bytes.is_empty(), Check::End)
 }
