@@ -1,41 +1,47 @@
--- Rows of checks: all hold, or the first that fails is found, in one list behind another too.
-use Rattle.std.proofs.Common.{◌≡◌, Bool, true, false, cond, List, [], ◌∷◌, ◌++◌, Option, Some, None, refl}
+-- Checks in a row: all hold and the answer is the one behind them, or the first that fails is the answer.
+use Rattle.std.proofs.Common.{◌≡◌, Bool, true, false, cond, List, [], ◌∷◌, Result, Ok, Err, refl, ap}
 use Rattle.port_toml_datetime.specs.Faults.{Fault}
-use Rattle.port_toml_datetime.specs.Checks.{Row, first_failing}
+use Rattle.port_toml_datetime.specs.Checks.{Row, checked, and_then}
 
 abbrev pub AllHold : List Row → Type 0
 AllHold [] = Unit {0}
 AllHold (row ∷ rows) = (row.holds ≡ true) × AllHold rows
 
-pub none_if : (t : Bool) (fault : Fault) (more : Option Fault) → cond t more (Some fault) ≡ None → (t ≡ true) × (more ≡ None)
-none_if true fault more h = (refl, h)
-none_if false fault more h = absurd (cc)
+abbrev value_or : {A : Type 0} → A → Result A Fault → A
+value_or other (Ok value) = value
+value_or other (Err said) = other
 
-pub all_hold : (rows : List Row) → first_failing rows ≡ None → AllHold rows
-all_hold [] h = tt
-all_hold (row ∷ rows) h = let p = none_if row.holds row.fault (first_failing rows) h in (p.0, all_hold rows p.1)
+pub same_ok : {A : Type 0} (a b : A) → ◌≡◌ {A = Result A Fault} (Ok a) (Ok b) → a ≡ b
+same_ok a b h = ap (value_or a) h
 
-pub none_fails : (rows : List Row) → AllHold rows → first_failing rows ≡ None
-none_fails [] h = refl
-none_fails (row ∷ rows) h = rw h.0 (none_fails rows h.1)
+ok_if : {A : Type 0} (t : Bool) (said : Fault) (more : Result A Fault) (value : A) → cond t more (Err said) ≡ Ok value
+    → (t ≡ true) × (more ≡ Ok value)
+ok_if true said more value h = (refl, h)
+ok_if false said more value h = absurd (cc)
 
-front_if : (t : Bool) (fault found : Fault) (more all : Option Fault) → (more ≡ Some found → all ≡ Some found)
-    → cond t more (Some fault) ≡ Some found → cond t all (Some fault) ≡ Some found
-front_if true fault found more all next h = next h
-front_if false fault found more all next h = h
+pub record Held {A : Type 0} (rows : List Row) (answer : Result A Fault) (value : A) : Type 0 where
+  pub all : AllHold rows
+  pub answered : answer ≡ Ok value
 
-pub failing_front : (rows more : List Row) (found : Fault) → first_failing rows ≡ Some found → first_failing (rows ++ more) ≡ Some found
-failing_front [] more found h = absurd (cc)
-failing_front (row ∷ rows) more found h = front_if row.holds row.fault found (first_failing rows) (first_failing (rows ++ more))
-    (failing_front rows more found) h
+pub all_held : {A : Type 0} (rows : List Row) (answer : Result A Fault) (value : A) → checked rows answer ≡ Ok value → Held rows answer value
+unfolding checked
+all_held [] answer value h = record { all = tt; answered = h }
+all_held (row ∷ rows) answer value h =
+    let p = ok_if row.holds row.fault (checked rows answer) value h in
+    let q = all_held rows answer value p.1 in
+    record { all = (p.0, q.all); answered = q.answered }
 
-pub failing_behind : (rows more : List Row) → first_failing rows ≡ None → first_failing (rows ++ more) ≡ first_failing more
-failing_behind [] more h = refl
-failing_behind (row ∷ rows) more h = let p = none_if row.holds row.fault (first_failing rows) h in rw p.0 (failing_behind rows more p.1)
+pub all_pass : {A : Type 0} (rows : List Row) (answer : Result A Fault) → AllHold rows → checked rows answer ≡ answer
+unfolding checked
+all_pass [] answer h = refl
+all_pass (row ∷ rows) answer h = rw h.0 (all_pass rows answer h.1)
 
-pub none_in_both : (rows more : List Row) → first_failing (rows ++ more) ≡ None → (first_failing rows ≡ None) × (first_failing more ≡ None)
-none_in_both [] more h = (refl, h)
-none_in_both (row ∷ rows) more h =
-    let p = none_if row.holds row.fault (first_failing (rows ++ more)) h in
-    let q = none_in_both rows more p.1 in
-    (rw p.0 q.0, q.1)
+pub then_ok : {A B : Type 0} (first : Result A Fault) (next : A → Result B Fault) (value : B) → and_then first next ≡ Ok value
+    → (a : A) × (first ≡ Ok a) × (next a ≡ Ok value)
+unfolding and_then
+then_ok (Ok a) next value h = (a, refl, h)
+then_ok (Err said) next value h = absurd (cc)
+
+pub then_on : {A B : Type 0} (first : Result A Fault) (next : A → Result B Fault) (a : A) → first ≡ Ok a → and_then first next ≡ next a
+unfolding and_then
+then_on first next a h = rw h refl

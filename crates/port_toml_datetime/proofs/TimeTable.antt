@@ -1,19 +1,18 @@
 -- The checks of a time hold exactly for times.
-use Rattle.std.proofs.Common.{◌≡◌, ℕ, nat_le, Bool, true, false, cond, List, [], ◌∷◌, ◌++◌, Option, Some, None, codes, refl, sym, ◌∙◌, ap}
-use Rattle.std.proofs.Common.{append_assoc, arith, inl, inr}
+use Rattle.std.proofs.Common.{◌≡◌, ℕ, nat_le, Bool, true, false, cond, List, [], ◌∷◌, ◌++◌, Option, Some, None, Ok, codes, refl, sym, ◌∙◌, ap}
+use Rattle.std.proofs.Common.{append_assoc, subst, arith, inl, inr}
 use Rattle.std.specs.Prelude.{is_some, option_map}
 use Rattle.scan_core.specs.Digits.{AreDigits, number_of}
 use Rattle.port_toml_datetime.specs.declared.time.Time.{Time}
 use Rattle.port_toml_datetime.specs.Times.{nanoseconds, IsPartialTime}
 use Rattle.port_toml_datetime.specs.inside.GrammarParts.{IsPerhapsSecondFraction, IsPerhapsSeconds}
 use Rattle.port_toml_datetime.specs.Tokens.{first_token, after_token, token, after, is_digits, is_of}
-use Rattle.port_toml_datetime.specs.Checks.{first_failing, has_length, where_there, marked, after_marked, fraction, after_fraction}
-use Rattle.port_toml_datetime.specs.Checks.{time_rows, after_time}
-use Rattle.port_toml_datetime.specs.inside.Values.{time_of}
+use Rattle.port_toml_datetime.specs.Checks.{has_length, where_there, marked, after_marked, fraction, after_fraction}
+use Rattle.port_toml_datetime.specs.Checks.{time_outcome, after_time}
 use Rattle.scan_core.specs.Fronts.{NoDigitFirst}
 use Rattle.port_toml_datetime.proofs.TokenFacts.{run_exact, run_sound}
 use Rattle.port_toml_datetime.proofs.Marks.{mark_sound}
-use Rattle.port_toml_datetime.proofs.Rows.{all_hold, none_fails}
+use Rattle.port_toml_datetime.proofs.Rows.{same_ok, all_held, all_pass}
 use Rattle.port_toml_datetime.proofs.FieldFacts.{is_length, two_made, field_run, most_of}
 
 -- ---- what the checks let through
@@ -68,17 +67,23 @@ colon_if true text e h f two most =
     )
 colon_if false text e h f two most = ([], inl (refl, refl, refl), refl)
 
-pub time_sound : (hour text : List ℕ) → AreDigits hour → first_failing (time_rows hour text) ≡ None
-    → (piece : List ℕ) × IsPartialTime (hour ++ (codes ":" ++ piece)) (time_of hour text) × (text ≡ piece ++ after_time text)
-unfolding time_rows time_of after_time
-time_sound hour text digits h =
-    let a = all_hold (time_rows hour text) h in
+pub record TimeFound (hour text : List ℕ) (time : Time) : Type 0 where
+  pub piece : List ℕ
+  pub is : IsPartialTime (hour ++ (codes ":" ++ piece)) time
+  pub joined : text ≡ piece ++ after_time text
+
+pub time_sound : (hour text : List ℕ) (time : Time) → AreDigits hour → time_outcome hour text ≡ Ok time → TimeFound hour text time
+unfolding time_outcome after_time
+time_sound hour text time digits h =
+    let held = all_held _ _ time h in
+    let a = held.all in
     let minute = run_sound text a.0 in
     let w = a.1.1.1 in
     let m = w.1.1.1 in
-    let s = colon_if (is_of (58 ∷ []) (first_token (after_token text))) (after_token text) refl a.1.0 a.1.1.0 w.1.1.0 m.1.1.0 in (
-      token 0 text ++ s.0,
-      record {
+    let s = colon_if (is_of (58 ∷ []) (first_token (after_token text))) (after_token text) refl a.1.0 a.1.1.0 w.1.1.0 m.1.1.0 in
+    subst (λ (t : Time). TimeFound hour text t) (same_ok _ time held.answered) (record {
+      piece = token 0 text ++ s.0;
+      is = record {
         hour_text = hour;
         minute_text = token 0 text;
         second_text = s.0;
@@ -86,9 +91,9 @@ time_sound hour text digits h =
         minutes = two_made 59 (token 0 text) minute.digits w.1.0 m.1.0;
         seconds = s.1;
         joined = refl;
-      },
-      minute.joined ∙ ap (λ (l : List ℕ). token 0 text ++ l) s.2 ∙ sym (append_assoc (token 0 text) s.0 _),
-    )
+      };
+      joined = minute.joined ∙ ap (λ (l : List ℕ). token 0 text ++ l) s.2 ∙ sym (append_assoc (token 0 text) s.0 _);
+    })
 
 -- ---- times pass the checks
 
@@ -159,8 +164,7 @@ seconds_first piece rest second value (inl none) s = rw none.0 s.digit
 seconds_first piece rest second value (inr f) s = rw f.joined refl
 
 pub record TimeRead (hour text : List ℕ) (time : Time) (rest : List ℕ) : Type 0 where
-  pub pass : first_failing (time_rows hour text) ≡ None
-  pub value : time_of hour text ≡ time
+  pub read : time_outcome hour text ≡ Ok time
   pub follows : after_time text ≡ rest
 
 same_time : (h m : ℕ) (s n : Option ℕ) (time : Time) → time.hour ≡ h → time.minute ≡ m → s ≡ time.second → n ≡ time.nanosecond
@@ -169,13 +173,13 @@ same_time h m s n time e f g k = rw (← e, ← f, g, k) refl
 
 pub time_exact : (text rest : List ℕ) (time : Time) (i : IsPartialTime text time) → Stops rest
     → TimeRead i.hour_text (i.minute_text ++ (i.second_text ++ rest)) time rest
-unfolding time_rows time_of after_time
+unfolding time_outcome after_time
 time_exact text rest time i st =
     let minute = field_run 2 0 59 i.minute_text (i.second_text ++ rest) time.minute i.minutes (omega arith)
     (seconds_first i.second_text rest time.second time.nanosecond i.seconds st) in
     let s = seconds_exact i.second_text rest time.second time.nanosecond i.seconds st in
     record {
-      pass = none_fails (time_rows i.hour_text (i.minute_text ++ (i.second_text ++ rest))) (
+      read = all_pass _ _ (
         minute.is,
         (
           rw minute.follows s.digits,
@@ -199,7 +203,7 @@ time_exact text rest time i st =
             ),
           ),
         ),
-      );
-      value = rw (minute.first, minute.follows) (same_time _ _ _ _ time i.hours.number i.minutes.number s.number s.nanos);
+      ) ∙ ap (λ (t : Time). Ok t)
+          (rw (minute.first, minute.follows) (same_time _ _ _ _ time i.hours.number i.minutes.number s.number s.nanos));
       follows = rw minute.follows s.follows;
     }

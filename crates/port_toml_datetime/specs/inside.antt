@@ -1,4 +1,3 @@
 -- What private contracts alone cite, by subject.
-pub mod Values
 pub mod GrammarParts
 pub mod Words

@@ -1,11 +1,12 @@
 //! Laws of the grammar, the table, the written texts and the order, each for every value: functions
 //! that do nothing.
-ghost use Rattle.std.specs.Prelude.{◌≡◌, ◌↔◌, ℕ, List, None, IsTrue};
+ghost use Rattle.std.specs.Prelude.{◌≡◌, ◌↔◌, ℕ, List, Result, Ok, IsTrue};
 ghost use Rattle.std.specs.Ordering.{ordering_then};
-ghost use Rattle.port_toml_datetime.specs.Checks.{checks, first_failing};
+ghost use Rattle.port_toml_datetime.specs.Checks.{outcome};
 ghost use Rattle.port_toml_datetime.specs.Datetimes.{IsDatetime};
 ghost use Rattle.port_toml_datetime.specs.Faults.{Fault};
 ghost use Rattle.port_toml_datetime.specs.Orders.{date_cmp, none_first, offset_cmp, time_cmp};
+ghost use Rattle.port_toml_datetime.specs.Reading.{IsReadFrom};
 ghost use Rattle.port_toml_datetime.specs.Texts.{text_of};
 ghost use Rattle.port_toml_datetime.specs.WellFormed.{IsWellFormed};
 ghost use Rattle.port_toml_datetime.specs.declared.date.Date.{Date as DateValue};
@@ -15,16 +16,22 @@ ghost use Rattle.port_toml_datetime.specs.declared.datetime.Datetime.{Datetime a
 
 use crate::{Date, Datetime, DatetimeParseError, Offset, Time};
 
-/// No check fails exactly for the texts of the grammar.
+/// The checks answer a value exactly where the text spells it by the grammar.
 pub fn checks_are_the_grammar()
-    ensures { (text : List ℕ) → (first_failing (checks text) ≡ None)
-        ↔ ((value : DatetimeValue) × IsDatetime text value) }
+    ensures { (text : List ℕ) (value : DatetimeValue)
+        → (outcome text ≡ Ok value) ↔ IsDatetime text value }
 {}
 
 /// A text has one value at most.
 pub fn one_value()
     ensures { (text : List ℕ) (a b : DatetimeValue)
         → IsDatetime text a → IsDatetime text b → a ≡ b }
+{}
+
+/// A text has one answer: a value, or a fault.
+pub fn one_answer()
+    ensures { (text : List ℕ) (a b : Result DatetimeValue Fault)
+        → IsReadFrom text a → IsReadFrom text b → a ≡ b }
 {}
 
 /// What a text spells is well-formed: one of the four kinds, each part in its range.

@@ -1,10 +1,8 @@
 //! The whole text. The checks stand in the order of the table.
-ghost use Rattle.std.specs.Prelude.{◌≡◌, Some, None, IfOk, IfErr, codes};
+ghost use Rattle.std.specs.Prelude.{◌≡◌, codes};
 ghost use Rattle.scan_core.specs.Digits.{AreDigits};
-ghost use Rattle.port_toml_datetime.specs.Datetimes.{datetime_of};
 ghost use Rattle.port_toml_datetime.specs.Tokens.{is_one_of};
-ghost use Rattle.port_toml_datetime.specs.Checks.{after_date, checks, dated_rows, first_failing, full_time_rows, local_time_rows, tail_rows};
-ghost use Rattle.port_toml_datetime.specs.inside.Values.{date_of, date_time_of, tail_of, time_of, value_of};
+ghost use Rattle.port_toml_datetime.specs.Checks.{dated_outcome, full_time_outcome, local_time_outcome, outcome, tail_outcome};
 
 use crate::error::{Check, DatetimeParseError};
 use crate::read_date::read_date;
@@ -14,11 +12,9 @@ use crate::scan::{digits, end, mark};
 use crate::{Date, Datetime};
 
 /// A time from its start, and perhaps an offset.
-#[tactic(auto, using(crate::proofs::Rows::failing_front, crate::proofs::Rows::failing_behind), unfolding(crate::specs::Checks::full_time_rows, crate::specs::inside::Values::date_time_of))]
+#[tactic(auto, unfolding(crate::specs::Checks::checked, crate::specs::Checks::and_then, crate::specs::Checks::full_time_outcome))]
 fn read_full_time(date: Date, bytes: &[u8]) -> Result<Datetime, DatetimeParseError>
-    ensures pass { IfOk result (λ r. first_failing (full_time_rows bytes.now) ≡ None) }
-    ensures value { IfOk result (λ r. r ≡ date_time_of date bytes.now) }
-    ensures err { IfErr result (λ e. first_failing (full_time_rows bytes.now) ≡ Some e) }
+    ensures { result ≡ full_time_outcome date bytes.now }
 {
     let (hour, bytes) = digits(bytes, Check::Hour)?;
     let bytes = mark(b':', bytes, Check::HourMark)?;
@@ -39,11 +35,9 @@ fn is_delimiter(byte: u8) -> bool
 }
 
 /// Behind a date: the end, or a delimiter and a time.
-#[tactic(auto, using(crate::proofs::Marks::delimiter_first, crate::proofs::Marks::no_delimiter_first), unfolding(crate::specs::Checks::tail_rows, crate::specs::inside::Values::tail_of))]
+#[tactic(auto, using(crate::proofs::Marks::delimiter_first, crate::proofs::Marks::no_delimiter_first), unfolding(crate::specs::Checks::checked, crate::specs::Checks::tail_outcome))]
 fn read_tail(date: Date, bytes: &[u8]) -> Result<Datetime, DatetimeParseError>
-    ensures pass { IfOk result (λ r. first_failing (tail_rows bytes.now) ≡ None) }
-    ensures value { IfOk result (λ r. r ≡ tail_of date bytes.now) }
-    ensures err { IfErr result (λ e. first_failing (tail_rows bytes.now) ≡ Some e) }
+    ensures { result ≡ tail_outcome date bytes.now }
 {
     match bytes {
         [] => Ok(Datetime {
@@ -57,14 +51,10 @@ fn read_tail(date: Date, bytes: &[u8]) -> Result<Datetime, DatetimeParseError>
 }
 
 /// A local time, from behind the `:` that follows the hour.
-#[tactic(auto, using(crate::proofs::Rows::failing_front, crate::proofs::Rows::failing_behind), unfolding(crate::specs::Checks::local_time_rows))]
+#[tactic(auto, unfolding(crate::specs::Checks::checked, crate::specs::Checks::and_then, crate::specs::Checks::local_time_outcome))]
 fn read_local_time(hour: &[u8], bytes: &[u8]) -> Result<Datetime, DatetimeParseError>
     requires { AreDigits hour.now }
-    ensures pass { IfOk result (λ r. first_failing (local_time_rows hour.now bytes.now) ≡ None) }
-    ensures value { IfOk result (λ r.
-        r ≡ datetime_of None (Some (time_of hour.now bytes.now)) None) }
-    ensures err { IfErr result (λ e.
-        first_failing (local_time_rows hour.now bytes.now) ≡ Some e) }
+    ensures { result ≡ local_time_outcome hour.now bytes.now }
 {
     let (time, rest) = read_time(hour, bytes)?;
     end(rest)?;
@@ -76,25 +66,19 @@ fn read_local_time(hour: &[u8], bytes: &[u8]) -> Result<Datetime, DatetimeParseE
 }
 
 /// A date, from behind the `-` that follows the year, and what follows it.
-#[tactic(auto, using(crate::proofs::Rows::failing_front, crate::proofs::Rows::failing_behind), unfolding(crate::specs::Checks::dated_rows))]
+#[tactic(auto, unfolding(crate::specs::Checks::and_then, crate::specs::Checks::dated_outcome))]
 fn read_dated(year: &[u8], bytes: &[u8]) -> Result<Datetime, DatetimeParseError>
     requires { AreDigits year.now }
-    ensures pass { IfOk result (λ r. first_failing (dated_rows year.now bytes.now) ≡ None) }
-    ensures value { IfOk result (λ r.
-        r ≡ tail_of (date_of year.now bytes.now) (after_date bytes.now)) }
-    ensures err { IfErr result (λ e.
-        first_failing (dated_rows year.now bytes.now) ≡ Some e) }
+    ensures { result ≡ dated_outcome year.now bytes.now }
 {
     let (date, rest) = read_date(year, bytes)?;
     read_tail(date, rest)
 }
 
 /// The date-time that the whole text is, or the error of the first check that fails.
-#[tactic(auto, unfolding(crate::specs::Checks::checks, crate::specs::inside::Values::value_of))]
+#[tactic(auto, unfolding(crate::specs::Checks::checked, crate::specs::Checks::outcome))]
 pub(crate) fn read(bytes: &[u8]) -> Result<Datetime, DatetimeParseError>
-    ensures pass { IfOk result (λ r. first_failing (checks bytes.now) ≡ None) }
-    ensures value { IfOk result (λ r. r ≡ value_of bytes.now) }
-    ensures err { IfErr result (λ e. first_failing (checks bytes.now) ≡ Some e) }
+    ensures { result ≡ outcome bytes.now }
 {
     let (first, rest) = digits(bytes, Check::YearOrHour)?;
     match rest {

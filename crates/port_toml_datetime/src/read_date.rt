@@ -1,11 +1,11 @@
 //! Dates, from behind the `-` that follows the year. The checks stand in the order of the table.
-ghost use Rattle.std.specs.Prelude.{◌≡◌, pos, Some, None, codes, IfOk, IfErr};
+ghost use Rattle.std.specs.Prelude.{◌≡◌, pos, Ok, Err, codes, IfOk, IfErr};
 ghost use Rattle.scan_core.specs.Digits.{AreDigits};
 ghost use Rattle.scan_core.specs.Calendar.{days_in_month, is_leap_year};
 ghost use Rattle.port_toml_datetime.specs.Faults.{fault};
 ghost use Rattle.port_toml_datetime.specs.inside.Words.{words_of};
-ghost use Rattle.port_toml_datetime.specs.Checks.{after_date, date_rows, day_words, first_failing};
-ghost use Rattle.port_toml_datetime.specs.inside.Values.{date_of};
+ghost use Rattle.port_toml_datetime.specs.Checks.{date_outcome, day_words};
+ghost use Rattle.port_toml_datetime.specs.Tokens.{after};
 
 use crate::Date;
 use crate::error::{Check, DatetimeParseError};
@@ -45,17 +45,15 @@ fn day_check(days: u8) -> Check
 }
 
 /// A date, from behind the `-` that follows the year.
-#[tactic(auto, unfolding(crate::specs::Checks::date_rows, crate::specs::inside::Values::date_of))]
+#[tactic(auto, unfolding(crate::specs::Checks::checked, crate::specs::Checks::date_outcome))]
 pub(crate) fn read_date<'a>(
     year: &[u8],
     bytes: &'a [u8],
 ) -> Result<(Date, &'a [u8]), DatetimeParseError>
     requires { AreDigits year.now }
-    ensures pass { IfOk result (λ r. first_failing (date_rows year.now bytes.now) ≡ None) }
-    ensures date { IfOk result (λ r. r.0 ≡ date_of year.now bytes.now) }
-    ensures rest { IfOk result (λ r. r.1.now ≡ after_date bytes.now) }
-    ensures err { IfErr result (λ e.
-        first_failing (date_rows year.now bytes.now) ≡ Some e) }
+    ensures date { IfOk result (λ r. date_outcome year.now bytes.now ≡ Ok r.0) }
+    ensures rest { IfOk result (λ r. r.1.now ≡ after 3 bytes.now) }
+    ensures err { IfErr result (λ e. date_outcome year.now bytes.now ≡ Err e) }
 {
     let (month, bytes) = read_field(bytes, Check::Month)?;
     let bytes = mark(b'-', bytes, Check::MonthMark)?;

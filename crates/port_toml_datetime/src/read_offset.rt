@@ -1,8 +1,7 @@
 //! Offsets. The checks stand in the order of the table.
-ghost use Rattle.std.specs.Prelude.{◌≡◌, ◌≤◌, Some, None, IfOk, IfErr};
+ghost use Rattle.std.specs.Prelude.{◌≡◌, ◌≤◌};
 ghost use Rattle.scan_core.specs.Shares.{signed};
-ghost use Rattle.port_toml_datetime.specs.Checks.{first_failing, numeric_offset_rows, offset_rows};
-ghost use Rattle.port_toml_datetime.specs.inside.Values.{numeric_offset_of, offset_of};
+ghost use Rattle.port_toml_datetime.specs.Checks.{numeric_offset_outcome, offset_outcome};
 
 use crate::Offset;
 use crate::error::{Check, DatetimeParseError};
@@ -18,13 +17,10 @@ fn with_sign(negative: bool, minutes: u16) -> i16
 }
 
 /// An offset, from behind its sign.
-#[tactic(auto, unfolding(crate::specs::Checks::numeric_offset_rows, crate::specs::inside::Values::numeric_offset_of))]
+#[tactic(auto, unfolding(crate::specs::Checks::checked, crate::specs::Checks::numeric_offset_outcome))]
 #[inline(always)] // else the offset goes through memory
-fn read_numeric_offset(negative: bool, bytes: &[u8]) -> Result<Offset, DatetimeParseError>
-    ensures pass { IfOk result (λ r. first_failing (numeric_offset_rows bytes.now) ≡ None) }
-    ensures offset { IfOk result (λ r. r ≡ numeric_offset_of negative bytes.now) }
-    ensures err { IfErr result (λ e.
-        first_failing (numeric_offset_rows bytes.now) ≡ Some e) }
+fn read_numeric_offset(negative: bool, bytes: &[u8]) -> Result<Option<Offset>, DatetimeParseError>
+    ensures { result ≡ numeric_offset_outcome negative bytes.now }
 {
     let (hours, bytes) = read_field(bytes, Check::OffsetHour)?;
     let bytes = mark(b':', bytes, Check::OffsetHourMark)?;
@@ -35,17 +31,15 @@ fn read_numeric_offset(negative: bool, bytes: &[u8]) -> Result<Offset, DatetimeP
     check(minutes.number <= 59, Check::OffsetMinuteRange)?;
     end(bytes)?;
     let minutes = 60 * u16::from(hours.number) + u16::from(minutes.number);
-    Ok(Offset::Custom {
+    Ok(Some(Offset::Custom {
         minutes: with_sign(negative, minutes),
-    })
+    }))
 }
 
 /// Behind a date and a time: the end, `Z`, or a signed offset.
-#[tactic(auto, unfolding(crate::specs::Checks::offset_rows, crate::specs::inside::Values::offset_of))]
+#[tactic(auto, unfolding(crate::specs::Checks::checked, crate::specs::Checks::offset_outcome))]
 pub(crate) fn read_offset(bytes: &[u8]) -> Result<Option<Offset>, DatetimeParseError>
-    ensures pass { IfOk result (λ r. first_failing (offset_rows bytes.now) ≡ None) }
-    ensures offset { IfOk result (λ r. r ≡ offset_of bytes.now) }
-    ensures err { IfErr result (λ e. first_failing (offset_rows bytes.now) ≡ Some e) }
+    ensures { result ≡ offset_outcome bytes.now }
 {
     match bytes {
         [] => Ok(None),
@@ -57,8 +51,8 @@ pub(crate) fn read_offset(bytes: &[u8]) -> Result<Option<Offset>, DatetimeParseE
             end(rest)?;
             Ok(Some(Offset::Z))
         }
-        [b'+', rest @ ..] => Ok(Some(read_numeric_offset(false, rest)?)),
-        [b'-', rest @ ..] => Ok(Some(read_numeric_offset(true, rest)?)),
+        [b'+', rest @ ..] => read_numeric_offset(false, rest),
+        [b'-', rest @ ..] => read_numeric_offset(true, rest),
         _ => Err(DatetimeParseError::new(Check::Offset)),
     }
 }

@@ -1,11 +1,10 @@
 //! Times, from behind the `:` that follows the hour. The checks stand in the order of the table.
-ghost use Rattle.std.specs.Prelude.{◌≡◌, Some, None, nat_le, IfOk, IfErr, codes, is_some, option_map, true, false};
+ghost use Rattle.std.specs.Prelude.{◌≡◌, Ok, Err, nat_le, IfOk, IfErr, codes, is_some, option_map, true, false};
 ghost use Rattle.scan_core.specs.Digits.{AreDigits, number_of};
 ghost use Rattle.port_toml_datetime.specs.Times.{nanoseconds};
 ghost use Rattle.port_toml_datetime.specs.Tokens.{is_digits};
 ghost use Rattle.port_toml_datetime.specs.inside.Words.{words_of};
-ghost use Rattle.port_toml_datetime.specs.Checks.{after_fraction, after_marked, after_time, first_failing, fraction, has_length, marked, time_rows, where_there};
-ghost use Rattle.port_toml_datetime.specs.inside.Values.{time_of};
+ghost use Rattle.port_toml_datetime.specs.Checks.{after_fraction, after_marked, after_time, fraction, has_length, marked, time_outcome, where_there};
 
 use crate::Time;
 use crate::error::{Check, DatetimeParseError};
@@ -89,18 +88,16 @@ fn is_second(second: Option<u8>) -> bool
 }
 
 /// A time, from behind the `:` that follows the hour.
-#[tactic(auto, unfolding(crate::specs::Checks::time_rows, crate::specs::Checks::after_time, crate::specs::inside::Values::time_of))]
+#[tactic(auto, unfolding(crate::specs::Checks::checked, crate::specs::Checks::time_outcome, crate::specs::Checks::after_time))]
 #[inline(always)] // else its two callers take the time out of memory
 pub(crate) fn read_time<'a>(
     hour: &[u8],
     bytes: &'a [u8],
 ) -> Result<(Time, &'a [u8]), DatetimeParseError>
     requires { AreDigits hour.now }
-    ensures pass { IfOk result (λ r. first_failing (time_rows hour.now bytes.now) ≡ None) }
-    ensures time { IfOk result (λ r. r.0 ≡ time_of hour.now bytes.now) }
+    ensures time { IfOk result (λ r. time_outcome hour.now bytes.now ≡ Ok r.0) }
     ensures rest { IfOk result (λ r. r.1.now ≡ after_time bytes.now) }
-    ensures err { IfErr result (λ e.
-        first_failing (time_rows hour.now bytes.now) ≡ Some e) }
+    ensures err { IfErr result (λ e. time_outcome hour.now bytes.now ≡ Err e) }
 {
     let (minute, bytes) = read_field(bytes, Check::Minute)?;
     let (second, bytes) = read_second(bytes)?;
