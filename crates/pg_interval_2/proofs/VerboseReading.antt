@@ -11,26 +11,29 @@ use Rattle.scan_core.specs.Fronts.{leading}
 use Rattle.scan_core.specs.Scanning.{Place, Passes, ahead, front_byte}
 use Rattle.scan_core.proofs.FrontFacts.{behind_skips, leading_passes}
 use Rattle.scan_core.proofs.WordFacts.{ink, ink-words, weight, total_length}
-use Rattle.pg_interval_2.specs.declared.reading.items.Misread.{Misread}
+use Rattle.pg_interval_2.specs.declared.interval.Interval.{Interval}
+use Rattle.pg_interval_2.specs.declared.error.ParseError.{ParseError}
+use Rattle.pg_interval_2.specs.declared.error.ParseError.TheVariants.{InvalidInterval, BadUnit, InvalidYearMonth, InvalidDay, InvalidTime}
 use Rattle.pg_interval_2.specs.declared.reading.items.Misread.TheVariants.{BadName, NoItems}
-use Rattle.pg_interval_2.specs.declared.reading.tally.Tally.{Tally}
-use Rattle.pg_interval_2.specs.Denotes.{HasNoShape}
+use Rattle.pg_interval_2.specs.Denotes.{Denotes, HasNoShape, Refuses}
+use Rattle.pg_interval_2.specs.Messages.{not_verbose}
 use Rattle.pg_interval_2.specs.Postgres.{AreItems}
 use Rattle.pg_interval_2.specs.Turned.{turned_counts}
 use Rattle.pg_interval_2.specs.UnitNames.{verbose_names}
 use Rattle.pg_interval_2.specs.Verbose.{IsFramed, IsVerbose, IsVerboseBadName, EndsInAgo}
 use Rattle.pg_interval_2.specs.inside.VerboseParts.{ago_or_none, IsBody}
 use Rattle.pg_interval_2.specs.inside.ItemReading.{after_blanks, verdict, Spelled, BadLetters, Unspelled}
-use Rattle.pg_interval_2.specs.inside.ItemsTally.{IsItemsTally, IsMisread}
-use Rattle.pg_interval_2.specs.inside.Tallies.{Tallies}
-use Rattle.pg_interval_2.specs.inside.VerboseReading.{solid_behind, ends_solid, IsEnding, IsBehindAt, IsFrontTally, IsFrontMisread}
+use Rattle.pg_interval_2.specs.inside.ItemsTally.{AnswersItems, IsMisread, RefusesItems}
+use Rattle.pg_interval_2.specs.inside.Tallies.{AnswersCounts}
+use Rattle.pg_interval_2.specs.inside.VerboseReading.{solid_behind, ends_solid, IsEnding, IsBehindAt, AnswersFront, IsFrontMisread, RefusesFront}
+use Rattle.pg_interval_2.proofs.Answering.{answers_err, answers_ok}
 use Rattle.pg_interval_2.proofs.BadNames.{bad_verdict, items_verdict}
 use Rattle.pg_interval_2.proofs.Frames.{same_before, same_behind, one_frame, whole_words, words_before}
 use Rattle.pg_interval_2.proofs.ItemFacts.{AreBlanks}
 use Rattle.pg_interval_2.proofs.ItemWords.{words-blanks}
 use Rattle.pg_interval_2.proofs.NoItems.{after_solid}
 use Rattle.pg_interval_2.proofs.TextEnds.{solid-append, blanks_no_solid}
-use Rattle.pg_interval_2.proofs.VerboseBadNames.{bad_after, bad_before}
+use Rattle.pg_interval_2.proofs.VerboseBadNames.{bad_after, bad_before, no_shape_at_bad}
 use Rattle.pg_interval_2.proofs.VerboseCounts.{are_names, whole_text}
 
 -- ---- a `0` alone
@@ -115,23 +118,29 @@ no_at front rest is other before bytes at =
     let found : rest ≡ 64 ∷ bytes = is ∙ ap after_blanks at.split ∙ behind_skips is_blank before (64 ∷ bytes) at.blank in
     absurd (other (ap front_byte found))
 
-pub zero_tally : (front bytes : List ℕ) (at : ℕ) (ago : Bool) (tally : Tally) → Passed front bytes at → bytes ≡ codes "0" → Tallies tally []
-    → IsFrontTally front ago tally
-zero_tally front bytes at ago tally p zero tallies =
-    (p.before, p.gap ++ bytes, [], front_at front bytes at p, inl (words-blanks p.gap bytes p.blank_gap ∙ ap words zero, refl), tallies)
+pub zero_answer : (front bytes : List ℕ) (at : ℕ) (ago : Bool) (answer : Result Interval ParseError) → Passed front bytes at
+    → bytes ≡ codes "0" → AnswersCounts [] answer
+    → AnswersFront front ago answer
+zero_answer front bytes at ago answer p zero answers =
+    (p.before, p.gap ++ bytes, [], front_at front bytes at p, inl (words-blanks p.gap bytes p.blank_gap ∙ ap words zero, refl), answers)
 
-pub items_tally : (front bytes : List ℕ) (at : ℕ) (ago : Bool) (read : Result Tally Misread) → Passed front bytes at
-    → IfOk read (IsItemsTally verbose_names ago bytes)
-    → IfOk read (IsFrontTally front ago)
-items_tally front bytes at ago (Ok tally) p (counts, items, tallies) = (
+items_answer : (front bytes : List ℕ) (at : ℕ) (ago : Bool) (answer : Result Interval ParseError) → Passed front bytes at
+    → AnswersItems verbose_names ago bytes answer
+    → AnswersFront front ago answer
+items_answer front bytes at ago answer p (counts, items, answers) = (
   p.before,
   p.gap ++ bytes,
   counts,
   front_at front bytes at p,
   inr (subst (λ (all : List (List ℕ)). AreItems verbose_names all counts) (sym (words-blanks p.gap bytes p.blank_gap)) items),
-  tallies,
+  answers,
 )
-items_tally front bytes at ago (Err e) p h = tt
+
+pub front_reads : (front bytes : List ℕ) (at : ℕ) (ago : Bool) (answer : Result Interval ParseError) → Passed front bytes at
+    → IfOk answer (λ t. AnswersItems verbose_names ago bytes (Ok t))
+    → IfOk answer (λ t. AnswersFront front ago (Ok t))
+front_reads front bytes at ago (Ok t) p found = items_answer front bytes at ago (Ok t) p found
+front_reads front bytes at ago (Err e) p found = tt
 
 -- the bytes behind the `@` are these
 same_bytes : (front bytes : List ℕ) (at : ℕ) (p : Passed front bytes at) (before more : List ℕ) → IsBehindAt front before more
@@ -149,14 +158,16 @@ not_zero front bytes at p ends other h =
     let solid = sym (solid-append true (p.before ++ (64 ∷ p.gap)) bytes) ∙ ap ends_solid (sym whole) ∙ ends in
     other (only_zero (solid_behind true (p.before ++ (64 ∷ p.gap))) bytes p.solid solid h)
 
-pub misread : (front bytes : List ℕ) (at : ℕ) (read : Result Tally Misread) → Passed front bytes at → ends_solid front ≡ true
-    → (bytes ≡ codes "0" → ⊥) → IfErr read (IsMisread verbose_names at bytes)
-    → IfErr read (IsFrontMisread front)
-misread front bytes at (Ok tally) p ends other h = tt
-misread front bytes at (Err NoItems) p ends other h = λ before more is.
+no_front_items : (front bytes : List ℕ) (at : ℕ) → Passed front bytes at → ends_solid front ≡ true → (bytes ≡ codes "0" → ⊥)
+    → IsMisread verbose_names at bytes NoItems
+    → IsFrontMisread front NoItems
+no_front_items front bytes at p ends other h before more is =
     let same = same_bytes front bytes at p before more is in
     (ap (verdict verbose_names [] 0) same ∙ h, λ zero. not_zero front bytes at p ends other (sym same ∙ zero))
-misread front bytes at (Err (BadName start end)) p ends other (s, e, bad, starts, stops) =
+
+bad_front_name : (front bytes : List ℕ) (at start end : ℕ) → Passed front bytes at → IsMisread verbose_names at bytes (BadName start end)
+    → IsFrontMisread front (BadName start end)
+bad_front_name front bytes at start end p (s, e, bad, starts, stops) =
     let place = p.place in (
       p.before,
       p.gap ++ bytes,
@@ -167,6 +178,18 @@ misread front bytes at (Err (BadName start end)) p ends other (s, e, bad, starts
       omega (arith, place, starts),
       omega (arith, place, stops),
     )
+
+pub front_refuses : (front bytes : List ℕ) (at : ℕ) (ago : Bool) (answer : Result Interval ParseError) → Passed front bytes at
+    → ends_solid front ≡ true → (bytes ≡ codes "0" → ⊥)
+    → IfErr answer (RefusesItems verbose_names ago not_verbose at bytes)
+    → IfErr answer (RefusesFront front ago)
+front_refuses front bytes at ago (Ok t) p ends other why = tt
+front_refuses front bytes at ago (Err (InvalidInterval m)) p ends other why = (no_front_items front bytes at p ends other why.0, why.1)
+front_refuses front bytes at ago (Err (BadUnit start end)) p ends other why = bad_front_name front bytes at start end p why
+front_refuses front bytes at ago (Err (InvalidYearMonth m)) p ends other why =
+    items_answer front bytes at ago (Err (InvalidYearMonth m)) p why
+front_refuses front bytes at ago (Err (InvalidDay m)) p ends other why = items_answer front bytes at ago (Err (InvalidDay m)) p why
+front_refuses front bytes at ago (Err (InvalidTime m)) p ends other why = items_answer front bytes at ago (Err (InvalidTime m)) p why
 
 -- ---- the whole text
 
@@ -188,9 +211,10 @@ body_gap bytes gap counts blank (inl zero) = inl (words_before bytes gap blank �
 body_gap bytes gap counts blank (inr items) = inr (subst (λ (all : List (List ℕ)). AreItems verbose_names all counts)
     (sym (words_before bytes gap blank)) items)
 
-pub spelled : (text : List ℕ) (end : ℕ) (ago : Bool) (tally : Tally) → IsEnding text end ago → IsFrontTally (take end text) ago tally
-    → (counts : List Count) × IsVerbose text counts × Tallies tally counts
-spelled text end ago tally e (before, bytes, counts, at, body, tallies) = (
+spelled : (text : List ℕ) (end : ℕ) (ago : Bool) (answer : Result Interval ParseError) → IsEnding text end ago
+    → AnswersFront (take end text) ago answer
+    → (counts : List Count) × IsVerbose text counts × AnswersCounts counts answer
+spelled text end ago answer e (before, bytes, counts, at, body, answers) = (
   turned_counts ago counts,
   record {
     before = before;
@@ -201,10 +225,10 @@ spelled text end ago tally e (before, bytes, counts, at, body, tallies) = (
     spelled = body_gap bytes e.gap counts e.blank_gap body;
     counted = refl;
   },
-  tallies,
+  answers,
 )
 
-pub bad_name : (text : List ℕ) (end : ℕ) (ago : Bool) (start stop : ℕ) → IsEnding text end ago
+bad_name : (text : List ℕ) (end : ℕ) (ago : Bool) (start stop : ℕ) → IsEnding text end ago
     → IsFrontMisread (take end text) (BadName start stop)
     → IsVerboseBadName text start stop
 bad_name text end ago start stop e (before, bytes, from, to, at, bad, starts, stops) = record {
@@ -282,7 +306,7 @@ no_body body bytes counts same judged other (inr items) =
     let clash : Unspelled ≡ Spelled counts = sym judged ∙ ap (verdict verbose_names [] 0) (sym same)
     ∙ items_verdict verbose_names are_names (words body) counts items in cc
 
-pub no_items : (text : List ℕ) (end : ℕ) (ago : Bool) → IsEnding text end ago → IsFrontMisread (take end text) NoItems
+no_items : (text : List ℕ) (end : ℕ) (ago : Bool) → IsEnding text end ago → IsFrontMisread (take end text) NoItems
     → HasNoShape IsVerbose text × ((start stop : ℕ) → IsVerboseBadName text start stop → ⊥)
 no_items text end ago e none = (
   λ counts h.
@@ -295,3 +319,29 @@ no_items text end ago e none = (
       let clash : Unspelled ≡ BadLetters (total_length (words k.bad.lead) + length k.bad.number) k.bad.letters =
       sym judged.0 ∙ ap (verdict verbose_names [] 0) (sym found.2) ∙ bad_verdict verbose_names are_names k.body k.from k.to k.bad in cc,
 )
+
+-- ---- what the reader answers
+
+-- what is answered of the whole text is what the text denotes, or why it denotes nothing
+pub reads : (text : List ℕ) (end : ℕ) (ago : Bool) (answer : Result Interval ParseError) → IsEnding text end ago
+    → IfOk answer (λ t. AnswersFront (take end text) ago (Ok t))
+    → IfOk answer (λ t. Denotes IsVerbose text t)
+reads text end ago (Ok t) e found = let of = spelled text end ago (Ok t) e found in
+    answers_ok IsVerbose text of.0 of.1 (Ok t) of.2
+reads text end ago (Err error) e found = tt
+
+range : (text : List ℕ) (end : ℕ) (ago : Bool) (error : ParseError) → IsEnding text end ago → AnswersFront (take end text) ago (Err error)
+    → Refuses IsVerbose IsVerboseBadName not_verbose text error
+range text end ago error e found = let of = spelled text end ago (Err error) e found in
+    answers_err IsVerbose IsVerboseBadName not_verbose text of.0 of.1 (Err error) of.2
+
+pub refuses : (text : List ℕ) (end : ℕ) (ago : Bool) (answer : Result Interval ParseError) → IsEnding text end ago
+    → IfErr answer (RefusesFront (take end text) ago)
+    → IfErr answer (λ error. Refuses IsVerbose IsVerboseBadName not_verbose text error)
+refuses text end ago (Ok t) e why = tt
+refuses text end ago (Err (InvalidInterval m)) e why = let none = no_items text end ago e why.0 in (none.0, none.1, why.1)
+refuses text end ago (Err (BadUnit start stop)) e why = let bad = bad_name text end ago start stop e why in
+    (λ counts shape. no_shape_at_bad text start stop counts bad shape, bad)
+refuses text end ago (Err (InvalidYearMonth m)) e why = range text end ago (InvalidYearMonth m) e why
+refuses text end ago (Err (InvalidDay m)) e why = range text end ago (InvalidDay m) e why
+refuses text end ago (Err (InvalidTime m)) e why = range text end ago (InvalidTime m) e why

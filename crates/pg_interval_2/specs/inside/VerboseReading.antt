@@ -1,18 +1,21 @@
 -- What the reader of `postgres_verbose` texts answers: cited by private contracts alone.
-use Rattle.std.specs.Prelude.{◌≡◌, ℕ, ◌+◌, Bool, true, false, not, IsTrue, List, [], ◌∷◌, ◌++◌, length, take, codes}
+use Rattle.std.specs.Prelude.{◌≡◌, ℕ, ◌+◌, Bool, true, false, not, IsTrue, List, [], ◌∷◌, ◌++◌, length, take, codes, Result, Err}
 use Rattle.std.specs.List.{list_all}
 use Rattle.scan_core.specs.Blanks.{is_blank, words}
 use Rattle.scan_core.specs.Count.{Count}
+use Rattle.pg_interval_2.specs.declared.error.ParseError.{ParseError}
+use Rattle.pg_interval_2.specs.declared.error.ParseError.TheVariants.{InvalidInterval, BadUnit, InvalidYearMonth, InvalidDay, InvalidTime}
+use Rattle.pg_interval_2.specs.declared.interval.Interval.{Interval}
 use Rattle.pg_interval_2.specs.declared.reading.items.Misread.{Misread}
 use Rattle.pg_interval_2.specs.declared.reading.items.Misread.TheVariants as misread
-use Rattle.pg_interval_2.specs.declared.reading.tally.Tally.{Tally}
+use Rattle.pg_interval_2.specs.Messages.{not_verbose}
 use Rattle.pg_interval_2.specs.Postgres.{IsBadName}
 use Rattle.pg_interval_2.specs.Turned.{turned_counts}
 use Rattle.pg_interval_2.specs.UnitNames.{verbose_names}
 use Rattle.pg_interval_2.specs.Verbose.{EndsInAgo}
 use Rattle.pg_interval_2.specs.inside.VerboseParts.{ago_or_none, IsBody}
 use Rattle.pg_interval_2.specs.inside.ItemReading.{verdict, Unspelled}
-use Rattle.pg_interval_2.specs.inside.Tallies.{Tallies}
+use Rattle.pg_interval_2.specs.inside.Tallies.{AnswersCounts}
 
 -- the last byte isn't blank, where there is one, and else this holds
 abbrev pub solid_behind : Bool → List ℕ → Bool
@@ -43,11 +46,11 @@ pub record IsBehindAt (front before bytes : List ℕ) : Type 0 where
   pub blank : IsTrue (list_all is_blank before)
   pub split : front ≡ before ++ (64 ∷ bytes)
 
--- the tally is of the counts of the body behind the `@`
-abbrev pub IsFrontTally : List ℕ → Bool → Tally → Type 0
-IsFrontTally front ago tally =
+-- the answer to the counts of the body behind the `@`, turned or not
+abbrev pub AnswersFront : List ℕ → Bool → Result Interval ParseError → Type 0
+AnswersFront front ago answer =
     (before : List ℕ) × (bytes : List ℕ) × (counts : List Count) × IsBehindAt front before bytes
-    × IsBody bytes counts × Tallies tally (turned_counts ago counts)
+    × IsBody bytes counts × AnswersCounts (turned_counts ago counts) answer
 
 -- why there is no body behind an `@`
 abbrev pub IsFrontMisread : List ℕ → Misread → Type 0
@@ -58,3 +61,12 @@ IsFrontMisread front (misread.BadName start end) =
     (before : List ℕ) × (bytes : List ℕ) × (from : ℕ) × (to : ℕ) × IsBehindAt front before bytes
     × IsBadName verbose_names bytes from to × (start ≡ length before + 1 + from)
     × (end ≡ length before + 1 + to)
+
+-- why a front denotes no interval
+abbrev pub RefusesFront : List ℕ → Bool → ParseError → Type 0
+RefusesFront front ago (InvalidInterval m) =
+    IsFrontMisread front misread.NoItems × (m.now ≡ not_verbose)
+RefusesFront front ago (BadUnit start end) = IsFrontMisread front (misread.BadName start end)
+RefusesFront front ago (InvalidYearMonth m) = AnswersFront front ago (Err (InvalidYearMonth m))
+RefusesFront front ago (InvalidDay m) = AnswersFront front ago (Err (InvalidDay m))
+RefusesFront front ago (InvalidTime m) = AnswersFront front ago (Err (InvalidTime m))

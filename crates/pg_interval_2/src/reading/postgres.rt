@@ -9,7 +9,7 @@ ghost use Rattle.pg_interval_2.specs.Styles.{Answers};
 
 use crate::error::ParseError;
 use crate::interval::Interval;
-use crate::reading::items::{Misread, tally_items};
+use crate::reading::items::read_items;
 use crate::reading::read;
 use crate::reading::unit_names::NameSet;
 use crate::style::Style;
@@ -29,11 +29,13 @@ pub(crate) fn read_postgres<L: Ledger>(
     ensures least { IfOk result (λ _. steps.old + length text.now ≤ steps.new) }
 {
     let mut scan = Scan::new(text, steps);
-    match tally_items(NameSet::Postgres, false, &mut scan, steps) {
-        Ok(tally) => tally.answer(),
-        Err(Misread::BadName { start, end }) => Err(ParseError::BadUnit { start, end }),
-        Err(Misread::NoItems) => Err(ParseError::InvalidInterval("not a postgres interval")),
-    }
+    read_items(
+        NameSet::Postgres,
+        false,
+        "not a postgres interval",
+        &mut scan,
+        steps,
+    )
 }
 
 impl Interval {

@@ -1,23 +1,25 @@
 //! The `postgres_verbose` style: `@ 1 year 2 mons -3 days 4 hours 5 mins 6 secs ago`.
-ghost use Rattle.std.specs.Prelude.{◌≡◌, ◌↔◌, ◌+◌, ◌*◌, ◌≤◌, ℕ, IfOk, IfErr, IsTrue, true, codes, length};
+ghost use Rattle.std.specs.Prelude.{◌≡◌, ◌↔◌, ◌+◌, ◌*◌, ◌≤◌, ℕ, Ok, IfOk, IfErr, IsTrue, true, codes, length};
 ghost use Rattle.scan_core.specs.Scanning.{ahead};
 ghost use Rattle.pg_interval_2.specs.Denotes.{Denotes, Refuses};
 ghost use Rattle.pg_interval_2.specs.Messages.{not_verbose};
 ghost use Rattle.pg_interval_2.specs.Verbose.{IsVerbose, IsVerboseBadName};
-ghost use Rattle.pg_interval_2.specs.inside.VerboseReading.{IsFrontMisread, IsFrontTally, ends_solid};
+ghost use Rattle.pg_interval_2.specs.inside.VerboseReading.{AnswersFront, RefusesFront, ends_solid};
 ghost use Rattle.pg_interval_2.specs.declared.style.Style.TheVariants.{Verbose};
 ghost use Rattle.pg_interval_2.specs.Styles.{Answers};
 
 use crate::error::ParseError;
 use crate::interval::Interval;
 use crate::reading::ago::body_end;
-use crate::reading::items::{Misread, tally_items};
+use crate::reading::items::read_items;
 use crate::reading::read;
-use crate::reading::tally::Tally;
 use crate::reading::unit_names::NameSet;
 use crate::style::Style;
 use scan_core::{Looked, Scan, Steps};
 use std::sync::ledger::Ledger;
+
+/// What a refusal of a text that isn't in the style says.
+const NOT_VERBOSE: &str = "not a verbose interval";
 
 /// Whether a `0` and nothing else is left.
 #[inline(always)]
@@ -27,29 +29,29 @@ fn is_zero(scan: &Scan<'_>) -> bool
     scan.peek() == Some(b'0') && scan.at() + 1 == scan.text().len()
 }
 
-/// The tally of the counts behind the `@` of a text without blanks at its end; each count is turned first where `ago`.
+/// The interval of the counts behind the `@` of a text without blanks at its end; each count is turned first where `ago`.
 #[inline(always)]
-fn tally_behind_at<L: Ledger>(
+fn read_behind_at<L: Ledger>(
     front: &Looked<'_>,
     ago: bool,
     steps: &mut Steps<L>,
-) -> Result<Tally, Misread>
+) -> Result<Interval, ParseError>
     requires { ends_solid front.now ≡ true }
-    ensures ok { IfOk result (IsFrontTally front.now ago) }
-    ensures err { IfErr result (IsFrontMisread front.now) }
+    ensures ok { IfOk result (λ t. AnswersFront front.now ago (Ok t)) }
+    ensures err { IfErr result (RefusesFront front.now ago) }
     ensures most { steps.new ≤ steps.old + 2 * length front.now }
     ensures least { IfOk result (λ _. steps.old + length front.now ≤ steps.new) }
 {
     let mut scan = Scan::new(front, steps);
     scan.blanks(steps);
     if !scan.next_if(b'@', steps) {
-        return Err(Misread::NoItems);
+        return Err(ParseError::InvalidInterval(NOT_VERBOSE));
     }
     scan.blanks(steps);
     if is_zero(&scan) {
-        return Ok(Tally::new());
+        return Ok(Interval::new(0, 0, 0));
     }
-    tally_items(NameSet::Verbose, ago, &mut scan, steps)
+    read_items(NameSet::Verbose, ago, NOT_VERBOSE, &mut scan, steps)
 }
 
 /// What `Interval::from_postgres_verbose` answers, with at most two looks a byte and four more, and with one a byte at least
@@ -67,11 +69,7 @@ pub(crate) fn read_verbose<L: Ledger>(
 {
     let body = body_end(text, steps);
     let front = text.up_to(body.end);
-    match tally_behind_at(&front, body.ago, steps) {
-        Ok(tally) => tally.answer(),
-        Err(Misread::BadName { start, end }) => Err(ParseError::BadUnit { start, end }),
-        Err(Misread::NoItems) => Err(ParseError::InvalidInterval("not a verbose interval")),
-    }
+    read_behind_at(&front, body.ago, steps)
 }
 
 impl Interval {
