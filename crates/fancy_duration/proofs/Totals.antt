@@ -13,12 +13,12 @@ pub sum_exists : (text : List ℕ) → SumsTo text (total (items_of text))
 sum_exists text = record { items = items_of text; all = items_exist text; sum = refl }
 
 -- a sum that 128 bits hold, by its seconds
-pub denotes : (text bytes : List ℕ) (nanos seconds : ℕ) → bytes ≡ text
-    → nanos ≡ capped (total (items_of bytes)) → nanos / 1_000_000_000 < 2 ^ 64
-    → seconds ≡ nanos / 1_000_000_000 → Denotes text (seconds, nanos % 1_000_000_000)
-denotes text bytes nanos seconds e held fits whole =
+pub denotes : (text bytes : List ℕ) (nanos seconds beyond : ℕ) → bytes ≡ text
+    → nanos ≡ capped (total (items_of bytes)) → seconds ≡ nanos / 1_000_000_000 → beyond ≡ nanos % 1_000_000_000
+    → seconds < 2 ^ 64 → Denotes text (seconds, beyond)
+denotes text bytes nanos seconds beyond e held whole rest fits =
     let sum : nanos ≡ capped (total (items_of text)) = held ∙ ap (λ b. capped (total (items_of b))) e in
-    let exact : seconds * 1_000_000_000 + nanos % 1_000_000_000 ≡ total (items_of text) = omega arith in
+    let exact : seconds * 1_000_000_000 + beyond ≡ total (items_of text) = omega arith in
     record {
       sums = let P : ℕ → Type 0 = SumsTo text in subst P (sym exact) (sum_exists text);
       seconds = omega arith;

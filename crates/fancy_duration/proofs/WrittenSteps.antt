@@ -1,5 +1,5 @@
 -- The written text as the public definition says it is that of the counts above 0.
-use Rattle.std.proofs.Common.{◌≡◌, ℕ, zero, suc, ◌<◌, ◌/◌, ◌%◌, ◌==◌, true, false, nat_lt, nat_eq, List, [], ◌∷◌, ◌++◌, map, filter}
+use Rattle.std.proofs.Common.{◌≡◌, ℕ, zero, suc, ◌<◌, ◌/◌, ◌%◌, ◌==◌, true, false, nat_eq, List, [], ◌∷◌, ◌++◌, map}
 use Rattle.std.proofs.Common.{decimal, codes, refl, ap, arith, if◌then◌else◌}
 use Rattle.std.specs.List.{join_with_byte}
 use Rattle.std.proofs.lemmas.Bool.{eqb-true, lt-ltb}

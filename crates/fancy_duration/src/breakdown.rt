@@ -1,9 +1,10 @@
 //! Lengths of which some parts are kept.
-ghost use Rattle.std.specs.Prelude.{◌≡◌, ◌≤◌, ◌↔◌, IsTrue};
+ghost use Rattle.std.specs.Prelude.{◌≡◌, ℕ, ◌<◌, ◌≤◌, ◌↔◌, IsTrue};
 ghost use Rattle.std.specs.List.{list_any};
 ghost use Rattle.fancy_duration.specs.Parts.{is_part, all_parts};
 ghost use Rattle.fancy_duration.specs.Collisions.{MonthsStandAlone};
 ghost use Rattle.fancy_duration.specs.Breakdown.{kept_length, front_length, counts_of, from_first};
+ghost use Rattle.fancy_duration.specs.Times.{nanos_of};
 ghost use Rattle.fancy_duration.specs.inside.Writing.{left_after};
 
 use crate::DurationPart;
@@ -16,7 +17,7 @@ pub(crate) fn kept_nanos(nanos: u128, kept: &[DurationPart]) -> u128
     let mut left = nanos;
     let mut sum = 0;
     for part in DurationPart::ALL {
-        let below = left % part.nanos();
+        let below = left % u128::from(part.nanos());
         if is_among(part, kept) {
             sum += left - below;
         }
@@ -47,7 +48,7 @@ fn parts_from_first(nanos: u128) -> &'static [DurationPart]
 {
     let mut parts: &'static [DurationPart] = &DurationPart::ALL;
     while let Some((first, later)) = parts.split_first() {
-        if first.nanos() <= nanos {
+        if u128::from(first.nanos()) <= nanos {
             break;
         }
         parts = later;
@@ -62,16 +63,17 @@ fn left_after(nanos: u128, parts: &[DurationPart]) -> u128
 {
     let mut left = nanos;
     for part in parts {
-        left %= part.nanos();
+        left %= u128::from(part.nanos());
     }
     left
 }
 
-/// Whether a length has months, and no weeks, days, hours or minutes beside them.
-pub(crate) fn have_months_alone(nanos: u128) -> bool
-    ensures { IsTrue result ↔ MonthsStandAlone nanos }
+/// Whether a length of so many whole seconds has months, and no weeks, days, hours or minutes beside them.
+pub(crate) fn have_months_alone(seconds: u64) -> bool
+    ensures { (nanos : ℕ) → nanos < 1_000_000_000
+        → IsTrue result ↔ MonthsStandAlone (nanos_of (seconds, nanos)) }
 {
-    let month = DurationPart::Months.nanos();
-    let below_years = nanos % DurationPart::Years.nanos();
-    below_years >= month && below_years % month < DurationPart::Minutes.nanos()
+    let month = DurationPart::Months.seconds();
+    let below_years = seconds % DurationPart::Years.seconds();
+    below_years >= month && below_years % month < DurationPart::Minutes.seconds()
 }

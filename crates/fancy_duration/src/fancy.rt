@@ -127,7 +127,8 @@ impl<D: AsTimes + Copy> FancyDuration<D> {
             ↔ Denotes (length_text (nanos_of (D.times self.now.0))) (D.times self.now.0) }
         ensures months { IsTrue result ↔ (¬ (MonthsStandAlone (nanos_of (D.times self.now.0)))) }
     {
-        !have_months_alone(self.nanos())
+        let (seconds, _) = self.0.as_times();
+        !have_months_alone(seconds)
     }
 
     /// True exactly for the strict texts, which have nothing but counts, units and blanks: `1h 5m`, not `1h 5x`.
@@ -141,7 +142,6 @@ impl<D: AsTimes + Copy> FancyDuration<D> {
     fn nanos(&self) -> u128
         ensures value { result ≡ nanos_of (D.times self.now.0) }
         ensures within { result < 2 ^ 64 * 1_000_000_000 }
-        ensures sub_second { (D.times self.now.0).1 < 1_000_000_000 }
     {
         let (secs, nanos) = self.0.as_times();
         u128::from(secs) * 1_000_000_000 + u128::from(nanos)

@@ -44,7 +44,7 @@ impl DurationPart {
     ];
 
     /// Nanoseconds in one of the part.
-    pub(crate) fn nanos(self) -> u128
+    pub(crate) fn nanos(self) -> u64
         ensures { result ≡ weight_of self }
     {
         match self {
@@ -66,7 +66,7 @@ impl DurationPart {
     pub(crate) fn seconds(self) -> u64
         ensures { result ≡ seconds_of self }
     {
-        (self.nanos() / 1_000_000_000) as u64
+        self.nanos() / 1_000_000_000
     }
 
     /// The letters that stand behind a count of the part.

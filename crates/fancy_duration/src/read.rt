@@ -1,5 +1,5 @@
 //! The items of a text, from left to right, and their sum.
-ghost use Rattle.std.specs.Prelude.{◌≡◌, ◌≢◌, ℕ, ◌+◌, ◌*◌, ◌<◌, [], ◌∷◌, length};
+ghost use Rattle.std.specs.Prelude.{◌≡◌, ◌≢◌, ℕ, ◌+◌, ◌*◌, ◌/◌, ◌%◌, ◌<◌, [], ◌∷◌, length};
 ghost use Rattle.std.specs.Prelude.{IfOk, IfSome, IfNone, IsErrOf, ◌↔◌};
 ghost use Rattle.std.specs.Char.{is_ascii_digit as is_digit};
 ghost use Rattle.scan_core.specs.Digits.{number_of};
@@ -19,10 +19,23 @@ pub(crate) fn read_times(text: &str) -> Result<(u64, u64), FancyError>
     ensures big { IsErrOf result FancyError.TooBig ↔ IsTooBig text.now }
     ensures held { result ≢ Err FancyError.NotHeld }
 {
-    let nanos = sum_of(text.as_bytes());
-    match u64::try_from(nanos / 1_000_000_000) {
-        Ok(seconds) => Ok((seconds, (nanos % 1_000_000_000) as u64)),
+    let (seconds, beyond) = times_of(sum_of(text.as_bytes()));
+    match u64::try_from(seconds) {
+        Ok(seconds) => Ok((seconds, beyond)),
         Err(_) => Err(FancyError::TooBig),
+    }
+}
+
+/// The whole seconds of a length, and the nanoseconds beyond them.
+#[inline(always)]
+fn times_of(nanos: u128) -> (u128, u64)
+    ensures seconds { result.0 ≡ nanos / 1_000_000_000 }
+    ensures beyond { result.1 ≡ nanos % 1_000_000_000 }
+{
+    // Nearly all lengths have 64 bits, and dividing 128 takes some ten times as long.
+    match u64::try_from(nanos) {
+        Ok(nanos) => (u128::from(nanos / 1_000_000_000), nanos % 1_000_000_000),
+        Err(_) => (nanos / 1_000_000_000, (nanos % 1_000_000_000) as u64),
     }
 }
 
@@ -88,11 +101,10 @@ fn with_digit(number: u128, digit: u8) -> u128
     requires { digit < 10 }
     ensures { result ≡ capped (number * 10 + digit) }
 {
-    // Nearly all numbers are far below the bound, and a product that is tested costs several times as much.
-    if number < u128::MAX / 10 {
-        number * 10 + u128::from(digit)
-    } else {
-        number.saturating_mul(10).saturating_add(u128::from(digit))
+    // Nearly all numbers are far below the bound of 64 bits, and a product of 128 that is tested costs several times as much.
+    match u64::try_from(number) {
+        Ok(number) if number < u64::MAX / 10 => u128::from(number * 10 + u64::from(digit)),
+        _ => number.saturating_mul(10).saturating_add(u128::from(digit)),
     }
 }
 

@@ -71,9 +71,7 @@ impl Tally {
             ≡ capped (self.old.nanos + capped (number * weight_of part)) }
         ensures pending { self.new.pending ≡ self.old.pending }
     {
-        self.nanos = self
-            .nanos
-            .saturating_add(number.saturating_mul(part.nanos()));
+        self.nanos = self.nanos.saturating_add(product(number, part.nanos()));
     }
 
     /// The sum, with a pending `m` as minutes.
@@ -83,5 +81,17 @@ impl Tally {
         let mut all = self;
         all.count(self.pending, DurationPart::Minutes);
         all.nanos
+    }
+}
+
+/// A number times a weight, as `u128` holds it or `u128::MAX`.
+#[inline(always)]
+fn product(number: u128, weight: u64) -> u128
+    ensures { result ≡ capped (number * weight) }
+{
+    // Nearly all numbers have 64 bits, whose product is one instruction without a test.
+    match u64::try_from(number) {
+        Ok(number) => u128::from(number) * u128::from(weight),
+        Err(_) => number.saturating_mul(u128::from(weight)),
     }
 }

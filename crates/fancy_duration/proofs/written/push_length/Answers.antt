@@ -1,5 +1,5 @@
 -- Answers to the goals of `written::push_length`.
-use Rattle.std.proofs.Common.{◌≡◌, ◌≢◌, ℕ, ◌++◌, false, not, ◌==◌, List, ◌∙◌, ap, arith, append_assoc}
+use Rattle.std.proofs.Common.{◌≢◌, ℕ, ◌++◌, false, not, ◌==◌, List, ◌∙◌, ap, arith, append_assoc}
 use Rattle.fancy_duration.specs.Parts.{weight_of}
 use Rattle.fancy_duration.specs.Times.{nanos_of}
 use Rattle.fancy_duration.specs.inside.Writing.{counts_behind, long_parts, seconds_of, short_parts}
