@@ -16,7 +16,7 @@ use std::rt::Files;
 use std::{fs, io};
 
 /// The tables, in data/.
-const TABLES: [&str; 10] = [
+const TABLES: [&str; 11] = [
     "intervals.tsv",
     "weeks.tsv",
     "iso_strict.tsv",
@@ -26,6 +26,7 @@ const TABLES: [&str; 10] = [
     "iso8601.tsv",
     "toml.tsv",
     "microsoft.tsv",
+    "dates.tsv",
     "by_hand.tsv",
 ];
 
