@@ -1,14 +1,12 @@
 //! One line of a column.
 ghost use Rattle.std.specs.Prelude.{◌≡◌, IfSome, IfNone};
-ghost use Rattle.forms.specs.Names.{style_of};
 ghost use Rattle.whole_input.specs.Parts.{HasNo};
 ghost use Rattle.interval_column.specs.Lines.{IsEntry, IsLabelled, IsLineRead, IsTextRead};
 ghost use Rattle.interval_column.specs.inside.Labels.{IsNoEntry, IsNotStyled, IsStyled};
 
 use crate::fault::LineFault;
-use forms::Form;
-use pg_interval_2::{Interval, Style, read};
-use scan_core::Looked;
+use forms::{Cause, Form, read_interval};
+use pg_interval_2::{Interval, Style};
 use std::str;
 use whole_input::split_text;
 
@@ -40,7 +38,7 @@ fn styled(text: &str) -> Option<(Style, &str)>
 {
     let (word, rest) = first_word(text);
     let form = Form::by_name(word)?;
-    let style = style_of(form)?;
+    let style = form.style()?;
     Some((style, rest))
 }
 
@@ -55,32 +53,13 @@ fn first_word(text: &str) -> (&str, &str)
     }
 }
 
-/// The style of an interval form, or None where the form is no interval form.
-pub fn style_of(form: Form) -> Option<Style>
-    ensures { result ≡ style_of form }
-{
-    match form {
-        Form::PgIso => Some(Style::Iso),
-        Form::Postgres => Some(Style::Postgres),
-        Form::PgVerbose => Some(Style::Verbose),
-        Form::PgSql => Some(Style::Sql),
-        Form::IsoStrict => Some(Style::IsoStrict),
-        Form::FileTime
-        | Form::IsoDateTime
-        | Form::IsoDate
-        | Form::IsoDuration
-        | Form::Toml
-        | Form::Fancy => None,
-    }
-}
-
 /// The interval that a text denotes in a style.
 fn read_text(style: Style, text: &str) -> Result<Interval, LineFault>
     ensures { IsTextRead style text.now result }
 {
-    match read(style, &Looked::new(text)) {
+    match read_interval(style, text.as_bytes()) {
         Ok(interval) => Ok(interval),
-        Err(error) if error.is_range() => Err(LineFault::Range),
+        Err(Cause::Range) => Err(LineFault::Range),
         Err(_) => Err(LineFault::Syntax),
     }
 }

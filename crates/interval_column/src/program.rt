@@ -5,7 +5,6 @@ ghost use Rattle.forms.specs.Ends.{streams};
 ghost use Rattle.whole_input.specs.Outcomes.{EndedWhole, MeansStatus};
 ghost use Rattle.interval_column.specs.Output.{AsksFor, Tells};
 
-use crate::entry::style_of;
 use crate::output::respond;
 use forms::{Form, Sink, Source};
 use pg_interval_2::Style;
@@ -72,5 +71,5 @@ fn style_asked(words: &str) -> Option<Style>
     ensures { (style : AnyStyle) → (result ≡ Some style) ↔ AsksFor words.now style }
 {
     let name = words.strip_prefix("column ")?;
-    style_of(Form::by_name(name)?)
+    Form::by_name(name)?.style()
 }
