@@ -6,7 +6,6 @@ pub mod Listed
 pub mod SeriesLaws
 pub mod Millis
 pub mod Texts
-pub mod Lengths
 pub mod Asking
 pub mod Joined
 pub mod SeriesReplies

@@ -2,14 +2,8 @@
 use Rattle.std.proofs.Common.{◌≡◌, ◌⊎◌, inl, inr, ℕ, ◌<◌, ◌≤◌, true, List, [], ◌++◌, codes, ℤ, Option, Some, None, Result, Ok, Err, IsTrue}
 use Rattle.std.proofs.Common.{refl, sym, ◌∙◌, ap, ap₂, subst, true≢false, arith}
 use Rattle.std.specs.Result.{is_ok}
-use Rattle.scan_core.specs.Count.{Count}
 use Rattle.scan_core.specs.Digits.{number_of}
 use Rattle.scan_core.specs.Join.{IsJoin}
-use Rattle.scan_core.specs.Sums.{fits, misfit, total}
-use Rattle.scan_core.specs.declared.share.Part.{Part}
-use Rattle.scan_core.specs.declared.share.Part.TheVariants.{Months, Days, Micros}
-use Rattle.pg_interval_2.specs.Denotes.{Denotes, HasNoShape, Misfits}
-use Rattle.pg_interval_2.specs.Styles.{Shape}
 use Rattle.pg_interval_2.specs.declared.interval.Interval.{Interval}
 use Rattle.pg_interval_2.specs.declared.style.Style.TheVariants.{Iso}
 use Rattle.forms.specs.Forms.{Reads, Writes}
@@ -22,7 +16,6 @@ use Rattle.recurrence.specs.Requests.{IsRequest}
 use Rattle.recurrence.specs.Replies.{refusal, stop_text, IsInstantLine, IsSeriesReply, IsWholeMillis, IsStepReply, IsLengthReply}
 use Rattle.recurrence.specs.Replies.{IsStartReply, IsCountReply, IsReply, AreReplies}
 use Rattle.recurrence.specs.inside.OneReply.{AreOne}
-use Rattle.scan_core.proofs.SumFacts.{misfit-none}
 use Rattle.recurrence.proofs.Asking.{one_request}
 use Rattle.recurrence.proofs.Joined.{one_join}
 use Rattle.recurrence.proofs.Listed.{one_series}
@@ -55,41 +48,23 @@ one_step ones last start step a b (inl h) (inr k) = absurd (h.0 k.0)
 one_step ones last start step a b (inr h) (inl k) = absurd (k.0 h.0)
 one_step ones last start step a b (inr h) (inr k) = one_series_reply ones last start step a b h.1 k.1
 
--- counts that fit have no part that doesn't
-fit_or_not : (ones : AreOne) (text : List ℕ) (step : Interval) (part : Part) → Denotes (Shape Iso) text step → Misfits (Shape Iso) text part
-    → ⊥
-fit_or_not ones text step part (counts, shape, fit, is) (counts₂, shape₂, not_fit) =
-    let same = ones.counts Iso text counts counts₂ shape shape₂ in
-    let none = (misfit-none counts₂).1 (subst (λ (c : List Count). IsTrue (fits c)) same fit) in
-    let both : None ≡ Some part = sym none ∙ not_fit in
-    cc
+one_length : AreOne → (last : ℕ) (start : ℤ) (length : Result Interval Cause) (a b : List ℕ) → IsLengthReply last start length a
+    → IsLengthReply last start length b → a ≡ b
+one_length ones last start (Err cause) a b h k = h ∙ sym k
+one_length ones last start (Ok step) a b h k = one_step ones last start step a b h k
 
-abbrev sum_of : List Count → Interval
-sum_of counts = record { months = total Months counts; days = total Days counts; microseconds = total Micros counts }
-
-one_interval : AreOne → (text : List ℕ) (step step₂ : Interval) → Denotes (Shape Iso) text step → Denotes (Shape Iso) text step₂
-    → step ≡ step₂
-one_interval ones text step step₂ (counts, shape, fit, is) (counts₂, shape₂, fit₂, is₂) =
-    is ∙ (ap sum_of (ones.counts Iso text counts counts₂ shape shape₂) ∙ sym is₂)
-
-one_length : AreOne → (last : ℕ) (start : ℤ) (text a b : List ℕ) → IsLengthReply last start text a → IsLengthReply last start text b → a ≡ b
-one_length ones last start text a b (inl h) (inl k) = h.1 ∙ sym k.1
-one_length ones last start text a b (inl h) (inr (inl k)) = absurd (h.0 k.1.0 k.1.1)
-one_length ones last start text a b (inl h) (inr (inr k)) = absurd (h.0 k.1.0 k.1.1)
-one_length ones last start text a b (inr (inl h)) (inl k) = absurd (k.0 h.1.0 h.1.1)
-one_length ones last start text a b (inr (inl h)) (inr (inl k)) = h.2 ∙ sym k.2
-one_length ones last start text a b (inr (inl h)) (inr (inr k)) = absurd (fit_or_not ones text k.0 h.0 k.1 h.1)
-one_length ones last start text a b (inr (inr h)) (inl k) = absurd (k.0 h.1.0 h.1.1)
-one_length ones last start text a b (inr (inr h)) (inr (inl k)) = absurd (fit_or_not ones text h.0 k.0 h.1 k.1)
-one_length ones last start text a b (inr (inr h)) (inr (inr k)) =
-    one_step ones last start k.0 a b (subst (λ (s : Interval). IsStepReply last start s a) (one_interval ones text h.0 k.0 h.1 k.1) h.2) k.2
+one_found : AreOne → (last : ℕ) (start : ℤ) (step a b : List ℕ) → IsStartReply last (Ok (Instant start)) step a
+    → IsStartReply last (Ok (Instant start)) step b → a ≡ b
+one_found ones last start step a b (length, finds, reply) (length₂, finds₂, reply₂) =
+    one_length ones last start length₂ a b (subst (λ (l : Result Interval Cause). IsLengthReply last start l a)
+    (ones.lengths Iso step length length₂ finds finds₂) reply) reply₂
 
 -- ---- the start, the count and the line
 
 one_start : AreOne → (last : ℕ) (moment : Result Value Cause) (step a b : List ℕ) → IsStartReply last moment step a
     → IsStartReply last moment step b → a ≡ b
 one_start ones last (Err cause) step a b h k = h ∙ sym k
-one_start ones last (Ok (Instant start)) step a b h k = one_length ones last start step a b h k
+one_start ones last (Ok (Instant start)) step a b h k = one_found ones last start step a b h k
 one_start ones last (Ok (Day day)) step a b h k = absurd h
 one_start ones last (Ok (Local day nanos)) step a b h k = absurd h
 one_start ones last (Ok (Clock nanos)) step a b h k = absurd h

@@ -2,14 +2,12 @@
 use Rattle.std.specs.Prelude.{◌≡◌, ◌⊎◌, ℕ, ◌<◌, ◌≤◌, List, [], ◌++◌, codes, decimal, ℤ, pos, ◌*ℤ◌, Option, Some, None, Result, Ok, Err}
 use Rattle.scan_core.specs.Digits.{number_of}
 use Rattle.scan_core.specs.Join.{IsJoin}
-use Rattle.scan_core.specs.declared.share.Part.{Part}
-use Rattle.pg_interval_2.specs.Denotes.{Denotes, HasNoShape, Misfits}
-use Rattle.pg_interval_2.specs.Styles.{Shape}
 use Rattle.pg_interval_2.specs.declared.style.Style.TheVariants.{Iso}
 use Rattle.pg_interval_2.specs.declared.interval.Interval.{Interval}
 use Rattle.forms.specs.Forms.{Reads, Writes}
 use Rattle.forms.specs.Lines.{lines}
 use Rattle.forms.specs.Names.{cause_name}
+use Rattle.forms.specs.form.Intervals.{FindsInterval}
 use Rattle.forms.specs.declared.cause.Cause.{Cause}
 use Rattle.forms.specs.declared.form.Form.TheVariants.{IsoDateTime}
 use Rattle.forms.specs.declared.value.Value.{Value}
@@ -50,17 +48,16 @@ IsStepReply last start step out =
     ((IsWholeMillis step → ⊥) × (out ≡ refusal (codes "length Precision")))
     ⊎ (IsWholeMillis step × IsSeriesReply last start step out)
 
--- by what the step's text denotes as an interval of the ISO style
-abbrev pub IsLengthReply : ℕ → ℤ → List ℕ → List ℕ → Type 0
-IsLengthReply last start text out =
-    (HasNoShape (Shape Iso) text × (out ≡ refusal (codes "length Syntax")))
-    ⊎ (((part : Part) × Misfits (Shape Iso) text part × (out ≡ refusal (codes "length Range")))
-    ⊎ ((step : Interval) × Denotes (Shape Iso) text step × IsStepReply last start step out))
+-- by the interval of the ISO style that the step's text denotes, or by the cause why it denotes none
+abbrev pub IsLengthReply : ℕ → ℤ → Result Interval Cause → List ℕ → Type 0
+IsLengthReply last start (Err cause) out = out ≡ refusal (codes "length " ++ cause_name cause)
+IsLengthReply last start (Ok step) out = IsStepReply last start step out
 
--- by what the start's text stands for as a date-time
+-- by what the start's text stands for as a date-time, and then by the step's text
 abbrev pub IsStartReply : ℕ → Result Value Cause → List ℕ → List ℕ → Type 0
 IsStartReply last (Err cause) step out = out ≡ refusal (codes "start " ++ cause_name cause)
-IsStartReply last (Ok (Instant start)) step out = IsLengthReply last start step out
+IsStartReply last (Ok (Instant start)) step out =
+    (length : Result Interval Cause) × FindsInterval Iso step length × IsLengthReply last start length out
 IsStartReply last (Ok _) step out = ⊥
 
 -- by the number that the digits write

@@ -6,14 +6,14 @@ ghost use Rattle.forms.specs.declared.cause.Cause.{Cause as AnyCause};
 ghost use Rattle.forms.specs.declared.form.Form.TheVariants.{IsoDateTime};
 ghost use Rattle.forms.specs.declared.value.Value.{Value as AnyValue};
 ghost use Rattle.forms.specs.declared.value.Value.TheVariants.{Instant};
-ghost use Rattle.recurrence.specs.Replies.{IsCountReply, IsLengthReply, IsReply, IsStartReply, IsStepReply};
+ghost use Rattle.recurrence.specs.Replies.{IsCountReply, IsReply, IsStartReply, IsStepReply};
 ghost use Rattle.recurrence.specs.inside.Answers.{IsFine, IsInstant, RepliesBy};
 ghost use Rattle.recurrence.specs.inside.Written.{IsInMillis};
 
 use crate::refusal::Refusal;
 use crate::request::request;
-use forms::{Cause, Form, Value, read_value};
-use pg_interval_2::Interval;
+use forms::{Cause, Form, Value, read_interval, read_value};
+use pg_interval_2::{Interval, Style};
 use scan_core::digits_u32;
 
 /// What a line is answered by: a refusal, or the instants of a series.
@@ -108,18 +108,13 @@ fn instant_in(value: Value) -> i128
 /// What a request from an instant on is answered by.
 fn stepped(last: u32, start: i128, step: &str) -> Answer
     requires { IsInMillis start }
-    ensures reply { (out : List ℕ) → RepliesBy result out → IsLengthReply last start step.now out }
+    ensures reply { (out : List ℕ) → RepliesBy result out
+        → IsStartReply last (Ok (Instant start)) step.now out }
     ensures fine { IsFine result }
 {
-    match Interval::from_iso(step) {
+    match read_interval(Style::Iso, step.as_bytes()) {
         Ok(interval) => lasting(last, start, interval),
-        Err(error) => {
-            if error.is_range() {
-                Answer::Refused(Refusal::Length(Cause::Range))
-            } else {
-                Answer::Refused(Refusal::Length(Cause::Syntax))
-            }
-        }
+        Err(cause) => Answer::Refused(Refusal::Length(cause)),
     }
 }
 

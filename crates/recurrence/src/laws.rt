@@ -69,13 +69,13 @@ pub fn a_step_of_months_keeps_the_day_of_the_month()
     civil_dates_are_calendar_dates();
 }
 
-/// What the replies are made of is one: a text's reading, a value's writing, a text's counts, and the instant a step leads to.
+/// What the replies are made of is one: a text's reading, a value's writing, a text's interval, and the instant a step leads to.
 fn parts_are_one()
     ensures { AreOne }
 {
     forms::laws::texts_have_one_reading();
     forms::laws::values_have_one_writing();
-    pg_interval_2::laws::text_has_one_list_of_counts();
+    forms::laws::texts_have_one_interval_or_cause();
     civil_dates_are_calendar_dates();
 }
 

@@ -1,17 +1,16 @@
 -- Answers to the goals of `answer::stepped`.
-use Rattle.std.proofs.Common.{inl, inr}
+use Rattle.std.proofs.Common.{ℕ, List, Ok, Err, subst}
 use Rattle.std.proofs.Math.Facts.{to_z-of_z}
-use Rattle.recurrence.proofs.Lengths.{range_is}
+use Rattle.pg_interval_2.specs.declared.style.Style.TheVariants.{Iso}
+use Rattle.forms.specs.form.Intervals.{FindsInterval}
 use Rattle.recurrence.proofs.answer.stepped.Goals as goal
 
-pub returns-then-is_range-clause-reply : goal.returns-then-is_range-clause-reply
-returns-then-is_range-clause-reply c out h =
-    let p = range_is c.args.step.now c.in-Err.error c.in-Err.ensures.err (c.is_range.ensures.0 c.if-is_range.true) in
-    inr (inl (p.0, p.1, h))
-
 pub returns-in-Ok-clause-reply : goal.returns-in-Ok-clause-reply
-returns-in-Ok-clause-reply c out h = inr (inr (
-  c.in-Ok.interval,
-  c.in-Ok.ensures.ok,
-  rw (to_z-of_z c.ranges.start) at (c.lasting.ensures.reply out h),
-))
+returns-in-Ok-clause-reply c out h =
+    let found = subst (λ (text : List ℕ). FindsInterval Iso text (Ok c.in-Ok.interval)) c.as_bytes.ensures.value c.in-Ok.ensures in
+    (Ok c.in-Ok.interval, found, rw (to_z-of_z c.ranges.start) at (c.lasting.ensures.reply out h))
+
+pub returns-in-Err-clause-reply : goal.returns-in-Err-clause-reply
+returns-in-Err-clause-reply c out h =
+    let found = subst (λ (text : List ℕ). FindsInterval Iso text (Err c.in-Err.cause)) c.as_bytes.ensures.value c.in-Err.ensures in
+    (Err c.in-Err.cause, found, h)
