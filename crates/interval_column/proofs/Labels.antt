@@ -9,8 +9,7 @@ use Rattle.pg_interval_2.specs.declared.style.Style.{Style}
 use Rattle.pg_interval_2.specs.declared.style.Style.TheVariants as style
 use Rattle.forms.specs.Names.{name_of, style_of}
 use Rattle.forms.specs.declared.form.Form.{Form}
-use Rattle.forms.specs.declared.form.Form.TheVariants.{FileTime, IsoDateTime, IsoDate, IsoDuration, Toml, Fancy, PgIso, Postgres, PgVerbose}
-use Rattle.forms.specs.declared.form.Form.TheVariants.{PgSql, IsoStrict}
+use Rattle.forms.specs.declared.form.Form.TheVariants.{FileTime, PgIso, Postgres, PgVerbose, PgSql, IsoStrict}
 use Rattle.whole_input.specs.Parts.{HasNo, IsSplitAt}
 use Rattle.interval_column.specs.Lines.{IsEntry, IsLabelled}
 use Rattle.interval_column.specs.inside.Labels.{IsStyled, IsNotStyled, IsNoEntry}
@@ -32,18 +31,13 @@ none_of : (bytes : List ℕ) → has_no_space bytes ≡ true → HasNo 32 bytes
 none_of [] h = tt
 none_of (byte ∷ bytes) h = let both = first_of (byte == 32) (has_no_space bytes) h in (both.0, none_of bytes both.1)
 
+-- `_` stands for each other form, whose name is looked through by computing
+is_spaceless : (form : Form) → has_no_space (name_of form) ≡ true
+is_spaceless FileTime = refl
+is_spaceless _ = refl
+
 pub names_have_no_space : (form : Form) → HasNo 32 (name_of form)
-names_have_no_space FileTime = none_of (name_of FileTime) refl
-names_have_no_space IsoDateTime = none_of (name_of IsoDateTime) refl
-names_have_no_space IsoDate = none_of (name_of IsoDate) refl
-names_have_no_space IsoDuration = none_of (name_of IsoDuration) refl
-names_have_no_space Toml = none_of (name_of Toml) refl
-names_have_no_space Fancy = none_of (name_of Fancy) refl
-names_have_no_space PgIso = none_of (name_of PgIso) refl
-names_have_no_space Postgres = none_of (name_of Postgres) refl
-names_have_no_space PgVerbose = none_of (name_of PgVerbose) refl
-names_have_no_space PgSql = none_of (name_of PgSql) refl
-names_have_no_space IsoStrict = none_of (name_of IsoStrict) refl
+names_have_no_space form = none_of (name_of form) (is_spaceless form)
 
 -- ---- one word and one text
 
@@ -80,18 +74,16 @@ style_named name =
     (cond (bytes_eq name (codes "PgSql")) (Some style.Sql)
     (cond (bytes_eq name (codes "IsoStrict")) (Some style.IsoStrict) None))))
 
+pub none_is_no_some : {T : Type 0} (x : T) → ◌≡◌ {A = Option T} None (Some x) → ⊥
+none_is_no_some x h = absurd (let other : None ≡ Some x = h in cc)
+
 style_is : (form : Form) (s : Style) → style_of form ≡ Some s → style_named (name_of form) ≡ Some s
-style_is FileTime s h = h
-style_is IsoDateTime s h = h
-style_is IsoDate s h = h
-style_is IsoDuration s h = h
-style_is Toml s h = h
-style_is Fancy s h = h
 style_is PgIso s h = h
 style_is Postgres s h = h
 style_is PgVerbose s h = h
 style_is PgSql s h = h
 style_is IsoStrict s h = h
+style_is _ s h = absurd (none_is_no_some s h)
 
 pub some_is : (s t : Style) → ◌≡◌ {A = Option Style} (Some s) (Some t) → s ≡ t
 some_is s t h = cc
@@ -106,9 +98,6 @@ one_entry line s t a b h k =
     (one_style h.form k.form s t h.named k.named both.0, both.1)
 
 -- ---- what readers of names answer
-
-pub none_is_no_some : {T : Type 0} (x : T) → ◌≡◌ {A = Option T} None (Some x) → ⊥
-none_is_no_some x h = absurd (let other : None ≡ Some x = h in cc)
 
 abbrev form_in : Form → Option Form → Form
 form_in other (Some form) = form
@@ -128,17 +117,12 @@ no_style whole word rest form h labelled named none s text is =
     none_is_no_some s (sym (unstyled form none) ∙ (ap style_named (sym named ∙ same) ∙ style_is is.form s is.named))
   where
     unstyled : (form : Form) → style_of form ≡ None → style_named (name_of form) ≡ None
-    unstyled FileTime h = refl
-    unstyled IsoDateTime h = refl
-    unstyled IsoDate h = refl
-    unstyled IsoDuration h = refl
-    unstyled Toml h = refl
-    unstyled Fancy h = refl
     unstyled PgIso h = h
     unstyled Postgres h = h
     unstyled PgVerbose h = h
     unstyled PgSql h = h
     unstyled IsoStrict h = h
+    unstyled _ h = refl
 
 pub styled_entry : (line text : List ℕ) (s : Style) (rest : List ℕ) → text ≡ line → IsEntry line s rest → IsStyled text s rest
 styled_entry line text s rest same e = record {
