@@ -46,7 +46,11 @@ enum timeforms_form {
     TIMEFORMS_POSTGRES = 7,      /* `Postgres`, an interval form: `1 year 2 mons 3 days 04:05:06` */
     TIMEFORMS_PG_VERBOSE = 8,    /* `PgVerbose`, an interval form: `@ 1 year 2 mons 3 days 4 hours 5 mins 6 secs` */
     TIMEFORMS_PG_SQL = 9,        /* `PgSql`, an interval form: `+1-2 -3 +4:05:06` */
-    TIMEFORMS_ISO_STRICT = 10    /* `IsoStrict`, an interval form: `P1Y2M3W4DT5H6M7S`, its units in one order */
+    TIMEFORMS_ISO_STRICT = 10,   /* `IsoStrict`, an interval form: `P1Y2M3W4DT5H6M7S`, its units in one order */
+    TIMEFORMS_UNIX = 11,         /* `Unix`: seconds since 1970, `1796167471.051677` */
+    TIMEFORMS_PG_TIMESTAMP = 12, /* `PgTimestamp`: `2026-12-01 23:24:31.051677+00`, `2026-12-01 23:24:31`, `2026-12-01` */
+    TIMEFORMS_HTTP_DATE = 13,    /* `HttpDate`: `Sun, 06 Nov 1994 08:49:37 GMT` */
+    TIMEFORMS_MAIL_DATE = 14     /* `MailDate`: `Sun, 06 Nov 1994 08:49:37 +0000` */
 };
 
 /* What a call answers in place of an answer. The causes come in the order in which they are judged. */

@@ -36,6 +36,10 @@ A form is one of
     PgVerbose      the same in its style postgres_verbose: @ 1 year 2 mons 3 days 4 hours 5 mins 6 secs
     PgSql          the same in its style sql_standard: +1-2 -3 +4:05:06
     IsoStrict      intervals as in PgIso, their units in one order and each at most once: P1Y2M3W4DT5H6M7S
+    Unix           seconds since 1970, with at most nine digits behind the point: 1796167471.051677
+    PgTimestamp    PostgreSQL's timestamps and dates: 2026-12-01 23:24:31.051677+00, 2026-12-01 23:24:31, 2026-12-01
+    HttpDate       dates of HTTP: Sun, 06 Nov 1994 08:49:37 GMT
+    MailDate       dates of mail: Sun, 6 Nov 1994 08:49:37 +0000
 
 A line without an answer has the reply \`refused\` and the first of these causes that holds, and nothing stops:
     Line            it isn't UTF-8, or isn't two names of forms, a space between, and then its end or a space and a text; with
@@ -73,7 +77,7 @@ $more
 END
 }
 
-forms='FileTime IsoDateTime IsoDate IsoDuration Toml Fancy PgIso Postgres PgVerbose PgSql IsoStrict'
+forms='FileTime IsoDateTime IsoDate IsoDuration Toml Fancy PgIso Postgres PgVerbose PgSql IsoStrict Unix PgTimestamp HttpDate MailDate'
 
 # Whether a word is a form's name.
 is_form() {

@@ -29,6 +29,10 @@ class Form(str, enum.Enum):
     PgVerbose = "PgVerbose"
     PgSql = "PgSql"
     IsoStrict = "IsoStrict"
+    Unix = "Unix"
+    PgTimestamp = "PgTimestamp"
+    HttpDate = "HttpDate"
+    MailDate = "MailDate"
 
     __str__ = str.__str__
     __hash__ = str.__hash__

@@ -55,6 +55,10 @@ pub(crate) fn form_numbered(number: i32) -> Option<Form>
         8 => Some(Form::PgVerbose),
         9 => Some(Form::PgSql),
         10 => Some(Form::IsoStrict),
+        11 => Some(Form::Unix),
+        12 => Some(Form::PgTimestamp),
+        13 => Some(Form::HttpDate),
+        14 => Some(Form::MailDate),
         _ => None,
     }
 }
@@ -75,6 +79,10 @@ fn number_of(form: Form) -> i32
         Form::PgVerbose => 8,
         Form::PgSql => 9,
         Form::IsoStrict => 10,
+        Form::Unix => 11,
+        Form::PgTimestamp => 12,
+        Form::HttpDate => 13,
+        Form::MailDate => 14,
     }
 }
 

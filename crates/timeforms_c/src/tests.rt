@@ -42,13 +42,17 @@ fn forms_by_number_and_by_name(rt: HostRuntime) -> Result<(), Fail> {
         (8, "PgVerbose"),
         (9, "PgSql"),
         (10, "IsoStrict"),
+        (11, "Unix"),
+        (12, "PgTimestamp"),
+        (13, "HttpDate"),
+        (14, "MailDate"),
     ] {
         let mut room = [b'#'; 16];
         assert_eq!(rt; timeforms_form_by_name(name.as_bytes()), number);
         assert_eq!(rt; timeforms_form_name(number, &mut room), name.len() as i32);
         assert!(rt; is_left(name, &room), "at {name}");
     }
-    for number in [-1, 11, i32::MIN, i32::MAX] {
+    for number in [-1, 1000, i32::MIN, i32::MAX] {
         let mut room = [b'#'; 16];
         assert_eq!(rt; timeforms_form_name(number, &mut room), -101);
         assert!(rt; is_left("", &room));
@@ -78,7 +82,7 @@ fn answers_and_codes(rt: HostRuntime) -> Result<(), Fail> {
         (4, 0, "12:00:00", -4, ""),
         (5, 6, "1ns", -5, ""),
         (5, 5, "30d", -6, ""),
-        (11, 6, "P1D", -101, ""),
+        (1000, 6, "P1D", -101, ""),
         (6, -1, "P1D", -101, ""),
     ] {
         let mut room = [b'#'; 32];
@@ -134,7 +138,7 @@ fn bytes_that_are_not_utf8(rt: HostRuntime) -> Result<(), Fail> {
         timeforms_reply_by_name(b"PgIso", b"PgIso", b"\xFF", &mut room),
         -102
     );
-    assert_eq!(rt; timeforms_reply(6, 11, b"\xFF", &mut room), -101);
+    assert_eq!(rt; timeforms_reply(6, 1000, b"\xFF", &mut room), -101);
     assert!(rt; is_left("", &room));
     Ok(())
 }
@@ -180,7 +184,7 @@ fn intervals_of_texts(rt: HostRuntime) -> Result<(), Fail> {
         (6, "P", -1, 1, 2, 3),
         (6, "P178956971Y", -3, 1, 2, 3),
         (5, "1d", -101, 1, 2, 3),
-        (11, "P1D", -101, 1, 2, 3),
+        (1000, "P1D", -101, 1, 2, 3),
     ] {
         let mut read = interval(1, 2, 3);
         assert_eq!(rt;
@@ -211,7 +215,7 @@ fn texts_of_intervals(rt: HostRuntime) -> Result<(), Fail> {
         (9, 23, "+1-2 -3 +4:05:06.000007"),
         (10, 22, "P1Y2M-3DT4H5M6.000007S"),
         (5, -101, ""),
-        (11, -101, ""),
+        (1000, -101, ""),
     ] {
         let mut room = [b'#'; 64];
         assert_eq!(rt;
@@ -307,7 +311,7 @@ fn columns_in_rooms_of_their_size(rt: HostRuntime) -> Result<(), Fail> {
     assert_eq!(rt;
         timeforms_convert_column(
             6,
-            11,
+            1000,
             b"P1D",
             &cells,
             &mut room,
@@ -466,7 +470,7 @@ fn instants_of_texts(rt: HostRuntime) -> Result<(), Fail> {
         (6, "P1D", -4, 7, 7),
         (1, "2015-09-31T00:00:00Z", -2, 7, 7),
         (1, "", -1, 7, 7),
-        (11, "", -101, 7, 7),
+        (1000, "", -101, 7, 7),
     ] {
         let (mut seconds, mut nanoseconds) = (7, 7);
         let found = timeforms_instant_from_text(
@@ -492,7 +496,7 @@ fn texts_of_instants(rt: HostRuntime) -> Result<(), Fail> {
         (0, 0, 1_000_000_000, -3, ""),
         (1, i64::MAX, 0, -3, ""),
         (6, 0, 0, -4, ""),
-        (11, 0, 0, -101, ""),
+        (1000, 0, 0, -101, ""),
     ] {
         let mut room = [b'#'; 32];
         let found = timeforms_instant_to_text(form, seconds, nanoseconds, &mut room);
