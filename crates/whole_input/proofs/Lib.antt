@@ -2,3 +2,4 @@
 pub mod FirstByte
 pub mod Numbering
 pub mod Outcomes
+pub mod SlicesFilled

@@ -74,6 +74,19 @@ pub fn read_lines<X: Drop, F, R: ReadLine<X, F>>(
     Ok(values)
 }
 
+/// How many lines a text has: of `a`, a line feed and `b` it is 2, and of a text that ends with its only line feed it is 1.
+pub fn count_lines(text: &[u8]) -> usize
+    ensures { result ≡ length (lines text.now) }
+{
+    let mut count = 0;
+    let mut rest = text;
+    while let Some((_, after)) = first_line(rest) {
+        count += 1;
+        rest = after;
+    }
+    count
+}
+
 /// How many lines a text has at most: one for each line feed, and one more.
 fn most_lines(text: &[u8]) -> usize
     ensures { length (lines text.now) ≤ result }
