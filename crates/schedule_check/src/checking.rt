@@ -5,7 +5,7 @@ ghost use Rattle.schedule_check.specs.declared.check_error.CheckError.{CheckErro
 ghost use Rattle.schedule_check.specs.declared.slot.Slot.{Slot as AnySlot};
 
 use crate::check_error::CheckError;
-use crate::clashes::{first_clash, order_slots};
+use crate::clashes::clash_in_order;
 use crate::laws;
 use crate::line::SlotLines;
 use crate::table::Table;
@@ -38,12 +38,8 @@ fn answer(alloc: Global, bytes: &[u8]) -> Result<Table, CheckError>
         }
         Err(LineError::NoMemory) => return Err(CheckError::NoMemory),
     };
-    order_slots(&mut slots);
-    match first_clash(&slots) {
-        Some((first, second)) => Err(CheckError::Clash {
-            first: slots[first].line,
-            second: slots[second].line,
-        }),
+    match clash_in_order(&mut slots) {
+        Some((first, second)) => Err(CheckError::Clash { first, second }),
         None => Ok(Table::new(slots)),
     }
 }

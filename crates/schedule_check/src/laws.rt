@@ -7,10 +7,12 @@ ghost use Rattle.schedule_check.specs.Clashes.{IsNotAfter, IsFirstClash};
 ghost use Rattle.schedule_check.specs.Reports.{Reports};
 ghost use Rattle.schedule_check.specs.Slots.{IsSlot};
 ghost use Rattle.schedule_check.specs.declared.check_error.CheckError.{CheckError as AnyError};
+ghost use Rattle.schedule_check.specs.declared.check_into_error.CheckIntoError.{CheckIntoError as AnyIntoError};
 ghost use Rattle.schedule_check.specs.declared.fault.Fault.{Fault as AnyFault};
 ghost use Rattle.schedule_check.specs.declared.slot.Slot.{Slot as AnySlot};
 
 use crate::check_error::CheckError;
+use crate::check_into_error::CheckIntoError;
 use crate::fault::Fault;
 use crate::slot::Slot;
 
@@ -65,4 +67,6 @@ pub fn equality_is_that_of_the_fields()
     ensures slots { (a b : AnySlot) → IsTrue (⟦<Slot as PartialEq>⟧.eq a b) ↔ (a ≡ b) }
     ensures faults { (a b : AnyFault) → IsTrue (⟦<Fault as PartialEq>⟧.eq a b) ↔ (a ≡ b) }
     ensures refusals { (a b : AnyError) → IsTrue (⟦<CheckError as PartialEq>⟧.eq a b) ↔ (a ≡ b) }
+    ensures into { (a b : AnyIntoError)
+        → IsTrue (⟦<CheckIntoError as PartialEq>⟧.eq a b) ↔ (a ≡ b) }
 {}
