@@ -1,6 +1,6 @@
 -- The checks answer a value exactly where the text spells it by the grammar.
-use Rattle.std.proofs.Common.{◌≡◌, ℕ, Bool, true, false, cond, List, [], ◌∷◌, ◌++◌, Option, Some, None, Result, Ok, Err, append-nil, append_assoc, codes}
-use Rattle.std.proofs.Common.{refl, sym, ◌∙◌, ap, subst, arith, inl, inr}
+use Rattle.std.proofs.Common.{◌≡◌, ℕ, Bool, true, false, cond, List, [], ◌∷◌, ◌++◌, Option, Some, None, Result, Ok, Err, codes}
+use Rattle.std.proofs.Common.{append-nil, append_assoc, refl, sym, ◌∙◌, ap, subst, arith, inl, inr}
 use Rattle.port_toml_datetime.specs.Faults.{Fault}
 use Rattle.port_toml_datetime.specs.declared.date.Date.{Date}
 use Rattle.port_toml_datetime.specs.declared.time.Time.{Time}
