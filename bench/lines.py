@@ -9,7 +9,8 @@ IsoStrict, whose texts are those of PgIso.
 --expected also writes the replies.
 
 Other kinds, from the same sequence of numbers: IsoDateTime, IsoDuration, IsoDate,
-Toml, Fancy, FileTime (each to itself), IsoDateTime-FileTime.
+Toml, Fancy, FileTime, Unix, PgTimestamp, HttpDate, MailDate, XsdDuration (each to itself),
+IsoDateTime-FileTime, PgTimestamp-Toml.
 
 Behind the text of each K-th line stands the byte `x` (K is 10; 0 is never).
 """
@@ -184,11 +185,15 @@ def iso_duration(numbers):
     return text + seconds
 
 
+def time_of_day(numbers):
+    return f"{numbers.below(24):02}:{numbers.below(60):02}:{numbers.below(60):02}"
+
+
 def toml(numbers):
     day = date(numbers, 1, ("ymd",))[0]
     if "-" not in day:
         day = f"{day[:4]}-{day[4:6]}-{day[6:]}"
-    clock = f"{numbers.below(24):02}:{numbers.below(60):02}:{numbers.below(60):02}"
+    clock = time_of_day(numbers)
     clock += numbers.pick("", f".{numbers.below(1000):03}", f".{numbers.below(10**6):06}",
                           f".{numbers.below(10**9):09}")
     offset = f"{numbers.pick('+', '-')}{numbers.below(15):02}:{numbers.pick(0, 0, 30, 45):02}"
@@ -217,10 +222,74 @@ def file_time(numbers):
     return str(numbers.next())
 
 
+def unix(numbers):
+    """Seconds from 1653 to 2286."""
+    whole = numbers.below(10**10)
+    fraction = numbers.pick("", f".{numbers.below(1000):03}", f".{numbers.below(10**6):06}",
+                            f".{numbers.below(10**9):09}")
+    return numbers.pick("", "", "", "-") + f"{whole}{fraction}"
+
+
+def civil(numbers, low):
+    """A year from `low` to 9998, a month and a day."""
+    year, month = low + numbers.below(9999 - low), 1 + numbers.below(12)
+    return year, month, 1 + numbers.below(calendar.monthrange(year, month)[1])
+
+
+def pg_timestamp(numbers):
+    """As the server writes it in one time zone or another, now and then without a time or an offset."""
+    year, month, day = civil(numbers, 1)
+    kind = numbers.below(8)
+    text = f"{year:04}-{month:02}-{day:02}"
+    if kind:
+        text += f" {time_of_day(numbers)}"
+        text += numbers.pick("", f".{numbers.below(1000):03}", f".{numbers.below(10**6):06}")
+    if kind > 1:
+        offset = f"{numbers.pick('+', '-')}{numbers.below(15):02}"
+        text += numbers.pick("+00", "+00", offset, f"{offset}:30")
+    return text
+
+
+WEEKDAYS = ("Mon", "Tue", "Wed", "Thu", "Fri", "Sat", "Sun")
+MONTHS = ("Jan", "Feb", "Mar", "Apr", "May", "Jun", "Jul", "Aug", "Sep", "Oct", "Nov", "Dec")
+
+
+def http_date(numbers):
+    """Three of four as HTTP writes them, the others as asctime does."""
+    year, month, day = civil(numbers, 1)
+    name, month_name = WEEKDAYS[calendar.weekday(year, month, day)], MONTHS[month - 1]
+    if numbers.below(4):
+        return f"{name}, {day:02} {month_name} {year:04} {time_of_day(numbers)} GMT"
+    return f"{name} {month_name} {day:2} {time_of_day(numbers)} {year:04}"
+
+
+def mail_date(numbers):
+    year, month, day = civil(numbers, 1900)
+    front = f"{WEEKDAYS[calendar.weekday(year, month, day)]}, " if numbers.below(8) else ""
+    time = time_of_day(numbers) if numbers.below(8) else time_of_day(numbers)[:5]
+    zone = f"{numbers.pick('+', '-')}{numbers.below(15):02}{numbers.pick(0, 0, 30, 45):02}"
+    zone = numbers.pick("+0000", zone, zone, "GMT", "EST", "PDT")
+    comment = numbers.pick("", "", "", " (UTC)")
+    return f"{front}{numbers.pick(f'{day:02}', str(day))} {MONTHS[month - 1]} {year} {time} {zone}{comment}"
+
+
+def xsd_duration(numbers):
+    """Some of the counts, all of one sign; the seconds always."""
+    day = [(numbers.below(2000), "Y"), (numbers.below(13), "M"), (numbers.below(400), "D")]
+    time = [(numbers.below(100), "H"), (numbers.below(100), "M")]
+    seconds = f"{numbers.below(100)}" + numbers.pick("", f".{numbers.below(1000):03}", f".{numbers.below(10**6):06}")
+    drop = numbers.below(32)
+    text = "P" + "".join(f"{n}{u}" for k, (n, u) in enumerate(day) if not drop >> k & 1)
+    text += "T" + "".join(f"{n}{u}" for k, (n, u) in enumerate(time) if not drop >> (k + 3) & 1)
+    return f"{numbers.pick('', '', '', '-')}{text}{seconds}S"
+
+
 TEXTS = {
     "IsoDateTime": iso_date_time, "IsoDuration": iso_duration, "IsoDate": iso_date, "Toml": toml,
-    "Fancy": fancy, "FileTime": file_time,
+    "Fancy": fancy, "FileTime": file_time, "Unix": unix, "PgTimestamp": pg_timestamp,
+    "HttpDate": http_date, "MailDate": mail_date, "XsdDuration": xsd_duration,
     "IsoDateTime-FileTime": lambda numbers: iso_date_time(numbers, 1602),
+    "PgTimestamp-Toml": pg_timestamp,
 }
 
 
