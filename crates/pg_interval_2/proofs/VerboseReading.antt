@@ -25,7 +25,8 @@ use Rattle.pg_interval_2.specs.inside.VerboseParts.{ago_or_none, IsBody}
 use Rattle.pg_interval_2.specs.inside.ItemReading.{after_blanks, verdict, Spelled, BadLetters, Unspelled}
 use Rattle.pg_interval_2.specs.inside.ItemsTally.{AnswersItems, IsMisread, RefusesItems}
 use Rattle.pg_interval_2.specs.inside.Tallies.{AnswersCounts}
-use Rattle.pg_interval_2.specs.inside.VerboseReading.{solid_behind, ends_solid, IsEnding, IsBehindAt, AnswersFront, IsFrontMisread, RefusesFront}
+use Rattle.pg_interval_2.specs.inside.VerboseReading.{solid_behind, ends_solid, IsEnding, IsBehindAt, AnswersFront, IsFrontMisread}
+use Rattle.pg_interval_2.specs.inside.VerboseReading.{RefusesFront}
 use Rattle.pg_interval_2.proofs.Answering.{answers_err, answers_ok}
 use Rattle.pg_interval_2.proofs.BadNames.{bad_verdict, items_verdict}
 use Rattle.pg_interval_2.proofs.Frames.{same_before, same_behind, one_frame, whole_words, words_before}

@@ -12,12 +12,14 @@ loop-part-preserved c =
     elim c.if-is_among.branch [
       | then-is_among w ↦
           let among = sym c.is_among.ensures ∙ w.if-is_among.true in
-          let step = keeps_part _ _ _ _ _ _ _ _ _ (parts_more c.loop-part.part-index _ c.loop-part-test.true) (c.from.ensures ∙ c.nanos.ensures) among w.sum-is
+          let step = keeps_part _ _ _ _ _ _ _ _ _ (parts_more c.loop-part.part-index _ c.loop-part-test.true) (c.from.ensures
+          ∙ c.nanos.ensures) among w.sum-is
           w.left-is in
           record { value = step ∙ c.loop-part.invariant.value; within = omega arith }
       | else-is_among w ↦
           let other = sym c.is_among.ensures ∙ w.if-is_among.false in
-          let step = skips_part _ _ _ _ _ _ _ _ _ (parts_more c.loop-part.part-index _ c.loop-part-test.true) (c.from.ensures ∙ c.nanos.ensures) other w.sum-is
+          let step = skips_part _ _ _ _ _ _ _ _ _ (parts_more c.loop-part.part-index _ c.loop-part-test.true) (c.from.ensures
+          ∙ c.nanos.ensures) other w.sum-is
           w.left-is in
           record { value = step ∙ c.loop-part.invariant.value; within = omega arith }
     ]
