@@ -9,7 +9,7 @@ use Rattle.pg_timestamp.specs.Dates.{date_number}
 use Rattle.pg_timestamp.specs.Timestamps.{IsTimestampText}
 use Rattle.pg_timestamp.specs.Values.{IsInRange, IsRealTimestamp, IsWithinBounds as IsTimestampValue, last_day, micros_of_day, timed}
 use Rattle.pg_timestamp.specs.Values.{value_of, value_at}
-use Rattle.pg_timestamp.specs.Written.{IsTextOf, IsUtc, IsWritten, IsZero}
+use Rattle.pg_timestamp.specs.Written.{IsValueText, IsUtc, IsWritten, IsZero}
 use Rattle.pg_timestamp.specs.declared.time.Time.{Time}
 use Rattle.pg_timestamp.specs.declared.timestamp.Timestamp.{Timestamp}
 use Rattle.pg_timestamp.specs.declared.value.Value.{Value as TimestampValue}
@@ -46,7 +46,7 @@ worth_within t value h = judged_within (IsRealTimestamp t) (IsInRange t) (in_nan
 
 -- what the law of the crate below says: a value has one text
 abbrev pub HasOneText : Type 0
-HasOneText = (value : TimestampValue) (s t : List ℕ) → IsTextOf value s → IsTextOf value t → s ≡ t
+HasOneText = (value : TimestampValue) (s t : List ℕ) → IsValueText value s → IsValueText value t → s ≡ t
 
 one_micros : HasOneText → (value : TimestampValue) (nanos : ℤ) (a b : Result (List ℕ) Cause) → HoldsMicros value nanos a
     → HoldsMicros value nanos b → a ≡ b
@@ -83,7 +83,7 @@ same_value value other found same h = subst (λ (v : Value). FindsMicros (Holds 
 
 -- what the law of the crate below says: a text of a value is read as a timestamp that has it
 abbrev pub AreReadBack : Type 0
-AreReadBack = (value : TimestampValue) (text : List ℕ) → IsTextOf value text → (t : Timestamp) × IsTimestampText text t × IsWritten value t
+AreReadBack = (value : TimestampValue) (text : List ℕ) → IsValueText value text → (t : Timestamp) × IsTimestampText text t × IsWritten value t
 
 -- a day in UTC isn't past the last one where its moment isn't
 early_time : (day : ℤ) (micros : ℕ) (offset : Option ℤ) → IsZero offset → IsTimestampValue (timed day micros offset) → day ≤ℤ last_day
@@ -104,15 +104,15 @@ abbrev pub IsMicros : Value → TimestampValue → Type 0
 IsMicros value micros = (value ≡ in_nanos micros) × IsTimestampValue micros
 
 held_micros : (micros : TimestampValue) (nanos : ℤ) (text : List ℕ) → HoldsMicros micros nanos (Ok text)
-    → IsTimestampValue micros × (nanos ≡ pos 0) × IsTextOf micros text
+    → IsTimestampValue micros × (nanos ≡ pos 0) × IsValueText micros text
 held_micros micros nanos text (inl h) = absurd (let e : Ok text ≡ Err Range = h.1 in cc)
 held_micros micros nanos text (inr (inl h)) = absurd (let e : Ok text ≡ Err Precision = h.2 in cc)
 held_micros micros nanos text (inr (inr (within, zero, other, is, held))) =
-    (within, zero, subst (IsTextOf micros) (let e : Ok text ≡ Ok other = held in cc) is)
+    (within, zero, subst (IsValueText micros) (let e : Ok text ≡ Ok other = held in cc) is)
 
 -- the value itself, its microseconds and their text
 abbrev pub IsHeldIn : Value → List ℕ → Type 0
-IsHeldIn value text = (micros : TimestampValue) × (value ≡ in_nanos micros) × IsTimestampValue micros × IsTextOf micros text
+IsHeldIn value text = (micros : TimestampValue) × (value ≡ in_nanos micros) × IsTimestampValue micros × IsValueText micros text
 
 whole_moment : (nanos : ℤ) → int_rem_euclid nanos (pos 1000) ≡ pos 0 → nanos ≡ int_div_euclid nanos (pos 1000) *ℤ pos 1000
 whole_moment nanos zero = omega (arith, signed_arith)

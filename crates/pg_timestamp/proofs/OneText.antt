@@ -4,7 +4,7 @@ use Rattle.std.specs.Prelude.{ℤ, pos, ◌+ℤ◌, ◌-ℤ◌, ◌*ℤ◌}
 use Rattle.std.proofs.lemmas.Int.{ints}
 use Rattle.pg_timestamp.specs.Dates.{date_number}
 use Rattle.pg_timestamp.specs.Values.{IsClockTime, IsRealTime, micros_of_day, timed, value_at, value_of}
-use Rattle.pg_timestamp.specs.Written.{IsTextOf, IsUtc, IsWritten, IsZero, timestamp_text}
+use Rattle.pg_timestamp.specs.Written.{IsValueText, IsUtc, IsWritten, IsZero, timestamp_text}
 use Rattle.pg_timestamp.specs.declared.time.Time.{Time}
 use Rattle.pg_timestamp.specs.declared.timestamp.Timestamp.{Timestamp}
 use Rattle.pg_timestamp.specs.declared.value.Value.{Value}
@@ -70,5 +70,5 @@ one_written next value a b h k =
     let parts = one_at (date_number a.date) (date_number b.date) a.time b.time h.real.1 k.real.1 h.utc k.utc same in
     timestamp_is a b (one_date next a.date b.date h.real.0 k.real.0 parts.0) parts.1
 
-pub one_text : YearsFollow → (value : Value) (s t : List ℕ) → IsTextOf value s → IsTextOf value t → s ≡ t
+pub one_text : YearsFollow → (value : Value) (s t : List ℕ) → IsValueText value s → IsValueText value t → s ≡ t
 one_text next value s t (a, h, is) (b, k, are) = is ∙ ap timestamp_text (one_written next value a b h k) ∙ sym are

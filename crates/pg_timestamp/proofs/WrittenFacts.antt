@@ -14,7 +14,8 @@ use Rattle.pg_timestamp.specs.Pieces.{IsMarkedPair, era_text}
 use Rattle.pg_timestamp.specs.Dates.{IsLongYear, calendar_year}
 use Rattle.pg_timestamp.specs.Timestamps.{IsMicrosFraction, IsZoneOffset, IsPerhapsOffset, IsPerhapsTime, IsTimeOfDay, IsTimestampText}
 use Rattle.pg_timestamp.specs.Values.{IsRealTimestamp, IsRealTime, IsClockTime}
-use Rattle.pg_timestamp.specs.Written.{IsTextOf, IsUtc, IsWritten, IsZero, blank_time_text, year_first_text, micros_text, zone_text, pair_text}
+use Rattle.pg_timestamp.specs.Written.{IsValueText, IsUtc, IsWritten, IsZero, blank_time_text, year_first_text, micros_text, zone_text}
+use Rattle.pg_timestamp.specs.Written.{pair_text}
 use Rattle.pg_timestamp.specs.Written.{perhaps_time_text, timestamp_text}
 use Rattle.pg_timestamp.specs.declared.time.Time.{Time}
 use Rattle.pg_timestamp.specs.declared.timestamp.Timestamp.{Timestamp}
@@ -155,7 +156,7 @@ read_back t real utc held =
           ∙ ap (λ (l : List ℕ). padded_digits 4 t.date.year ++ l) (append_assoc (pair_text 45 t.date.month) (pair_text 45 t.date.day) tail);
     }
 
-pub text_read_back : (value : Value) (text : List ℕ) → IsTextOf value text → (t : Timestamp) × IsTimestampText text t × IsWritten value t
+pub text_read_back : (value : Value) (text : List ℕ) → IsValueText value text → (t : Timestamp) × IsTimestampText text t × IsWritten value t
 text_read_back value text (t, w, is) =
     let P : List ℕ → Type 0 = λ l. IsTimestampText l t in
     (t, subst P (sym is) (read_back t w.real w.utc w.year), w)

@@ -62,6 +62,6 @@ pub record IsWritten (value : Value) (timestamp : Timestamp) : Type 0 where
   pub year : timestamp.date.year < 40_000
 
 -- the text of the timestamp that has the value
-abbrev pub IsTextOf : Value → List ℕ → Type 0
-IsTextOf value text =
+abbrev pub IsValueText : Value → List ℕ → Type 0
+IsValueText value text =
     (timestamp : Timestamp) × IsWritten value timestamp × (text ≡ timestamp_text timestamp)

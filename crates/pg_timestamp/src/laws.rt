@@ -5,7 +5,7 @@ ghost use Rattle.iso8601.specs.declared.types.Date.TheVariants.{YMD};
 ghost use Rattle.pg_timestamp.specs.Dates.{IsRealDate, calendar_year, date_number, held_year};
 ghost use Rattle.pg_timestamp.specs.Timestamps.{IsTimestampText};
 ghost use Rattle.pg_timestamp.specs.Values.{first_day, last_day};
-ghost use Rattle.pg_timestamp.specs.Written.{IsTextOf, IsWritten};
+ghost use Rattle.pg_timestamp.specs.Written.{IsValueText, IsWritten};
 ghost use Rattle.pg_timestamp.specs.declared.date.Date.{Date};
 ghost use Rattle.pg_timestamp.specs.declared.time.Time.{Time};
 ghost use Rattle.pg_timestamp.specs.declared.timestamp.Timestamp.{Timestamp};
@@ -22,13 +22,13 @@ pub fn a_text_is_one_timestamp()
 
 /// The written text of a value is read as a timestamp with this value.
 pub fn texts_are_read_back()
-    ensures { (value : Value) (text : List ℕ) → IsTextOf value text
+    ensures { (value : Value) (text : List ℕ) → IsValueText value text
         → (t : Timestamp) × IsTimestampText text t × IsWritten value t }
 {}
 
 /// A value has one text at most.
 pub fn a_value_has_one_text()
-    ensures { (value : Value) (s t : List ℕ) → IsTextOf value s → IsTextOf value t → s ≡ t }
+    ensures { (value : Value) (s t : List ℕ) → IsValueText value s → IsValueText value t → s ≡ t }
 {
     iso8601::laws::years_and_weeks_follow_each_other();
 }

@@ -123,14 +123,14 @@ impl Value {
     ghost use Rattle.std.specs.Prelude.{◌≡◌, ◌+◌, ◌≤◌, ◌++◌, List, ℕ};
     ghost use Rattle.arrayvec.specs.ArrayString.{array_string_len};
     ghost use Rattle.pg_timestamp.specs.Values.{IsWithinBounds};
-    ghost use Rattle.pg_timestamp.specs.Written.{IsTextOf};
+    ghost use Rattle.pg_timestamp.specs.Written.{IsValueText};
 
     /// Appends the text of the value, of at most 42 bytes: `2026-12-01` of a day, `2026-12-01 23:24:31.051677` of a time of a day, and
     /// `2026-12-01 23:24:31.051677+00` of a moment; before year 1 it ends in ` BC`.
     pub fn push_text<const CAP: usize>(self, out: &mut ArrayString<CAP>)
         requires value { IsWithinBounds self }
         requires room { array_string_len out.old + 42 ≤ CAP }
-        ensures bytes { (text : List ℕ) × IsTextOf self text
+        ensures bytes { (text : List ℕ) × IsValueText self text
             × (out.new.bytes ≡ out.old.bytes ++ text) }
         ensures len { array_string_len out.new ≤ array_string_len out.old + 42 }
     {

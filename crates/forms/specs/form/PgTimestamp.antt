@@ -3,7 +3,7 @@
 use Rattle.std.specs.Prelude.{◌≡◌, ◌≢◌, ◌⊎◌, ℕ, ◌*◌, ◌/◌, ◌%◌, List, ℤ, pos, ◌*ℤ◌, unsigned_abs, Result, Ok, Err}
 use Rattle.std.specs.Int.{int_div_euclid, int_rem_euclid}
 use Rattle.pg_timestamp.specs.Values.{IsInRange, IsRealTimestamp, IsWithinBounds, value_of}
-use Rattle.pg_timestamp.specs.Written.{IsTextOf}
+use Rattle.pg_timestamp.specs.Written.{IsValueText}
 use Rattle.pg_timestamp.specs.declared.timestamp.Timestamp.{Timestamp}
 use Rattle.pg_timestamp.specs.declared.value.Value.{Value as TimestampValue}
 use Rattle.pg_timestamp.specs.declared.value.Value.TheVariants as timestamp
@@ -33,7 +33,7 @@ abbrev pub HoldsMicros : TimestampValue → ℤ → Result (List ℕ) Cause → 
 HoldsMicros value nanos held =
     (¬ (IsWithinBounds value) × (held ≡ Err Range))
     ⊎ ((IsWithinBounds value × (nanos ≢ pos 0) × (held ≡ Err Precision))
-    ⊎ (IsWithinBounds value × (nanos ≡ pos 0) × (text : List ℕ) × IsTextOf value text × (held ≡ Ok text)))
+    ⊎ (IsWithinBounds value × (nanos ≡ pos 0) × (text : List ℕ) × IsValueText value text × (held ≡ Ok text)))
 
 -- The text of a value: a moment in UTC with its offset, a local date-time without one, a day alone; other kinds are `Kind`. Nanoseconds of
 -- a day are never negative, so `unsigned_abs` makes them a natural number and changes none.
