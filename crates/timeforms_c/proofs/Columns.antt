@@ -8,7 +8,8 @@ use Rattle.forms.specs.Replies.{IsAnswer}
 use Rattle.forms.specs.declared.form.Form.{Form}
 use Rattle.pg_interval_2.specs.declared.interval.Interval.{Interval}
 use Rattle.pg_interval_2.specs.declared.style.Style.{Style}
-use Rattle.timeforms_c.specs.Columns.{AnswersColumn, AreBetween, Fills, FindsInterval, IsBeyond, IsCellAnswer, ReadsColumn, answer_code}
+use Rattle.forms.specs.form.Intervals.{FindsInterval}
+use Rattle.timeforms_c.specs.Columns.{AnswersColumn, AreBetween, Fills, IsBeyond, IsCellAnswer, ReadsColumn, answer_code}
 use Rattle.timeforms_c.specs.Columns.{answer_text, ends, joined, part_of}
 use Rattle.timeforms_c.specs.inside.Cells.{PutsAnswer}
 

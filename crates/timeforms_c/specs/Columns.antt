@@ -2,15 +2,12 @@
 -- Apache Arrow's columnar format. The answers to them are a column too, beside which each cell has a code.
 use Rattle.std.specs.Prelude.{◌≡◌, ◌⊎◌, ℕ, ◌+◌, ◌-◌, ◌<◌, ◌≤◌, min, ℤ, pos, List, [], ◌∷◌, ◌++◌, map, length, take, drop, Result, Ok, Err}
 use Rattle.std.specs.Prelude.{IsUtf8, ⊤}
-use Rattle.scan_core.specs.declared.share.Part.{Part}
-use Rattle.pg_interval_2.specs.Denotes.{Denotes, HasNoShape, Misfits}
-use Rattle.pg_interval_2.specs.Styles.{Shape}
 use Rattle.pg_interval_2.specs.declared.interval.Interval.{Interval}
 use Rattle.pg_interval_2.specs.declared.style.Style.{Style}
 use Rattle.forms.specs.Replies.{IsAnswer}
 use Rattle.forms.specs.declared.cause.Cause.{Cause}
-use Rattle.forms.specs.declared.cause.Cause.TheVariants.{Syntax, Range}
 use Rattle.forms.specs.declared.form.Form.{Form}
+use Rattle.forms.specs.form.Intervals.{FindsInterval}
 use Rattle.timeforms_c.specs.Codes.{bad_offsets, code_of, not_utf8}
 
 -- the text of a cell, from its offset to the next one, which is no lesser one and within the bytes
@@ -94,13 +91,6 @@ pub record AnswersColumn (from to : Form) (bytes offsets out_old out_new ends_ol
   pub bound : length (joined (map answer_text answers)) ≤ 2_147_483_647
   pub stops : (length offsets ≤ done + 1) ⊎ ((length ends_old ≤ done + 1) ⊎ ((length codes_old ≤ done)
       ⊎ IsBeyond from to bytes (drop done offsets) (length out_old) (length (joined (map answer_text answers)))))
-
--- what an interval form finds of a text: the interval that it denotes, `Range` where its counts don't fit, `Syntax` where it spells none
-abbrev pub FindsInterval : Style → List ℕ → Result Interval Cause → Type 0
-FindsInterval style text (Ok t) = Denotes (Shape style) text t
-FindsInterval style text (Err Range) = (part : Part) × Misfits (Shape style) text part
-FindsInterval style text (Err Syntax) = HasNoShape (Shape style) text
-FindsInterval style text (Err _) = ⊥
 
 -- a part of an interval that was found, and 0 where there is a code in its place
 abbrev pub part_of : (Interval → ℤ) → Result Interval ℤ → ℤ

@@ -10,14 +10,13 @@ ghost use Rattle.timeforms_c.specs.Codes.{code_of};
 ghost use Rattle.timeforms_c.specs.Intervals.{seen, no_time, nanos_of, number_of_order};
 
 use crate::code::code_of;
+use crate::duration::NANOSECONDS_A_SECOND;
 use crate::interval::TimeformsInterval;
 use forms::Cause;
 use interval_column::order;
 use jiff::SignedDuration;
 use pg_interval_2::Interval;
 use std::cmp::Ordering;
-
-const NANOSECONDS_A_SECOND: u32 = 1_000_000_000;
 
 /// The sum of two intervals, part by part. Answers 0, or the code of `Range` exactly where a part leaves its type; then the sum is as it
 /// was.

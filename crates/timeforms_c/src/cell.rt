@@ -3,13 +3,14 @@ ghost use Rattle.std.specs.Prelude.{◌≡◌, ◌≤◌, IfOk, IfSome, IfNone};
 ghost use Rattle.arrayvec.specs.ArrayString.{array_string_len};
 ghost use Rattle.forms.specs.Answers.{bytes_of};
 ghost use Rattle.forms.specs.Replies.{IsAnswer};
-ghost use Rattle.timeforms_c.specs.Columns.{FindsInterval, HasNoCell, IsCell, IsCellAnswer, IsCoded, coded};
+ghost use Rattle.forms.specs.form.Intervals.{FindsInterval};
+ghost use Rattle.timeforms_c.specs.Columns.{HasNoCell, IsCell, IsCellAnswer, IsCoded, coded};
 ghost use Rattle.timeforms_c.specs.inside.Cells.{shown};
 
 use crate::code::{BAD_OFFSETS, NOT_UTF8, code_of};
-use forms::{Cause, Form, push_text_reply, reply};
-use pg_interval_2::{Interval, Style, read};
-use scan_core::{Looked, Short};
+use forms::{Cause, Form, push_text_reply, read_interval, reply};
+use pg_interval_2::{Interval, Style};
+use scan_core::Short;
 use std::str;
 
 /// The answer to a cell, or a code.
@@ -102,7 +103,7 @@ fn text_interval(style: Style, text: &[u8]) -> Result<Interval, i32>
     ensures { IsCoded (FindsInterval style) text.now result }
 {
     match str::from_utf8(text) {
-        Ok(text) => coded_interval(found_interval(style, text)),
+        Ok(text) => coded_interval(read_interval(style, text.as_bytes())),
         Err(_) => Err(NOT_UTF8),
     }
 }
@@ -115,16 +116,5 @@ fn coded_interval(found: Result<Interval, Cause>) -> Result<Interval, i32>
     match found {
         Ok(interval) => Ok(interval),
         Err(cause) => Err(code_of(cause)),
-    }
-}
-
-/// The interval that a text denotes, or the cause why there is none.
-fn found_interval(style: Style, text: &str) -> Result<Interval, Cause>
-    ensures { FindsInterval style text.now result }
-{
-    match read(style, &Looked::new(text)) {
-        Ok(interval) => Ok(interval),
-        Err(error) if error.is_range() => Err(Cause::Range),
-        Err(_) => Err(Cause::Syntax),
     }
 }

@@ -16,7 +16,8 @@ use forms::{Cause, Form, Value, write_value};
 use std::str;
 use std::time::Duration;
 
-const NANOSECONDS_A_SECOND: u32 = 1_000_000_000;
+/// How many nanoseconds a second has: those beyond whole seconds are fewer.
+pub(crate) const NANOSECONDS_A_SECOND: u32 = 1_000_000_000;
 
 /// The length that a text of the form `Fancy` denotes, in whole seconds and nanoseconds below 10^9. Answers 0, or the first of these that
 /// holds: `NOT_UTF8`, the code of `Syntax`, that of `Range` at 2^64 seconds and more. Then both are as they were.

@@ -1,6 +1,6 @@
 //! Forms by number and by name.
 ghost use Rattle.std.specs.Prelude.{◌≡◌, ◌≢◌, ◌↔◌, Some};
-ghost use Rattle.forms.specs.Names.{name_of, style_of};
+ghost use Rattle.forms.specs.Names.{name_of};
 ghost use Rattle.forms.specs.declared.form.Form.{Form as AnyForm};
 ghost use Rattle.timeforms_c.specs.Codes.{no_such_form};
 ghost use Rattle.timeforms_c.specs.Numbers.{number_of};
@@ -9,7 +9,6 @@ ghost use Rattle.timeforms_c.specs.Rooms.{Leaves, Refused};
 use crate::code::NO_SUCH_FORM;
 use crate::room::put_text;
 use forms::Form;
-use pg_interval_2::Style;
 use std::str;
 
 /// The number of the form of exactly this name, as calls take it, or `NO_SUCH_FORM` where it is no form's.
@@ -93,19 +92,5 @@ pub(crate) fn form_named(name: &[u8]) -> Option<Form>
     match str::from_utf8(name) {
         Ok(name) => Form::by_name(name),
         Err(_) => None,
-    }
-}
-
-/// The style of an interval form.
-pub(crate) fn style_of(form: Form) -> Option<Style>
-    ensures { result ≡ style_of form }
-{
-    match form {
-        Form::PgIso => Some(Style::Iso),
-        Form::Postgres => Some(Style::Postgres),
-        Form::PgVerbose => Some(Style::Verbose),
-        Form::PgSql => Some(Style::Sql),
-        Form::IsoStrict => Some(Style::IsoStrict),
-        _ => None,
     }
 }

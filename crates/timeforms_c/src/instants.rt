@@ -13,14 +13,13 @@ ghost use Rattle.timeforms_c.specs.Rooms.{Answers, Refused};
 
 use crate::arithmetic::interval_of;
 use crate::code::{NO_SUCH_FORM, NOT_UTF8, code_of};
+use crate::duration::NANOSECONDS_A_SECOND;
 use crate::form::form_numbered;
 use crate::interval::TimeformsInterval;
 use crate::room::put_answer;
 use forms::{Cause, Form, Value, read_value, write_value};
 use recurrence::at;
 use std::str;
-
-const NANOSECONDS_A_SECOND: u32 = 1_000_000_000;
 
 /// No instant that a text stands for has more seconds before or behind 1970 than these, and no step leads to one.
 const MOST_SECONDS: i64 = 10_000_000_000_000;

@@ -1,5 +1,5 @@
 //! PostgreSQL's intervals as three numbers, read and written by an interval form.
-ghost use Rattle.std.specs.Prelude.{◌≡◌, ◌≢◌, pos, None, Some, Ok, Err, IsUtf8};
+ghost use Rattle.std.specs.Prelude.{◌≡◌, ◌≢◌, pos, None, Some, IsUtf8};
 ghost use Rattle.scan_core.specs.declared.share.Part.{Part};
 ghost use Rattle.pg_interval_2.specs.Denotes.{Denotes, HasNoShape, Misfits};
 ghost use Rattle.pg_interval_2.specs.Styles.{Shape, style_text};
@@ -13,12 +13,12 @@ ghost use Rattle.timeforms_c.specs.Numbers.{number_of};
 ghost use Rattle.timeforms_c.specs.Rooms.{Leaves, Refused};
 
 use crate::code::{NO_SUCH_FORM, NOT_UTF8, code_of};
-use crate::form::{form_numbered, style_of};
+use crate::form::form_numbered;
 use crate::room::put_text;
-use forms::Cause;
+use forms::laws::texts_have_one_interval_or_cause;
+use forms::read_interval;
 use pg_interval_2::laws::denoted_interval_is_in_range;
-use pg_interval_2::{Interval, Style, read};
-use scan_core::Looked;
+use pg_interval_2::{Interval, Style};
 use std::str;
 
 /// An interval as C has it: months, days and microseconds, none a multiple of another.
@@ -58,13 +58,14 @@ pub extern "C" fn timeforms_interval_from_text(
     ensures kept { result ≢ pos 0 → interval.new ≡ interval.old }
 {
     denoted_interval_is_in_range();
+    texts_have_one_interval_or_cause();
     let Some(style) = style_numbered(form) else {
         return NO_SUCH_FORM;
     };
     let Ok(text) = str::from_utf8(text) else {
         return NOT_UTF8;
     };
-    match read_text(style, text) {
+    match read_interval(style, text.as_bytes()) {
         Ok(read) => {
             interval.months = read.months;
             interval.days = read.days;
@@ -106,19 +107,5 @@ pub(crate) fn style_numbered(form: i32) -> Option<Style>
         → result ≡ Some style }
     ensures none { ((f : AnyForm) → form ≡ number_of f → style_of f ≡ None) → result ≡ None }
 {
-    style_of(form_numbered(form)?)
-}
-
-/// The interval that a text denotes in the style, or the cause why there is none.
-fn read_text(style: Style, text: &str) -> Result<Interval, Cause>
-    ensures done { (t : AnyInterval) → Denotes (Shape style) text.now t → result ≡ Ok t }
-    ensures range { (part : Part) → Misfits (Shape style) text.now part
-        → result ≡ Err AnyCause.Range }
-    ensures syntax { HasNoShape (Shape style) text.now → result ≡ Err AnyCause.Syntax }
-{
-    match read(style, &Looked::new(text)) {
-        Ok(interval) => Ok(interval),
-        Err(error) if error.is_range() => Err(Cause::Range),
-        Err(_) => Err(Cause::Syntax),
-    }
+    form_numbered(form)?.style()
 }
