@@ -1,14 +1,14 @@
 -- What words ask for, by their first two words and what follows them.
 use Rattle.std.proofs.Common.{◌≡◌, ◌≤◌, ◌↔◌, ◌==◌, ◌⊎◌, length, drop, not, true, ℕ, ◌+◌, ◌^◌, ◌<◌, List, [], ◌∷◌, ◌++◌, codes, decimal}
+use Rattle.std.proofs.Common.{Bool, false, true≢false, ltb, ◌-◌, length-append}
 use Rattle.std.proofs.Common.{Option, Some, None, refl, sym, ◌∙◌, ap, subst, inl, inr, append_assoc, append-nil, arith}
 use Rattle.std.specs.List.{list_all}
-use Rattle.std.proofs.lemmas.Bool.{and_parts, not-true}
+use Rattle.std.proofs.lemmas.Bool.{and_parts, ltb-true, not-true}
 use Rattle.std.proofs.lemmas.Fmt.{decimal_injective}
-use Rattle.std.proofs.lemmas.List.{append_cancel_left}
+use Rattle.std.proofs.lemmas.List.{append_cancel_left, drop_at}
 use Rattle.whole_input.specs.Parts.{HasNo, IsSplitAt}
 use Rattle.forms.specs.declared.form.Form.{Form}
-use Rattle.forms.specs.declared.form.Form.TheVariants.{FileTime, IsoDateTime, IsoDate, IsoDuration, Toml, Fancy, PgIso, Postgres, PgVerbose}
-use Rattle.forms.specs.declared.form.Form.TheVariants.{PgSql, IsoStrict}
+use Rattle.forms.specs.declared.form.Form.TheVariants.{FileTime}
 use Rattle.forms.specs.Names.{name_of}
 use Rattle.text_lines.specs.declared.place.Place.{Place}
 use Rattle.text_lines.specs.declared.place.Place.TheVariants.{Whole, Field, Word}
@@ -87,21 +87,30 @@ free_of mark (byte ∷ bytes) h =
     let parts = and_parts (not (byte == mark)) (list_all (λ b. not (b == mark)) bytes) h in
     (not-true (byte == mark) parts.0, free_of mark bytes parts.1)
 
+-- `_` stands for each other form, whose name is looked through by computing
 spaceless : (form : Form) → list_all (λ byte. not (byte == 32)) (name_of form) ≡ true
 spaceless FileTime = refl
-spaceless IsoDateTime = refl
-spaceless IsoDate = refl
-spaceless IsoDuration = refl
-spaceless Toml = refl
-spaceless Fancy = refl
-spaceless PgIso = refl
-spaceless Postgres = refl
-spaceless PgVerbose = refl
-spaceless PgSql = refl
-spaceless IsoStrict = refl
+spaceless _ = refl
 
 no_space : (form : Form) → HasNo 32 (name_of form)
 no_space form = free_of 32 (name_of form) (spaceless form)
+
+-- a text at the end of words stands behind as many bytes as the words have more
+ends_with : (front text words : List ℕ) → words ≡ front ++ text → (length words - length text ≤ length words)
+    × (text ≡ drop (length words - length text) words)
+ends_with front text words is =
+    let long : length words ≡ length front + length text = ap length is ∙ length-append front text in
+    let at : length front ≡ length words - length text = omega (arith, long) in
+    let moved = ap (drop (length words - length text)) is ∙ drop_at front text (length words - length text) at in
+    (omega arith, sym moved)
+
+pub text_at_end : (words text : List ℕ) (from to : Form) → AreForms words from to (Some text) → (length words - length text ≤ length words)
+    × (text ≡ drop (length words - length text) words)
+text_at_end words text from to are =
+    let inner = append_assoc (name_of to) (codes " ") text in
+    let outer = append_assoc (name_of from) (32 ∷ (name_of to ++ codes " ")) text in
+    ends_with (name_of from ++ (32 ∷ (name_of to ++ codes " "))) text words
+    (are ∙ (ap (λ (l : List ℕ). name_of from ++ (32 ∷ l)) (sym inner) ∙ sym outer))
 
 -- words that are split at a space begin with one name at most
 pub form_before : (words name back : List ℕ) (form : Form) (rest : Option (List ℕ)) → IsSplitAt 32 words name back → IsForm words form rest
@@ -279,18 +288,20 @@ none_nothing words none = (
 
 -- ---- names begin with a capital
 
+abbrev begins_early : List ℕ → Bool
+begins_early [] = false
+begins_early (byte ∷ bytes) = ltb byte 97
+
+is_capital : (form : Form) → begins_early (name_of form) ≡ true
+is_capital FileTime = refl
+is_capital _ = refl
+
+capital_by : (name : List ℕ) → begins_early name ≡ true → BeginsCapital name
+capital_by [] h = absurd (true≢false (sym h))
+capital_by (byte ∷ bytes) h = (byte, bytes, refl, ltb-true byte 97 h)
+
 capital : (form : Form) → BeginsCapital (name_of form)
-capital FileTime = (70, codes "ileTime", refl, omega arith)
-capital IsoDateTime = (73, codes "soDateTime", refl, omega arith)
-capital IsoDate = (73, codes "soDate", refl, omega arith)
-capital IsoDuration = (73, codes "soDuration", refl, omega arith)
-capital Toml = (84, codes "oml", refl, omega arith)
-capital Fancy = (70, codes "ancy", refl, omega arith)
-capital PgIso = (80, codes "gIso", refl, omega arith)
-capital Postgres = (80, codes "ostgres", refl, omega arith)
-capital PgVerbose = (80, codes "gVerbose", refl, omega arith)
-capital PgSql = (80, codes "gSql", refl, omega arith)
-capital IsoStrict = (73, codes "soStrict", refl, omega arith)
+capital form = capital_by (name_of form) (is_capital form)
 
 front_capital : (words : List ℕ) (form : Form) (more : List ℕ) → words ≡ name_of form ++ more → BeginsCapital words
 front_capital words form more is = let h = capital form in (h.0, h.1 ++ more, is ∙ ap (λ (l : List ℕ). l ++ more) h.2, h.3)
