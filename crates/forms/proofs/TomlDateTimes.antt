@@ -128,11 +128,32 @@ one_dated : SameDays → (day : ℤ) (time : Option Time) (offset : Option Offse
 one_dated days day time offset a b h k = h.2 ∙ (ap (result_map (λ (d : Date). datetime_of (Some d) time offset))
     (one_day days day h.0 k.0 h.1 k.1) ∙ sym k.2)
 
+one_since : (a b : ℕ) → pos a ≡ pos b → a ≡ b
+one_since a b h = omega (arith, ints)
+
+-- a number of nanoseconds is in one day, so many nanoseconds since its midnight
+one_moment : (nanos d e : ℤ) (m n : ℕ) → m < 86_400_000_000_000 → nanos ≡ d *ℤ pos 86_400_000_000_000 +ℤ pos m → n < 86_400_000_000_000
+    → nanos ≡ e *ℤ pos 86_400_000_000_000 +ℤ pos n
+    → (d ≡ e) × (m ≡ n)
+one_moment nanos d e m n p h q k =
+    let days : d ≡ e = omega (arith, ints) in
+    (days, omega (arith, ints))
+
+pub moved : (d e : ℤ) (m n : ℕ) (offset : Option Offset) (held : Result Datetime Cause) → d ≡ e → m ≡ n
+    → HoldsDated d (Some (time_of m)) offset held
+    → HoldsDated e (Some (time_of n)) offset held
+moved d e m n offset held i j h = subst (λ (x : ℕ). HoldsDated e (Some (time_of x)) offset held) j
+    (subst (λ (z : ℤ). HoldsDated z (Some (time_of m)) offset held) i h)
+
 one_held : SameDays → (value : Value) (a b : Result Datetime Cause) → Holds value a → Holds value b → a ≡ b
-one_held days (Instant nanos) a b h k = one_dated days _ _ _ a b h k
+one_held days (Instant nanos) a b h k =
+    let one = one_moment nanos h.0 k.0 h.1 k.1 h.2 h.3 k.2 k.3 in
+    one_dated days _ _ _ a b (moved _ _ _ _ (Some Z) a one.0 one.1 h.4) k.4
 one_held days (Day day) a b h k = one_dated days _ _ _ a b h k
-one_held days (Local day nanos) a b h k = one_dated days _ _ _ a b h k
-one_held days (Clock nanos) a b h k = h ∙ sym k
+one_held days (Local day nanos) a b h k =
+    one_dated days _ _ _ a b (moved day day _ _ None a refl (one_since h.0 k.0 (sym h.1 ∙ k.1)) h.2) k.2
+one_held days (Clock nanos) a b h k =
+    h.2 ∙ (ap (λ (n : ℕ). Ok (datetime_of None (Some (time_of n)) None)) (one_since h.0 k.0 (sym h.1 ∙ k.1)) ∙ sym k.2)
 one_held days _ a b h k = h ∙ sym k
 
 -- ---- times
@@ -241,11 +262,8 @@ same_value (Clock nanos) = refl
 same_value (Triple months days micros) = refl
 same_value (Length nanos) = refl
 
-magnitude : (z : ℤ) → IsOfDay z → pos (unsigned_abs z) ≡ z
-magnitude z h = let least = h.0 in omega (arith, ints)
-
-magnitude_bound : (z : ℤ) → IsOfDay z → unsigned_abs z < 86_400_000_000_000
-magnitude_bound z h = let least = h.0 in let most = h.1 in omega (arith, ints)
+since_bound : (z : ℤ) (n : ℕ) → IsOfDay z → z ≡ pos n → n < 86_400_000_000_000
+since_bound z n h e = let least = h.0 in let most = h.1 in omega (arith, ints)
 
 real_held : (day : ℤ) (date : Date) → HoldsDay day (Ok date) → IsRealDay date × (day_of date ≡ day)
 real_held day date (inl h) = let same : h.0 ≡ date = sym (same_ok date h.0 h.3) in
@@ -280,34 +298,44 @@ dated_back back value day time offset d h held formed worth_is =
     (formed found.0 date.0) (ap (λ (z : ℤ). dated_worth z time offset) date.1 ∙ worth_is) k in
     subst Q found.2 whole held
 
-local_worth : (day nanos : ℤ) → IsOfDay nanos → dated_worth day (Some (time_of (unsigned_abs nanos))) None ≡ Ok (Local day nanos)
-local_worth day nanos h = ap (result_map (moment_of day None)) (time_back (unsigned_abs nanos))
-    ∙ ap (λ (z : ℤ). Ok (Local day z)) (magnitude nanos h)
+local_worth : (day nanos : ℤ) (since : ℕ) → nanos ≡ pos since → dated_worth day (Some (time_of since)) None ≡ Ok (Local day nanos)
+local_worth day nanos since e = ap (result_map (moment_of day None)) (time_back since) ∙ ap (λ (z : ℤ). Ok (Local day z)) (sym e)
 
-instant_parts : (nanos : ℤ) → (int_div_euclid nanos (pos 86_400_000_000_000) *ℤ pos 86_400_000_000_000 +ℤ pos
-    (unsigned_abs (int_rem_euclid nanos (pos 86_400_000_000_000)))) -ℤ pos 0 *ℤ pos 60_000_000_000 ≡ nanos
-instant_parts nanos = omega (arith, signed_arith)
+instant_parts : (nanos day : ℤ) (since : ℕ) → nanos ≡ day *ℤ pos 86_400_000_000_000 +ℤ pos since
+    → (day *ℤ pos 86_400_000_000_000 +ℤ pos since) -ℤ pos 0 *ℤ pos 60_000_000_000 ≡ nanos
+instant_parts nanos day since e = omega (arith, ints)
 
-instant_worth : (nanos : ℤ) → dated_worth (int_div_euclid nanos (pos 86_400_000_000_000))
-    (Some (time_of (unsigned_abs (int_rem_euclid nanos (pos 86_400_000_000_000))))) (Some Z) ≡ Ok (Instant nanos)
-instant_worth nanos = ap (result_map (moment_of (int_div_euclid nanos (pos 86_400_000_000_000)) (Some Z)))
-    (time_back (unsigned_abs (int_rem_euclid nanos (pos 86_400_000_000_000)))) ∙ ap (λ (z : ℤ). Ok (Instant z)) (instant_parts nanos)
+instant_worth : (nanos day : ℤ) (since : ℕ) → nanos ≡ day *ℤ pos 86_400_000_000_000 +ℤ pos since
+    → dated_worth day (Some (time_of since)) (Some Z) ≡ Ok (Instant nanos)
+instant_worth nanos day since e = ap (result_map (moment_of day (Some Z))) (time_back since)
+    ∙ ap (λ (z : ℤ). Ok (Instant z)) (instant_parts nanos day since e)
 
-rest_bound : (nanos : ℤ) → unsigned_abs (int_rem_euclid nanos (pos 86_400_000_000_000)) < 86_400_000_000_000
-rest_bound nanos = omega (arith, signed_arith)
+-- the day of a moment, and how long it is since midnight
+pub instant_held : (nanos day : ℤ) (since : ℕ) (time : Time) (held : Result Datetime Cause) → HoldsDated day (Some time) (Some Z) held
+    → time ≡ time_of since → day ≡ int_div_euclid nanos (pos 86_400_000_000_000)
+    → since ≡ unsigned_abs (int_rem_euclid nanos (pos 86_400_000_000_000))
+    → Holds (Instant nanos) held
+instant_held nanos day since time held h t d r = (
+  day,
+  since,
+  omega (arith, signed_arith),
+  omega (arith, signed_arith),
+  subst (λ (x : Time). HoldsDated day (Some x) (Some Z) held) t h,
+)
 
 held_back : AreReadBack → (value : Value) (d : Datetime) → IsWithinBounds value → Holds value (Ok d) → IsBack value d
-held_back back (Instant nanos) d w h = dated_back back (Instant nanos) _ _ _ d h h (λ date real. (real, time_real _ (rest_bound nanos), tt))
-    (instant_worth nanos)
+held_back back (Instant nanos) d w h = dated_back back (Instant nanos) h.0 (Some (time_of h.1)) (Some Z) d h.4 h
+    (λ date real. (real, time_real h.1 h.2, tt))
+    (instant_worth nanos h.0 h.1 h.3)
 held_back back (Day day) d w h = dated_back back (Day day) _ _ _ d h h (λ date real. real) refl
-held_back back (Local day nanos) d w h = dated_back back (Local day nanos) _ _ _ d h h
-    (λ date real. (real, time_real _ (magnitude_bound nanos w.1))) (local_worth day nanos w.1)
+held_back back (Local day nanos) d w h = dated_back back (Local day nanos) day (Some (time_of h.0)) None d h.2 h
+    (λ date real. (real, time_real h.0 (since_bound nanos h.0 w.1 h.1))) (local_worth day nanos h.0 h.1)
 held_back back (Clock nanos) d w h =
-    let made : Datetime = datetime_of None (Some (time_of (unsigned_abs nanos))) None in
-    let same : made ≡ d = sym (same_ok d made h) in
+    let made : Datetime = datetime_of None (Some (time_of h.0)) None in
+    let same : made ≡ d = sym (same_ok d made h.2) in
     let Q : Datetime → Type 0 = λ x. Holds (Clock nanos) (Ok x) → IsBack (Clock nanos) x in
-    let whole : Q made = λ k. back_by back (Clock nanos) made (time_real _ (magnitude_bound nanos w))
-    (ap (result_map Clock) (time_back (unsigned_abs nanos)) ∙ ap (λ (z : ℤ). Ok (Clock z)) (magnitude nanos w)) k in
+    let whole : Q made = λ k. back_by back (Clock nanos) made (time_real h.0 (since_bound nanos h.0 w h.1))
+    (ap (result_map Clock) (time_back h.0) ∙ ap (λ (z : ℤ). Ok (Clock z)) (sym h.1)) k in
     subst Q same whole h
 held_back back _ d w h = absurd (let e : Ok d ≡ Err Kind = h in cc)
 

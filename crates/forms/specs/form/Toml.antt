@@ -1,10 +1,9 @@
 -- Date-times of TOML 1.1: a date-time with an offset is a moment, one without is local, and a date or a time may stand alone.
-use Rattle.std.specs.Prelude.{◌≡◌, ◌⊎◌, ℕ, ◌+◌, ◌*◌, ◌/◌, ◌%◌, ◌==◌, List, ℤ, pos, ◌+ℤ◌, ◌-ℤ◌, ◌*ℤ◌, unsigned_abs, Option, Some, None}
+use Rattle.std.specs.Prelude.{◌≡◌, ◌⊎◌, ℕ, ◌+◌, ◌*◌, ◌/◌, ◌%◌, ◌<◌, ◌==◌, ℤ, pos, ◌+ℤ◌, ◌-ℤ◌, ◌*ℤ◌, Option, Some, None}
 use Rattle.std.specs.Prelude.{unwrap_or, Result, Ok, Err, if◌then◌else◌}
-use Rattle.std.specs.Int.{int_div_euclid, int_rem_euclid}
 use Rattle.iso8601.specs.Calendar.{day_of}
 use Rattle.iso8601.specs.declared.types.Date.TheVariants.{YMD}
-use Rattle.port_toml_datetime.specs.Datetimes.{IsDatetime, datetime_of}
+use Rattle.port_toml_datetime.specs.Datetimes.{datetime_of}
 use Rattle.port_toml_datetime.specs.WellFormed.{IsRealDay}
 use Rattle.port_toml_datetime.specs.declared.date.Date.{Date}
 use Rattle.port_toml_datetime.specs.declared.time.Time.{Time}
@@ -75,14 +74,17 @@ HoldsDated day time offset held =
     (date : Result Date Cause) × HoldsDay day date
     × (held ≡ result_map (λ d. datetime_of (Some d) time offset) date)
 
--- The date-time of a value: a moment in UTC with `Z`, a day, a local and a clock without an offset; other kinds are `Kind`. Nanoseconds of
--- a day are never negative, so `unsigned_abs` makes them a natural number and changes none.
+-- The date-time of a value: a moment in UTC with `Z`, a day, a local and a clock without an offset; other kinds are `Kind`. A moment is so
+-- many nanoseconds since midnight of its day, fewer than a day has; a local and a clock have theirs as they are.
 abbrev pub Holds : Value → Result Datetime Cause → Type 0
-Holds (Instant nanos) =
-    HoldsDated (int_div_euclid nanos (pos 86_400_000_000_000))
-    (Some (time_of (unsigned_abs (int_rem_euclid nanos (pos 86_400_000_000_000))))) (Some Z)
-Holds (Day day) = HoldsDated day None None
-Holds (Local day nanos) = HoldsDated day (Some (time_of (unsigned_abs nanos))) None
-Holds (Clock nanos) =
-    λ held. held ≡ Ok (datetime_of None (Some (time_of (unsigned_abs nanos))) None)
-Holds _ = λ held. held ≡ Err Kind
+Holds (Instant nanos) held =
+    (day : ℤ) × (since : ℕ) × (since < 86_400_000_000_000)
+    × (nanos ≡ day *ℤ pos 86_400_000_000_000 +ℤ pos since)
+    × HoldsDated day (Some (time_of since)) (Some Z) held
+Holds (Day day) held = HoldsDated day None None held
+Holds (Local day nanos) held =
+    (since : ℕ) × (nanos ≡ pos since) × HoldsDated day (Some (time_of since)) None held
+Holds (Clock nanos) held =
+    (since : ℕ) × (nanos ≡ pos since)
+    × (held ≡ Ok (datetime_of None (Some (time_of since)) None))
+Holds _ held = held ≡ Err Kind
