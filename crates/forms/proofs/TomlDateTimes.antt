@@ -139,7 +139,7 @@ one_moment nanos d e m n p h q k =
     let days : d ≡ e = omega (arith, ints) in
     (days, omega (arith, ints))
 
-pub moved : (d e : ℤ) (m n : ℕ) (offset : Option Offset) (held : Result Datetime Cause) → d ≡ e → m ≡ n
+moved : (d e : ℤ) (m n : ℕ) (offset : Option Offset) (held : Result Datetime Cause) → d ≡ e → m ≡ n
     → HoldsDated d (Some (time_of m)) offset held
     → HoldsDated e (Some (time_of n)) offset held
 moved d e m n offset held i j h = subst (λ (x : ℕ). HoldsDated e (Some (time_of x)) offset held) j
