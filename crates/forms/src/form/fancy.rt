@@ -18,6 +18,9 @@ use std::time::Duration;
 
 const NANOSECONDS_A_SECOND: u128 = 1_000_000_000;
 
+/// Nanoseconds of 2^64 seconds: no duration is as long.
+const TOO_LONG: u128 = 18_446_744_073_709_551_616_000_000_000;
+
 /// The length of a strict text.
 pub fn read(text: &str) -> Result<Value, Cause>
     ensures { Reads AnyForm.Fancy text.now result }
@@ -94,7 +97,7 @@ fn length_of(nanos: i128) -> Result<u128, Cause>
     let Ok(length) = u128::try_from(nanos) else {
         return Err(Cause::Range);
     };
-    if length / NANOSECONDS_A_SECOND > u64::MAX as u128 {
+    if length >= TOO_LONG {
         return Err(Cause::Range);
     }
     if duration(length).reads_back() {
@@ -109,8 +112,11 @@ fn duration(nanos: u128) -> FancyDuration<Duration>
     requires { nanos < 2 ^ 64 * 1_000_000_000 }
     ensures { as_nanos result.0 ≡ nanos }
 {
-    let seconds = (nanos / NANOSECONDS_A_SECOND) as u64;
-    FancyDuration(Duration::new(seconds, (nanos % NANOSECONDS_A_SECOND) as u32))
+    // Nearly all lengths have 64 bits, and dividing 128 takes some ten times as long.
+    match u64::try_from(nanos) {
+        Ok(nanos) => FancyDuration(Duration::from_nanos(nanos)),
+        Err(_) => FancyDuration(Duration::from_nanos_u128(nanos)),
+    }
 }
 
 /// Short durations are a lawful form.

@@ -15,12 +15,12 @@ pub returns-in_default-clause-held : goal.returns-in_default-clause-held
 returns-in_default-clause-held c = sym (negative c.args.nanos (subst (λ (z : ℤ). z <ℤ pos 0) (to_z-of_z c.ranges.nanos)
     (less (pos 0) _ c.in_default.ensures)))
 
-pub returns-then-length-clause-held : goal.returns-then-length-clause-held
-returns-then-length-clause-held c =
+pub returns-then-length-ge-TOO_LONG-clause-held : goal.returns-then-length-ge-TOO_LONG-clause-held
+returns-then-length-ge-TOO_LONG-clause-held c =
     let range = c.ranges.nanos in
     let value = c.in-Ok.ensures in
     let is : c.args.nanos ≡ pos c.in-Ok.length = omega (arith, ints) in
-    let long = c.if-length.true in
+    let long = c.if-length-ge-TOO_LONG.true in
     sym (ap length_of is ∙ too_long c.in-Ok.length (omega arith))
 
 pub returns-then-reads_back-clause-held : goal.returns-then-reads_back-clause-held
@@ -28,7 +28,7 @@ returns-then-reads_back-clause-held c =
     let range = c.ranges.nanos in
     let value = c.in-Ok.ensures in
     let is : c.args.nanos ≡ pos c.in-Ok.length = omega (arith, ints) in
-    let long = c.if-length.false in
+    let long = c.if-length-ge-TOO_LONG.false in
     let length = c.duration.ensures in
     let same : nanos_of (duration_times c.duration.result.0) ≡ c.in-Ok.length = omega arith in
     sym (ap length_of is ∙ read_back c.in-Ok.length (omega arith)
@@ -39,7 +39,7 @@ returns-else-reads_back-clause-held c =
     let range = c.ranges.nanos in
     let value = c.in-Ok.ensures in
     let is : c.args.nanos ≡ pos c.in-Ok.length = omega (arith, ints) in
-    let long = c.if-length.false in
+    let long = c.if-length-ge-TOO_LONG.false in
     let length = c.duration.ensures in
     let same : nanos_of (duration_times c.duration.result.0) ≡ c.in-Ok.length = omega arith in
     sym (ap length_of is ∙ ambiguous c.in-Ok.length (omega arith)
