@@ -1,5 +1,5 @@
 //! The reply to a text by its bytes.
-ghost use Rattle.std.specs.Prelude.{◌≡◌, ◌≢◌, ◌⊎◌, ◌+◌, ◌≤◌, ◌++◌, List, ℕ, Some, IfSome, IsUtf8, codes, length};
+ghost use Rattle.std.specs.Prelude.{◌≡◌, ◌≢◌, ◌⊎◌, ◌+◌, ◌≤◌, ◌++◌, List, ℕ, Some, IfSome, IsTrue, IsUtf8, ◌↔◌, codes, length};
 ghost use Rattle.arrayvec.specs.ArrayString.{array_string_len};
 ghost use Rattle.forms.specs.declared.form.Form.{Form as AnyForm};
 ghost use Rattle.forms.specs.Names.{cause_name, style_of};
@@ -76,7 +76,7 @@ fn refusal(text: &[u8], cause: Cause) -> &'static str
         ⊎ (IsUtf8 text.now × (result.now ≡ cause_name cause)) }
     ensures len { length result.now ≤ 80 }
 {
-    if cause == Cause::Syntax && str::from_utf8(text).is_err() {
+    if cause == Cause::Syntax && !is_utf8(text) {
         return "Line";
     }
     cause.name()
@@ -102,4 +102,12 @@ fn push_value_reply<const CAP: usize>(
             true
         }
     }
+}
+
+/// Whether bytes are UTF-8.
+fn is_utf8(text: &[u8]) -> bool
+    ensures { IsTrue result ↔ IsUtf8 text.now }
+{
+    // Nearly all texts are ASCII, which is UTF-8 and is told from eight bytes at a time.
+    text.is_ascii() || str::from_utf8(text).is_ok()
 }
