@@ -211,11 +211,14 @@ read_text_only words from to text asked only by f t other ask =
     let h = by (λ begins. ask.1 (subst BeginsPlace texts begins)) in
     (h.0, subst (λ (x : Form). asked ≡ Text x t h.0) same.0 (subst (λ (x : Form). asked ≡ Text from x h.0) same.1 h.1), sym texts ∙ h.2)
 
-lines_not_nothing : (from to : Form) (place : Place) → Nothing ≡ Lines from to place → ⊥
+pub lines_not_nothing : (from to : Form) (place : Place) → Nothing ≡ Lines from to place → ⊥
 lines_not_nothing from to place same = absurd cc
 
-text_not_nothing : (from to : Form) (start : ℕ) → Nothing ≡ Text from to start → ⊥
+pub text_not_nothing : (from to : Form) (start : ℕ) → Nothing ≡ Text from to start → ⊥
 text_not_nothing from to start same = absurd cc
+
+pub lines_no_text : (from to f t : Form) (place : Place) (start : ℕ) → Lines from to place ≡ Text f t start → ⊥
+lines_no_text from to f t place start same = absurd cc
 
 abbrev TextIs : List ℕ → Asked → Type 0
 TextIs words asked = (f t : Form) (start : ℕ) → asked ≡ Text f t start → (start ≤ length words) × AskText words f t (drop start words)

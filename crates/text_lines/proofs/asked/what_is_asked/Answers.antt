@@ -8,7 +8,7 @@ use Rattle.text_lines.specs.declared.asked.Asked.TheVariants.{Lines, Text, Nothi
 use Rattle.text_lines.specs.Asked.{AskLines, AskText}
 use Rattle.text_lines.specs.inside.Words.{AreForms, IsPlaceText}
 use Rattle.text_lines.proofs.AskedWords.{read_lines_are, read_text_is, read_text_only, read_nothing, alone_lines_are, alone_text_only}
-use Rattle.text_lines.proofs.AskedWords.{alone_nothing, none_lines_are, none_text_only, none_nothing}
+use Rattle.text_lines.proofs.AskedWords.{lines_no_text, text_not_nothing, alone_nothing, none_lines_are, none_text_only, none_nothing}
 use Rattle.text_lines.proofs.asked.what_is_asked.Goals as goal
 
 pub returns-in-Some-default-default-Some-clause-lines : goal.returns-in-Some-default-default-Some-clause-lines
@@ -62,3 +62,10 @@ returns-in-None-clause-text_only c = λ from to text ask. absurd (none_text_only
 
 pub returns-in-None-clause-nothing : goal.returns-in-None-clause-nothing
 returns-in-None-clause-nothing c = (λ is. none_nothing c.args.words.now c.in-None.ensures.only, λ none. refl)
+
+pub returns-in-Some-default-default-None-clause-text : goal.returns-in-Some-default-default-None-clause-text
+returns-in-Some-default-default-None-clause-text c = λ f t start same.
+    absurd (lines_no_text c.in-Some-default-default-None.from c.in-Some-default-default-None.to f t Whole start same)
+
+pub returns-in-None-clause-text : goal.returns-in-None-clause-text
+returns-in-None-clause-text c = λ f t start same. absurd (text_not_nothing f t start same)
