@@ -66,7 +66,7 @@ day_words days =
     else if days == 30 then codes "day between 01 and 30"
     else codes "day between 01 and 31"
 
--- a month and a day, with a `-` between, of four, two and two digits, and a real day of the year
+-- a date, by its year: a month and a day, with a `-` between, of four, two and two digits, and a real day of the year
 unfoldable pub date_outcome : List ℕ → List ℕ → Result Date Fault
 date_outcome year text =
     let month = token 0 text in
@@ -102,7 +102,7 @@ fraction has_second text = if has_second then marked (codes ".") text else None
 abbrev pub after_fraction : Bool → List ℕ → List ℕ
 after_fraction has_second text = if has_second then after_marked (codes ".") text else text
 
--- a minute, perhaps a second, and perhaps a fraction: their digits, then their widths, then their ranges
+-- a time, by its hour: a minute, perhaps a second, and perhaps a fraction; first their digits, then their widths, then their ranges
 unfoldable pub time_outcome : List ℕ → List ℕ → Result Time Fault
 time_outcome hour text =
     let minute = token 0 text in
@@ -139,7 +139,7 @@ after_time text =
 abbrev pub end_row : List ℕ → Row
 end_row text = bare_row (is_end text) None
 
--- behind the sign of an offset
+-- an offset behind its sign, and the end: an hour and a minute, of two digits each
 unfoldable pub numeric_offset_outcome : Bool → List ℕ → Result (Option Offset) Fault
 numeric_offset_outcome negative text =
     let hour = token 0 text in
@@ -156,7 +156,7 @@ numeric_offset_outcome negative text =
     ∷ [])
     (Ok (Some (Custom (signed negative (60 * number_of hour + number_of minute)))))
 
--- the end, `Z`, or a signed offset
+-- behind a time: the end, `Z`, or a signed offset
 unfoldable pub offset_outcome : List ℕ → Result (Option Offset) Fault
 offset_outcome text =
     checked (
@@ -202,7 +202,7 @@ local_time_outcome hour text =
     and_then (time_outcome hour text)
     (λ time. checked (end_row (after_time text) ∷ []) (Ok (datetime_of None (Some time) None)))
 
--- digits, which are a year where `-` follows, and an hour where `:` does
+-- the answer for a text: it begins with digits, which are a year where `-` follows, and an hour where `:` does
 unfoldable pub outcome : List ℕ → Result Datetime Fault
 outcome text =
     checked (
