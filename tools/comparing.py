@@ -9,18 +9,20 @@ PROGRAM = pathlib.Path(__file__).resolve().parent.parent / "timeforms"
 LIKE, REFUSED, HERE, THERE, DIFFERENT = "read alike", "refused by both", "read here alone", "read there alone", "DIFFERENT"
 
 
-def arguments(doc):
-    """The words behind a tool's name, and random numbers by its seed. The tool's description is `doc`."""
+def arguments(doc, **words):
+    """The words behind a tool's name, first those that are one of some, and random numbers by its seed. The description is `doc`."""
     parser = argparse.ArgumentParser(description=doc, formatter_class=argparse.RawDescriptionHelpFormatter)
+    for word, choices in words.items():
+        parser.add_argument(word, choices=choices)
     parser.add_argument("--count", type=int, default=100_000)
     parser.add_argument("--seed", type=int, default=1)
     parser.add_argument("program", nargs="?", default=PROGRAM, metavar="PROGRAM")
-    words = parser.parse_args()
-    random.seed(words.seed)
-    return words
+    found = parser.parse_intermixed_args()
+    random.seed(found.seed)
+    return found
 
 
-def replies(lines, program=PROGRAM):
+def replies(lines, program):
     """The program's reply to each line."""
     ran = subprocess.run([program], input="".join(f"{line}\n" for line in lines).encode(), stdout=subprocess.PIPE, check=True)
     return ran.stdout.decode().split("\n")[:-1]
