@@ -1,8 +1,8 @@
 /* Timestamps, durations and intervals between written forms: the proved calls, for C99 and C++.
  *
  * Every call answers a number: 0 or more where it has an answer, and else one of the codes below. Where it answers a code, what the
- * caller passed to be filled is as it was. Nothing is allocated, nothing is kept between calls, no call stops its caller, and calls
- * in several threads don't meet.
+ * caller passed to be filled is as it was, unless the call says otherwise. Nothing is allocated, nothing is kept between calls, no call
+ * stops its caller, and calls in several threads don't meet.
  *
  * A text is a pointer and a length in bytes. It ends with no zero byte, and none is written. Where the length is 0 the pointer may be
  * null; all other pointers must be valid, and what a call fills must not overlap what it reads. Texts are UTF-8; what isn't is
@@ -64,7 +64,12 @@ enum timeforms_code {
     TIMEFORMS_NO_SUCH_FORM = -101, /* a number or a name that is no form's, or no interval form's where one is asked for */
     TIMEFORMS_NOT_UTF8 = -102,     /* the text isn't UTF-8 */
     TIMEFORMS_NO_ROOM = -103,      /* the answer is longer than the buffer */
-    TIMEFORMS_BAD_OFFSETS = -104   /* the offsets of a cell fall, or leave the bytes of the column */
+    TIMEFORMS_BAD_OFFSETS = -104,  /* the offsets of a cell fall, or leave the bytes of the column */
+    TIMEFORMS_CLASH = -105,        /* two slots clash: each starts before the other ends */
+    TIMEFORMS_BAD_LINE = -106,     /* a line of a schedule isn't UTF-8, or has no tab */
+    TIMEFORMS_EMPTY_LENGTH = -107, /* a slot has the length 0 */
+    TIMEFORMS_BAD_START = -200,    /* with the code of a cause added to it: the start of a slot has no file time, for this cause */
+    TIMEFORMS_BAD_LENGTH = -300    /* with the code of a cause added to it: the length of a slot isn't one, for this cause */
 };
 
 /* An interval as PostgreSQL keeps it: a month is no number of days, and a day no number of hours. */
@@ -73,6 +78,13 @@ typedef struct timeforms_interval {
     int32_t days;         /* whole days */
     int64_t microseconds; /* 3,600,000,000 an hour */
 } timeforms_interval;
+
+/* The time that a line of a schedule takes, in ticks of 100 nanoseconds since 1601-01-01 00:00:00 UTC. */
+typedef struct timeforms_slot {
+    uint64_t start; /* when it starts */
+    uint64_t end;   /* when it ends, later than the start; that tick is no more part of it */
+    uint64_t line;  /* the number of its line, from 1 on */
+} timeforms_slot;
 
 /* ---- Forms ---- */
 
@@ -195,6 +207,26 @@ int32_t timeforms_instant_to_text(int32_t form, int64_t seconds, uint32_t nanose
  * the months lead, or the day at the end isn't of the years -9999 to 9999. */
 int32_t timeforms_recurrence_at(int64_t seconds, uint32_t nanoseconds, timeforms_interval step, uint32_t steps, int64_t *at_seconds,
                                 uint32_t *at_nanoseconds);
+
+/* ---- Schedules ---- */
+
+/* The slots of lines, in the order of their starts and then of their lines, where no two clash: 0. Slots that touch don't. A line is a start,
+ * a tab and a length, a date-time of the form `Toml` with an offset and a length of the form `Fancy`; lines are divided by line feeds, and
+ * the last one needs none. It is the program's command `schedule`, without its limit of bytes.
+ *
+ * `*count` is how many lines there are, whatever is answered. The slots stand in the first so many places of `slots`; behind these all is as
+ * it was. Else the first of these that holds:
+ *
+ *   NO_ROOM   there are more lines than places, and `*count` alone is changed; so a call with no places tells how many are needed
+ *   the code of the first line that has a fault, whose number is put into `*first`, and the places of the lines hold nothing of use:
+ *             BAD_LINE; BAD_START + SYNTAX and so on; BAD_LENGTH + SYNTAX, RANGE; EMPTY_LENGTH; BAD_LENGTH + PRECISION where the length
+ *             is no whole number of ticks, BAD_LENGTH + RANGE where the end passes the last tick
+ *   CLASH     the lines of the first two slots that clash are put into `*first` and `*second`: of all pairs that clash the one whose second
+ *             slot comes first in the order. All slots stand in order all the same
+ *
+ * `*first` and `*second` are changed by these codes alone, and `*second` by CLASH alone. */
+int32_t timeforms_schedule_check(const char *lines, size_t lines_len, timeforms_slot *slots, size_t slots_len, size_t *count,
+                                 uint64_t *first, uint64_t *second);
 
 /* ---- Short durations, the form `Fancy` ---- */
 

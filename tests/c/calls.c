@@ -412,6 +412,67 @@ static void test_instants(void) {
     CHECK(timeforms_recurrence_at(-377705116801, 999999999, month, 1, &at, &beyond) == TIMEFORMS_RANGE);
 }
 
+/* Room for so many slots, of which a sanitizer sees each access beyond it. */
+static timeforms_slot *room_for(size_t slots) {
+    return (timeforms_slot *)(void *)block(slots * sizeof(timeforms_slot));
+}
+
+/* Whether the check of a schedule answers this, with the number of lines and the two lines that it names; 7 is what was there before. */
+static int checks_as(const char *lines, size_t len, timeforms_slot *slots, size_t room, int32_t code, size_t count, uint64_t first,
+                     uint64_t second) {
+    char *given = block(len);
+    if (len) memcpy(given, lines, len);
+    size_t counted = 7;
+    uint64_t one = 7, other = 7;
+    int32_t answer = timeforms_schedule_check(given, len, slots, room, &counted, &one, &other);
+    free(given);
+    return answer == code && counted == count && one == first && other == second;
+}
+
+static int refuses_line(const char *lines, int32_t code, size_t count, uint64_t line) {
+    timeforms_slot *slots = room_for(count + 1);
+    int holds = checks_as(lines, strlen(lines), slots, count + 1, code, count, line, 7) && is_untouched(slots + count, sizeof *slots);
+    free(slots);
+    return holds;
+}
+
+static int slot_is(const timeforms_slot *slot, uint64_t start, uint64_t end, uint64_t line) {
+    return slot->start == start && slot->end == end && slot->line == line;
+}
+
+/* The shifts of docs/COMMANDS.md, and rows of crates/conformance/data/schedule.tsv. */
+static void test_schedules(void) {
+    const char *planned = "2026-03-30T06:00:00+02:00\t8h\n2026-03-30T22:00:00+02:00\t8h\n2026-03-30T14:00:00+02:00\t8h\n";
+    const char *shifts = "2026-03-30T06:00:00+02:00\t8h\n2026-03-30T22:00:00+02:00\t8h\n2026-03-30T13:30:00+02:00\t8h 30m\n";
+    timeforms_slot *slots = room_for(3), *more = room_for(4);
+    CHECK(checks_as(planned, strlen(planned), NULL, 0, TIMEFORMS_NO_ROOM, 3, 7, 7));
+    CHECK(checks_as(planned, strlen(planned), slots, 2, TIMEFORMS_NO_ROOM, 3, 7, 7) && is_untouched(slots, 3 * sizeof *slots));
+    CHECK(checks_as(planned, strlen(planned), slots, 3, 0, 3, 7, 7));
+    CHECK(slot_is(slots, 134193168000000000u, 134193456000000000u, 1) && slot_is(slots + 1, 134193456000000000u, 134193744000000000u, 3));
+    CHECK(slot_is(slots + 2, 134193744000000000u, 134194032000000000u, 2));
+    CHECK(checks_as(shifts, strlen(shifts), more, 4, TIMEFORMS_CLASH, 3, 1, 3) && is_untouched(more + 3, sizeof *more));
+    CHECK(more[0].line == 1 && slot_is(more + 1, 134193438000000000u, 134193744000000000u, 3) && more[2].line == 2);
+    CHECK(checks_as(NULL, 0, NULL, 0, 0, 0, 7, 7));
+    CHECK(checks_as("x\n\xff", 3, slots, 1, TIMEFORMS_NO_ROOM, 2, 7, 7));
+    CHECK(checks_as("1970-01-01T00:00:00Z\t1h\xff", 25, slots, 3, TIMEFORMS_BAD_LINE, 1, 1, 7));
+    CHECK(refuses_line("1970-01-01T00:00:00Z\t1h\n\nx\n", TIMEFORMS_BAD_LINE, 3, 2));
+    CHECK(refuses_line("1970-01-01T00:00:00Z\t1h\n1970-01-01T00:00:00Z\t1h\nx\n", TIMEFORMS_BAD_LINE, 3, 3));
+    CHECK(refuses_line("1970-01-01T00:00:00Z \t1h\n", TIMEFORMS_BAD_START + TIMEFORMS_SYNTAX, 1, 1));
+    CHECK(refuses_line("1970-01-01T23:59:60Z\t1h\n", TIMEFORMS_BAD_START + TIMEFORMS_NO_SUCH_MOMENT, 1, 1));
+    CHECK(refuses_line("1600-12-31T23:59:59.9999999Z\t1h\n", TIMEFORMS_BAD_START + TIMEFORMS_RANGE, 1, 1));
+    CHECK(refuses_line("2222-02-02T00:00:00Z\t1h\n1970-01-01T00:00:00\t1h\n", TIMEFORMS_BAD_START + TIMEFORMS_KIND, 2, 2));
+    CHECK(refuses_line("1970-01-01T00:00:00.00000001Z\t0\n", TIMEFORMS_BAD_START + TIMEFORMS_PRECISION, 1, 1));
+    CHECK(refuses_line("1970-01-01T00:00:00Z\t 1h\n", TIMEFORMS_BAD_LENGTH + TIMEFORMS_SYNTAX, 1, 1));
+    CHECK(refuses_line("1970-01-01T00:00:00Z\t18446744073709551616s 1ns\n", TIMEFORMS_BAD_LENGTH + TIMEFORMS_RANGE, 1, 1));
+    CHECK(refuses_line("1601-01-01T00:00:00Z\t1844674407370955161600ns\n", TIMEFORMS_BAD_LENGTH + TIMEFORMS_RANGE, 1, 1));
+    CHECK(refuses_line("1970-01-01T00:00:00Z\t1ns\n1970-01-01T00:00:00\t1h\n\n", TIMEFORMS_BAD_LENGTH + TIMEFORMS_PRECISION, 3, 1));
+    CHECK(refuses_line("1970-01-01T00:00:00Z\t1h\n1970-01-01T00:00:00Z\t0\nx\n", TIMEFORMS_EMPTY_LENGTH, 3, 2));
+    /* the last code of each kind, as a number that never changes */
+    CHECK(refuses_line("1970-01-01T00:00:00Z\t1ns\n", -305, 1, 1) && refuses_line("1970-01-01\t1h\n", -204, 1, 1));
+    free(slots);
+    free(more);
+}
+
 static void test_durations(void) {
     uint64_t seconds = 7;
     uint32_t nanos = 7;
@@ -505,6 +566,7 @@ int main(int argc, char **argv) {
     test_arithmetic();
     test_file_times();
     test_instants();
+    test_schedules();
     test_durations();
     test_version();
     for (int table = 1; table < argc; table++) test_table(argv[table]);

@@ -20,7 +20,8 @@ HEAD = """\
 
 GIVEN = """\
     const char *word = "Fancy", *text = "1h 20m", *lines = "PgIso Postgres P1Y2M\\n", *data = "36h5m";
-    size_t text_len = strlen(text), lines_len = strlen(lines), data_len = strlen(data), count = 2, done = 0;
+    const char *plan = "2026-03-30T06:00:00+02:00\\t8h\\n2026-03-30T13:30:00+02:00\\t8h 30m\\n";
+    size_t text_len = strlen(text), lines_len = strlen(lines), data_len = strlen(data), plan_len = strlen(plan), count = 2, done = 0;
     char room[1024];
     const uint32_t offsets[] = {0, 3, 5};
     uint32_t out_offsets[3];

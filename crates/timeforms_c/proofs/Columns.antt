@@ -1,7 +1,7 @@
 -- Arrays that are filled from the front, cell by cell.
 use Rattle.std.proofs.Common.{◌≡◌, ℕ, ◌+◌, ◌-◌, ◌<◌, ◌≤◌, ◌⊎◌, min, List, [], ◌∷◌, ◌++◌, Result, map, length, take, drop, set, refl, sym}
-use Rattle.std.proofs.Common.{◌∙◌, ap, subst, inl, inr, append_assoc, append-nil, suc, add-one, arith}
-use Rattle.std.specs.Prelude.{ℤ, slice_index, ⊤}
+use Rattle.std.proofs.Common.{◌∙◌, ap, subst, append_assoc, append-nil, suc, add-one, arith}
+use Rattle.std.specs.Prelude.{ℤ, slice_index}
 use Rattle.std.proofs.lemmas.List.{length-append, length-drop, length-map, map-append, take_at, set_split, drop_more}
 use Rattle.std.proofs.lemmas.Slice.{drop-append-drop}
 use Rattle.forms.specs.Replies.{IsAnswer}

@@ -6,3 +6,4 @@ pub mod Columns
 pub mod Intervals
 pub mod Names
 pub mod Rooms
+pub mod ScheduleAnswers

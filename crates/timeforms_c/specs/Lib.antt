@@ -4,4 +4,5 @@ pub mod Columns
 pub mod Intervals
 pub mod Numbers
 pub mod Rooms
+pub mod Schedules
 pub mod inside

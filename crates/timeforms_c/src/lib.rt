@@ -18,6 +18,9 @@ pub mod interval;
 pub mod interval_cells;
 pub mod reply;
 mod room;
+pub mod schedule;
+#[cfg(test)]
+mod schedule_tests;
 #[cfg(test)]
 mod tests;
 pub mod version;

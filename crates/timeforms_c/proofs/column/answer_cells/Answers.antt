@@ -2,7 +2,7 @@
 use Rattle.std.proofs.Common.{rules, refl, ap, set, FitsSigned, w32, arith}
 use Rattle.std.proofs.Math.Facts.{to_z-of_z}
 use Rattle.timeforms_c.specs.inside.Cells.{shown}
-use Rattle.timeforms_c.proofs.Columns.{answered_all, answered_none, answered_push, no_place}
+use Rattle.timeforms_c.proofs.Columns.{answered_none, answered_push}
 use Rattle.timeforms_c.proofs.column.answer_cells.Goals as goal
 
 pub loop-done-init : goal.loop-done-init
