@@ -3,7 +3,7 @@ from __future__ import annotations
 
 import ctypes
 import os
-from typing import Iterator
+from typing import Any, Iterator
 
 TEXT_MAX = 96
 
@@ -20,6 +20,11 @@ CAUSES = {
     -104: "BadOffsets",
 }
 
+# what the check of a schedule answers besides
+CLASH, BAD_LINE, EMPTY_LENGTH = -105, -106, -107
+# the code of a cause is added to these
+BAD_START, BAD_LENGTH = -200, -300
+
 Text = ctypes.c_char * TEXT_MAX
 
 
@@ -28,6 +33,13 @@ class Interval(ctypes.Structure):
     days: int
     microseconds: int
     _fields_ = [("months", ctypes.c_int32), ("days", ctypes.c_int32), ("microseconds", ctypes.c_int64)]
+
+
+class Slot(ctypes.Structure):
+    start: int
+    end: int
+    line: int
+    _fields_ = [("start", ctypes.c_uint64), ("end", ctypes.c_uint64), ("line", ctypes.c_uint64)]
 
 
 _PATH = os.path.join(os.path.dirname(os.path.abspath(__file__)), "libtimeforms.so")
@@ -96,7 +108,7 @@ file_time_from_unix_time = _held.timeforms_file_time_from_unix_time
 file_time_from_unix_time.argtypes = [ctypes.c_int64, ctypes.c_uint32, ctypes.POINTER(ctypes.c_uint64)]
 file_time_from_unix_time.restype = ctypes.c_int32
 
-_SECONDS = [ctypes.POINTER(ctypes.c_int64), ctypes.POINTER(ctypes.c_uint32)]
+_SECONDS: list[Any] = [ctypes.POINTER(ctypes.c_int64), ctypes.POINTER(ctypes.c_uint32)]
 
 instant_from_text = _held.timeforms_instant_from_text
 instant_from_text.argtypes = [ctypes.c_int32, ctypes.c_char_p, ctypes.c_size_t, *_SECONDS]
@@ -109,6 +121,18 @@ instant_to_text.restype = ctypes.c_int32
 recurrence_at = _held.timeforms_recurrence_at
 recurrence_at.argtypes = [ctypes.c_int64, ctypes.c_uint32, Interval, ctypes.c_uint32, *_SECONDS]
 recurrence_at.restype = ctypes.c_int32
+
+schedule_check = _free.timeforms_schedule_check
+schedule_check.argtypes = [
+    ctypes.c_char_p,
+    ctypes.c_size_t,
+    ctypes.POINTER(Slot),
+    ctypes.c_size_t,
+    ctypes.POINTER(ctypes.c_size_t),
+    ctypes.POINTER(ctypes.c_uint64),
+    ctypes.POINTER(ctypes.c_uint64),
+]
+schedule_check.restype = ctypes.c_int32
 
 duration_from_text = _held.timeforms_duration_from_text
 duration_from_text.argtypes = [ctypes.c_char_p, ctypes.c_size_t, ctypes.POINTER(ctypes.c_uint64), ctypes.POINTER(ctypes.c_uint32)]

@@ -3,13 +3,11 @@ from __future__ import annotations
 
 import ctypes
 import datetime
-from itertools import islice
-from operator import itemgetter
+from struct import iter_unpack
 from typing import Iterable, NamedTuple, Optional, Union
 
 from . import _library
 from ._errors import ConversionError
-from ._forms import NUMBERS
 from ._moments import parse_datetime
 
 __all__ = ["ScheduleClash", "ScheduleFault", "Slot", "schedule"]
@@ -21,9 +19,6 @@ _FORMS: dict[str, tuple[Optional[str], Optional[str]]] = {
     "start": ("Toml", "FileTime"),
     "length": ("Fancy", "FileTime"),
 }
-_TOML, _FILE_TIME = NUMBERS["Toml"], NUMBERS["FileTime"]
-_Text, _TEXT_ROOM = _library.Text, ctypes.c_size_t(_library.TEXT_MAX)
-_SECOND, _TICK = 1_000_000_000, 100
 
 
 class Slot(NamedTuple):
@@ -116,12 +111,19 @@ def schedule(lines: Iterable[Line]) -> list[Slot]:
     """
     if isinstance(lines, (str, bytes, bytearray, memoryview)):
         raise TypeError(f"lines are a list of texts or the like, not one {type(lines).__name__}")
-    # equal starts stay in the order of their lines
-    slots = sorted((_slot(line, number) for number, line in enumerate(lines, 1)), key=itemgetter(0))
-    # while none clash, the slot before is the one that ends last
-    for first, second in zip(slots, islice(slots, 1, None)):
-        if second.start < first.end:
-            raise ScheduleClash(first, second)
+    kept = list(lines)
+    texts = [_text(line) for line in kept]
+    given = b"".join(texts)
+    room = (_library.Slot * len(texts))()
+    count, first, second = ctypes.c_size_t(), ctypes.c_uint64(), ctypes.c_uint64()
+    code = _library.schedule_check(given, len(given), room, len(room), count, first, second)
+    if code and code != _library.CLASH:
+        number = first.value
+        raise _fault(number, code, kept[number - 1], texts[number - 1])
+    slots = [Slot._make(parts) for parts in iter_unpack("=QQQ", room)]
+    if code:
+        by_line = {slot.line: slot for slot in slots}
+        raise ScheduleClash(by_line[first.value], by_line[second.value])
     return slots
 
 
@@ -132,44 +134,26 @@ def _moment(ticks: int) -> datetime.datetime:
     return moment
 
 
-def _slot(line: Line, number: int) -> Slot:
-    """The slot of a line with its number."""
-    start, length = _parts(line, number)
-    out, seconds, beyond = _Text(), ctypes.c_uint64(), ctypes.c_uint32()
-    code = _library.reply(_TOML, _FILE_TIME, start, ctypes.c_size_t(len(start)), out, _TEXT_ROOM)
-    if code < 0:
-        raise ScheduleFault(number, "start", _library.CAUSES[code], start.decode())
-    code = _library.duration_from_text(length, len(length), seconds, beyond)
-    if code < 0:
-        raise ScheduleFault(number, "length", _library.CAUSES[code], length.decode())
-    ticks, nanoseconds = int(out.value), seconds.value * _SECOND + beyond.value
-    cause = _fault(ticks, nanoseconds)
-    if cause:
-        raise ScheduleFault(number, "length", cause, length.decode())
-    return Slot(ticks, ticks + nanoseconds // _TICK, number)
-
-
-def _parts(line: Line, number: int) -> tuple[bytes, bytes]:
-    """The start and the length of a line."""
+def _text(line: Line) -> bytes:
+    """The bytes of a line and a line feed; a line feed alone, which is no slot either, where the line is no UTF-8 or has one before its end."""
     if not isinstance(line, (str, bytes)):
         raise TypeError(f"a line is a str or bytes, not {type(line).__name__}")
     try:
         text = line.encode() if isinstance(line, str) else line
-        text.decode()
     except UnicodeError:
-        raise ScheduleFault(number, "line", "Line", line) from None
-    start, tab, length = text.partition(b"\t")
-    if length.endswith(b"\n"):
-        length = length[:-1]
-    if not tab or b"\n" in start or b"\n" in length:
-        raise ScheduleFault(number, "line", "Line", line)
-    return start, length
+        return b"\n"
+    if not text.endswith(b"\n"):
+        text += b"\n"
+    return text if text.count(b"\n") == 1 else b"\n"
 
 
-def _fault(ticks: int, nanoseconds: int) -> Optional[str]:
-    """What is wrong with so long a slot from a start on."""
-    if not nanoseconds:
-        return "Empty"
-    if nanoseconds % _TICK:
-        return "Precision"
-    return "Range" if ticks + nanoseconds // _TICK >= 2**64 else None
+def _fault(number: int, code: int, line: Line, text: bytes) -> ScheduleFault:
+    """The fault that a code tells of a line with its number and its bytes."""
+    if code == _library.BAD_LINE:
+        return ScheduleFault(number, "line", "Line", line)
+    start, _, length = text[:-1].decode().partition("\t")
+    if code == _library.EMPTY_LENGTH:
+        return ScheduleFault(number, "length", "Empty", length)
+    if code < _library.BAD_LENGTH:
+        return ScheduleFault(number, "length", _library.CAUSES[code - _library.BAD_LENGTH], length)
+    return ScheduleFault(number, "start", _library.CAUSES[code - _library.BAD_START], start)
