@@ -41,7 +41,3 @@ pub then_ok : {A B : Type 0} (first : Result A Fault) (next : A → Result B Fau
 unfolding and_then
 then_ok (Ok a) next value h = (a, refl, h)
 then_ok (Err said) next value h = absurd (cc)
-
-pub then_on : {A B : Type 0} (first : Result A Fault) (next : A → Result B Fault) (a : A) → first ≡ Ok a → and_then first next ≡ next a
-unfolding and_then
-then_on first next a h = rw h refl
