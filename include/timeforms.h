@@ -50,7 +50,8 @@ enum timeforms_form {
     TIMEFORMS_UNIX = 11,         /* `Unix`: seconds since 1970, `1796167471.051677` */
     TIMEFORMS_PG_TIMESTAMP = 12, /* `PgTimestamp`: `2026-12-01 23:24:31.051677+00`, `2026-12-01 23:24:31`, `2026-12-01` */
     TIMEFORMS_HTTP_DATE = 13,    /* `HttpDate`: `Sun, 06 Nov 1994 08:49:37 GMT` */
-    TIMEFORMS_MAIL_DATE = 14     /* `MailDate`: `Sun, 06 Nov 1994 08:49:37 +0000` */
+    TIMEFORMS_MAIL_DATE = 14,    /* `MailDate`: `Sun, 06 Nov 1994 08:49:37 +0000` */
+    TIMEFORMS_XSD_DURATION = 15  /* `XsdDuration`: `-P1Y2M3DT4H5M6.5S` */
 };
 
 /* What a call answers in place of an answer. The causes come in the order in which they are judged. */

@@ -40,6 +40,7 @@ A form is one of
     PgTimestamp    PostgreSQL's timestamps and dates: 2026-12-01 23:24:31.051677+00, 2026-12-01 23:24:31, 2026-12-01
     HttpDate       dates of HTTP: Sun, 06 Nov 1994 08:49:37 GMT
     MailDate       dates of mail: Sun, 6 Nov 1994 08:49:37 +0000
+    XsdDuration    durations of XML Schema, with one sign for the whole: -P1Y2M3DT4H5M6.5S
 
 A line without an answer has the reply \`refused\` and the first of these causes that holds, and nothing stops:
     Line            it isn't UTF-8, or isn't two names of forms, a space between, and then its end or a space and a text; with
@@ -77,7 +78,7 @@ $more
 END
 }
 
-forms='FileTime IsoDateTime IsoDate IsoDuration Toml Fancy PgIso Postgres PgVerbose PgSql IsoStrict Unix PgTimestamp HttpDate MailDate'
+forms='FileTime IsoDateTime IsoDate IsoDuration Toml Fancy PgIso Postgres PgVerbose PgSql IsoStrict Unix PgTimestamp HttpDate MailDate XsdDuration'
 
 # Whether a word is a form's name.
 is_form() {

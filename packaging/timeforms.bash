@@ -1,7 +1,7 @@
 # Completion of the command line of timeforms(1) for bash.
 _timeforms() {
     local forms='FileTime IsoDateTime IsoDate IsoDuration Toml Fancy PgIso Postgres PgVerbose PgSql IsoStrict'
-    forms="$forms Unix PgTimestamp HttpDate MailDate"
+    forms="$forms Unix PgTimestamp HttpDate MailDate XsdDuration"
     local intervals='PgIso Postgres PgVerbose PgSql IsoStrict'
     local word=${COMP_WORDS[COMP_CWORD]} words=
     case $COMP_CWORD-${COMP_WORDS[1]} in

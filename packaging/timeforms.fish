@@ -1,6 +1,6 @@
 # Completion of the command line of timeforms(1) for fish.
 set -l intervals PgIso Postgres PgVerbose PgSql IsoStrict
-set -l forms FileTime IsoDateTime IsoDate IsoDuration Toml Fancy $intervals Unix PgTimestamp HttpDate MailDate
+set -l forms FileTime IsoDateTime IsoDate IsoDuration Toml Fancy $intervals Unix PgTimestamp HttpDate MailDate XsdDuration
 set -l commands schedule column recur sample
 set -l count 'count (commandline --tokenize --cut-at-cursor)'
 complete -c timeforms -f

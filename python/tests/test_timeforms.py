@@ -90,7 +90,7 @@ class Texts(unittest.TestCase):
         self.assertEqual(replies(b"\n" * 100_000), b"refused Line\n" * 100_000)
 
     def test_forms(self):
-        forms = "FileTime IsoDateTime IsoDate IsoDuration Toml Fancy PgIso Postgres PgVerbose PgSql IsoStrict Unix PgTimestamp HttpDate MailDate"
+        forms = "FileTime IsoDateTime IsoDate IsoDuration Toml Fancy PgIso Postgres PgVerbose PgSql IsoStrict Unix PgTimestamp HttpDate MailDate XsdDuration"
         self.assertEqual(FORMS, tuple(forms.split()))
         self.assertEqual(tuple(form.value for form in Form), FORMS)
         self.assertEqual(convert(Form.PgIso, Form.Postgres, "P1D"), "1 day")

@@ -33,6 +33,7 @@ class Form(str, enum.Enum):
     PgTimestamp = "PgTimestamp"
     HttpDate = "HttpDate"
     MailDate = "MailDate"
+    XsdDuration = "XsdDuration"
 
     __str__ = str.__str__
     __hash__ = str.__hash__

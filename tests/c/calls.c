@@ -55,8 +55,8 @@ static int refuses(const char *from, const char *to, const char *text, int32_t c
 static void test_forms(void) {
     static const char *names[] = {"FileTime", "IsoDateTime", "IsoDate", "IsoDuration", "Toml",
                                   "Fancy",    "PgIso",       "Postgres", "PgVerbose",  "PgSql", "IsoStrict",
-                                  "Unix",     "PgTimestamp", "HttpDate", "MailDate"};
-    for (int32_t form = TIMEFORMS_FILE_TIME; form <= TIMEFORMS_MAIL_DATE; form++) {
+                                  "Unix",     "PgTimestamp", "HttpDate", "MailDate", "XsdDuration"};
+    for (int32_t form = TIMEFORMS_FILE_TIME; form <= TIMEFORMS_XSD_DURATION; form++) {
         size_t len = strlen(names[form]);
         char *out = block(len);
         CHECK(timeforms_form_by_name(names[form], len) == form);

@@ -16,7 +16,7 @@ use std::rt::Files;
 use std::{fs, io};
 
 /// The tables, in data/.
-const TABLES: [&str; 11] = [
+const TABLES: [&str; 12] = [
     "intervals.tsv",
     "weeks.tsv",
     "iso_strict.tsv",
@@ -27,6 +27,7 @@ const TABLES: [&str; 11] = [
     "toml.tsv",
     "microsoft.tsv",
     "dates.tsv",
+    "xml_durations.tsv",
     "by_hand.tsv",
 ];
 

@@ -4,7 +4,7 @@ use Rattle.std.specs.Prelude.{IfNone}
 use Rattle.std.proofs.lemmas.Bool.{eqb-false}
 use Rattle.forms.specs.declared.form.Form.{Form}
 use Rattle.forms.specs.declared.form.Form.TheVariants.{FileTime, IsoDateTime, IsoDate, IsoDuration, Toml, Fancy, PgIso, Postgres, PgVerbose}
-use Rattle.forms.specs.declared.form.Form.TheVariants.{PgSql, IsoStrict, Unix, PgTimestamp, HttpDate, MailDate}
+use Rattle.forms.specs.declared.form.Form.TheVariants.{PgSql, IsoStrict, Unix, PgTimestamp, HttpDate, MailDate, XsdDuration}
 use Rattle.forms.specs.inside.Reading.{behind, by_another, by_i, by_p, Begins, HasNoneOf, IsNamed}
 
 -- no form's name is the first word
@@ -35,6 +35,7 @@ none_by_p text first none Unix rest named = apart text 80 85 first.0 (codes "nix
 none_by_p text first none PgTimestamp rest named = none.1.1.1.1.0 rest named
 none_by_p text first none HttpDate rest named = apart text 80 72 first.0 (codes "ttpDate" ++ behind rest) refl first.1 named
 none_by_p text first none MailDate rest named = apart text 80 77 first.0 (codes "ailDate" ++ behind rest) refl first.1 named
+none_by_p text first none XsdDuration rest named = apart text 80 88 first.0 (codes "sdDuration" ++ behind rest) refl first.1 named
 
 pub none_by_i : (text : List ℕ) → Begins 73 text → HasNoneOf by_i text → HasNone text
 none_by_i text first none FileTime rest named = apart text 73 70 first.0 (codes "ileTime" ++ behind rest) refl first.1 named
@@ -52,6 +53,7 @@ none_by_i text first none Unix rest named = apart text 73 85 first.0 (codes "nix
 none_by_i text first none PgTimestamp rest named = apart text 73 80 first.0 (codes "gTimestamp" ++ behind rest) refl first.1 named
 none_by_i text first none HttpDate rest named = apart text 73 72 first.0 (codes "ttpDate" ++ behind rest) refl first.1 named
 none_by_i text first none MailDate rest named = apart text 73 77 first.0 (codes "ailDate" ++ behind rest) refl first.1 named
+none_by_i text first none XsdDuration rest named = apart text 73 88 first.0 (codes "sdDuration" ++ behind rest) refl first.1 named
 
 pub none_by_another : (text : List ℕ) → (Begins 80 text → ⊥) → (Begins 73 text → ⊥) → HasNoneOf by_another text → HasNone text
 none_by_another text p i none FileTime rest named = none.0 rest named
@@ -69,3 +71,4 @@ none_by_another text p i none Unix rest named = none.1.1.1.0 rest named
 none_by_another text p i none PgTimestamp rest named = p (codes "gTimestamp" ++ behind rest, named)
 none_by_another text p i none HttpDate rest named = none.1.1.1.1.0 rest named
 none_by_another text p i none MailDate rest named = none.1.1.1.1.1.0 rest named
+none_by_another text p i none XsdDuration rest named = none.1.1.1.1.1.1.0 rest named

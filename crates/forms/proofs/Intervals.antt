@@ -66,14 +66,18 @@ pub not_fitting : (counts : List Count) (part : Part) → misfit counts ≡ Some
 not_fitting counts part h = false_from_ne_true (fits counts) (λ all. let none : None ≡ Some part = sym ((misfit-none counts).1 all)
     ∙ h in cc)
 
+pub reads_denoted : (Spells : List ℕ → List Count → Type 0) (text : List ℕ) (t : Interval) → Denotes Spells text t
+    → ReadsBy Spells (Is worth) text (Ok (triple t))
+reads_denoted Spells text t h = inl (h.0, h.1, ap (λ (u : Interval). Ok (triple u)) h.3 ∙ sym (worth_fits h.0 h.2))
+
 pub reads_interval : (s : Style) (text : List ℕ) (t : Interval) → Denotes (Shape s) text t
     → ReadsBy (Shape s) (Is worth) text (Ok (triple t))
-reads_interval s text t h = inl (h.0, h.1, ap (λ (u : Interval). Ok (triple u)) h.3 ∙ sym (worth_fits h.0 h.2))
+reads_interval s = reads_denoted (Shape s)
 
-pub reads_as : (s : Style) (text : List ℕ) (t : Interval) (months days micros : ℤ) → Denotes (Shape s) text t
+pub reads_as : (Spells : List ℕ → List Count → Type 0) (text : List ℕ) (t : Interval) (months days micros : ℤ) → Denotes Spells text t
     → months ≡ t.months → days ≡ t.days → micros ≡ t.microseconds
-    → ReadsBy (Shape s) (Is worth) text (Ok (Triple months days micros))
-reads_as s text t months days micros h m d u = rw (m, d, u) (reads_interval s text t h)
+    → ReadsBy Spells (Is worth) text (Ok (Triple months days micros))
+reads_as Spells text t months days micros h m d u = rw (m, d, u) (reads_denoted Spells text t h)
 
 pub reads_no_shape : (s : Style) (text : List ℕ) → HasNoShape (Shape s) text
     → ReadsBy (Shape s) (Is worth) text (Err Syntax)
@@ -179,9 +183,9 @@ no_whole_micros nanos d some =
 
 -- ---- the laws
 
--- what the laws of the crate below say of a style
-abbrev pub IsDenotedInRange : Style → Type 0
-IsDenotedInRange s = (text : List ℕ) (t : Interval) → Denotes (Shape s) text t → IsInRange t
+-- what the laws of the crates below say of a grammar of counts
+abbrev pub IsDenotedInRange : (List ℕ → List Count → Type 0) → Type 0
+IsDenotedInRange Spells = (text : List ℕ) (t : Interval) → Denotes Spells text t → IsInRange t
 
 abbrev pub IsWrittenBack : Style → Type 0
 IsWrittenBack s = (t : Interval) → IsInRange t → Denotes (Shape s) (style_text s t) t
@@ -189,15 +193,15 @@ IsWrittenBack s = (t : Interval) → IsInRange t → Denotes (Shape s) (style_te
 within_triple : (t : Interval) → IsInRange t → IsWithinBounds (triple t)
 within_triple t r = (widen _ r.months, (widen _ r.days, r.microseconds))
 
-within : (s : Style) → IsDenotedInRange s → (text : List ℕ) (counts : List Count) (value : Value) → Shape s text counts
-    → worth counts ≡ Ok value → IsWithinBounds value
+pub within : (Spells : List ℕ → List Count → Type 0) → IsDenotedInRange Spells → (text : List ℕ) (counts : List Count) (value : Value)
+    → Spells text counts → worth counts ≡ Ok value → IsWithinBounds value
 unfolding worth
-within s in_range text counts value spelled h =
+within Spells in_range text counts value spelled h =
     let parts = then_ok (fits counts) (Ok (triple (sum_of counts))) value Range h in
     let denoted = in_range text (sum_of counts) (counts, spelled, parts.0, refl) in
     subst IsWithinBounds (same_ok (triple (sum_of counts)) value parts.1) (within_triple (sum_of counts) denoted)
 
-interval_held : (months days micros : ℤ) (t : Interval) → interval_of months days micros ≡ Ok t
+pub interval_held : (months days micros : ℤ) (t : Interval) → interval_of months days micros ≡ Ok t
     → IsInRange t × (Triple months days micros ≡ triple t)
 unfolding interval_of
 interval_held months days micros t h =
@@ -210,7 +214,7 @@ interval_held months days micros t h =
     in
     (subst IsInRange same range, ap triple same)
 
-length_held : (nanos : ℕ) (t : Interval) → interval_of_length nanos ≡ Ok t
+pub length_held : (nanos : ℕ) (t : Interval) → interval_of_length nanos ≡ Ok t
     → IsInRange t × IsLength nanos t.months t.days t.microseconds
 unfolding interval_of_length
 length_held nanos t h =
@@ -251,7 +255,7 @@ held_back s written_back (Length nanos) t w h = let found = length_held nanos t 
 held_back s written_back _ t w h = absurd (let e : Err Kind ≡ Ok t = h in cc)
 
 pub intervals : (form : Form) (s : Style) → HasRows form (Shape s) (Is worth) (Is held) (style_text s)
-    → ((text : List ℕ) (a b : List Count) → Shape s text a → Shape s text b → a ≡ b) → IsDenotedInRange s → IsWrittenBack s
+    → ((text : List ℕ) (a b : List Count) → Shape s text a → Shape s text b → a ≡ b) → IsDenotedInRange (Shape s) → IsWrittenBack s
     → Lawful form
 intervals form s rows one in_range written_back =
     lawful_by form (Shape s) (Is worth) (Is held) (style_text s) rows
@@ -259,6 +263,6 @@ intervals form s rows one in_range written_back =
       one = one;
       one_worth = one_image worth;
       one_held = one_image held;
-      within = λ text counts value spelled h. within s in_range text counts value spelled (sym h);
+      within = λ text counts value spelled h. within (Shape s) in_range text counts value spelled (sym h);
       back = λ value t w h. held_back s written_back value t w (sym h);
     })

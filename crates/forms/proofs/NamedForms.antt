@@ -5,14 +5,14 @@ use Rattle.std.proofs.lemmas.Bool.{and_parts}
 use Rattle.std.specs.Str.{bytes_eq}
 use Rattle.forms.specs.declared.form.Form.{Form}
 use Rattle.forms.specs.declared.form.Form.TheVariants.{FileTime, IsoDateTime, IsoDate, IsoDuration, Toml, Fancy, PgIso, Postgres, PgVerbose}
-use Rattle.forms.specs.declared.form.Form.TheVariants.{PgSql, IsoStrict, Unix, PgTimestamp, HttpDate, MailDate}
+use Rattle.forms.specs.declared.form.Form.TheVariants.{PgSql, IsoStrict, Unix, PgTimestamp, HttpDate, MailDate, XsdDuration}
 use Rattle.forms.specs.Names.{name_of}
 
 -- all forms
 abbrev pub forms : List Form
 forms =
     FileTime ∷ IsoDateTime ∷ IsoDate ∷ IsoDuration ∷ Toml ∷ Fancy ∷ PgIso ∷ Postgres ∷ PgVerbose ∷ PgSql ∷ IsoStrict
-    ∷ Unix ∷ PgTimestamp ∷ HttpDate ∷ MailDate ∷ []
+    ∷ Unix ∷ PgTimestamp ∷ HttpDate ∷ MailDate ∷ XsdDuration ∷ []
 
 -- the first of these forms with the name
 abbrev form_named : List ℕ → List Form → Option Form
@@ -35,6 +35,7 @@ finds_form Unix = refl
 finds_form PgTimestamp = refl
 finds_form HttpDate = refl
 finds_form MailDate = refl
+finds_form XsdDuration = refl
 
 pub one_form : (f g : Form) → name_of f ≡ name_of g → f ≡ g
 one_form f g same =

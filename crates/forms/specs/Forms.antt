@@ -16,10 +16,12 @@ use Rattle.port_toml_datetime.specs.Texts.{text_of}
 use Rattle.pg_timestamp.specs.Timestamps.{IsTimestampText}
 use Rattle.pg_interval_2.specs.Styles.{Shape, style_text}
 use Rattle.pg_interval_2.specs.declared.style.Style.TheVariants as style
+use Rattle.xsd_duration.specs.Durations.{SpellsDuration}
+use Rattle.xsd_duration.specs.Written.{xml_duration_text}
 use Rattle.forms.specs.declared.cause.Cause.{Cause}
 use Rattle.forms.specs.declared.form.Form.{Form}
 use Rattle.forms.specs.declared.form.Form.TheVariants.{FileTime, IsoDateTime, IsoDate, IsoDuration, Toml, Fancy, PgIso, Postgres, PgVerbose}
-use Rattle.forms.specs.declared.form.Form.TheVariants.{PgSql, IsoStrict, Unix, PgTimestamp, HttpDate, MailDate}
+use Rattle.forms.specs.declared.form.Form.TheVariants.{PgSql, IsoStrict, Unix, PgTimestamp, HttpDate, MailDate, XsdDuration}
 use Rattle.forms.specs.declared.value.Value.{Value}
 use Rattle.forms.specs.Answers.{Is, ReadsBy, WritesBy}
 use Rattle.forms.specs.form.FileTime as file_time
@@ -32,6 +34,7 @@ use Rattle.forms.specs.form.Unix as unix
 use Rattle.forms.specs.form.Intervals as interval
 use Rattle.forms.specs.form.PgTimestamp as pg_timestamp
 use Rattle.forms.specs.form.InternetDates as internet
+use Rattle.forms.specs.form.XsdDuration as xml
 
 -- what a text stands for in the form: a value, or the cause why it is none
 abbrev pub Reads : Form → List ℕ → Result Value Cause → Type 0
@@ -50,6 +53,7 @@ Reads Unix = ReadsBy unix.Spells (Is unix.worth)
 Reads PgTimestamp = ReadsBy IsTimestampText pg_timestamp.Worth
 Reads HttpDate = ReadsBy IsHttpDate (internet.Worth 0)
 Reads MailDate = ReadsBy IsMailDate (internet.Worth 1900)
+Reads XsdDuration = ReadsBy SpellsDuration (Is interval.worth)
 
 -- the written text of a value in the form, or the cause why there is none
 abbrev pub Writes : Form → Value → Result (List ℕ) Cause → Type 0
@@ -68,3 +72,4 @@ Writes Unix = WritesBy (Is unix.held) unix.unix_text
 Writes PgTimestamp = WritesBy pg_timestamp.Holds (λ text. text)
 Writes HttpDate = WritesBy (internet.Holds 0) http_date_text
 Writes MailDate = WritesBy (internet.Holds 1900) mail_date_text
+Writes XsdDuration = WritesBy (Is xml.held) xml_duration_text

@@ -9,3 +9,4 @@ pub mod Intervals
 pub mod Unix
 pub mod PgTimestamp
 pub mod InternetDates
+pub mod XsdDuration

@@ -15,6 +15,7 @@ pub mod iso_duration;
 pub mod timestamps;
 pub mod toml;
 pub mod unix;
+pub mod xml_durations;
 
 use pg_interval_2::Style;
 
@@ -51,6 +52,8 @@ pub enum Form {
     HttpDate,
     /// Dates of mail: `Sun, 6 Nov 1994 08:49:37 +0000`.
     MailDate,
+    /// Durations of XML Schema, with one sign for the whole: `-P1Y2M3DT4H5M6.5S`.
+    XsdDuration,
 }
 
 impl Form {
@@ -152,6 +155,9 @@ impl Form {
         if let Some(rest) = Form::MailDate.after_name(text) {
             return Some((Form::MailDate, rest));
         }
+        if let Some(rest) = Form::XsdDuration.after_name(text) {
+            return Some((Form::XsdDuration, rest));
+        }
         None
     }
 
@@ -185,6 +191,7 @@ impl Form {
             Form::PgTimestamp => "PgTimestamp",
             Form::HttpDate => "HttpDate",
             Form::MailDate => "MailDate",
+            Form::XsdDuration => "XsdDuration",
         }
     }
 

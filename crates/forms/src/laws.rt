@@ -29,7 +29,7 @@ use crate::answer::{ConvertError, line_reply};
 use crate::cause::Cause;
 use crate::form::{
     Form, fancy, file_time, http_mail, intervals, iso_date, iso_date_time, iso_duration,
-    timestamps, toml, unix,
+    timestamps, toml, unix, xml_durations,
 };
 use crate::run_end::RunEnd;
 use crate::streams::Failed;
@@ -49,6 +49,7 @@ pub(crate) fn all_lawful()
     unix::lawful();
     timestamps::lawful();
     http_mail::lawful();
+    xml_durations::lawful();
 }
 
 /// A text stands for one value at most in each form, and where it stands for none there is one cause.

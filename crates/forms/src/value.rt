@@ -12,7 +12,7 @@ ghost use Rattle.forms.specs.Values.{IsWithinBounds};
 use crate::cause::Cause;
 use crate::form::{
     Form, fancy, file_time, http_mail, intervals, iso_date, iso_date_time, iso_duration,
-    timestamps, toml, unix,
+    timestamps, toml, unix, xml_durations,
 };
 use crate::laws;
 use arrayvec::ArrayString;
@@ -86,6 +86,7 @@ fn read(form: Form, text: &str) -> Result<Value, Cause>
         Form::PgTimestamp => timestamps::read(text),
         Form::HttpDate => http_mail::read_http(text),
         Form::MailDate => http_mail::read_mail(text),
+        Form::XsdDuration => xml_durations::read(text),
         _ => read_alone::<Brand>(form, &Looked::new(text), Blank::new(1)),
     }
 }
@@ -162,5 +163,6 @@ pub fn push_value<const CAP: usize>(
         Form::PgTimestamp => timestamps::push(value, out),
         Form::HttpDate => http_mail::push_http(value, out),
         Form::MailDate => http_mail::push_mail(value, out),
+        Form::XsdDuration => xml_durations::push(value, out),
     }
 }

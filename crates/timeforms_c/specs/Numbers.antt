@@ -2,7 +2,7 @@
 use Rattle.std.specs.Prelude.{ℤ, pos}
 use Rattle.forms.specs.declared.form.Form.{Form}
 use Rattle.forms.specs.declared.form.Form.TheVariants.{FileTime, IsoDateTime, IsoDate, IsoDuration, Toml, Fancy, PgIso, Postgres, PgVerbose}
-use Rattle.forms.specs.declared.form.Form.TheVariants.{PgSql, IsoStrict, Unix, PgTimestamp, HttpDate, MailDate}
+use Rattle.forms.specs.declared.form.Form.TheVariants.{PgSql, IsoStrict, Unix, PgTimestamp, HttpDate, MailDate, XsdDuration}
 
 -- a form's number
 abbrev pub number_of : Form → ℤ
@@ -21,3 +21,4 @@ number_of Unix = pos 11
 number_of PgTimestamp = pos 12
 number_of HttpDate = pos 13
 number_of MailDate = pos 14
+number_of XsdDuration = pos 15

@@ -58,6 +58,7 @@ pub(crate) fn form_numbered(number: i32) -> Option<Form>
         12 => Some(Form::PgTimestamp),
         13 => Some(Form::HttpDate),
         14 => Some(Form::MailDate),
+        15 => Some(Form::XsdDuration),
         _ => None,
     }
 }
@@ -82,6 +83,7 @@ fn number_of(form: Form) -> i32
         Form::PgTimestamp => 12,
         Form::HttpDate => 13,
         Form::MailDate => 14,
+        Form::XsdDuration => 15,
     }
 }
 

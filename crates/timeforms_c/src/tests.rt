@@ -46,6 +46,7 @@ fn forms_by_number_and_by_name(rt: HostRuntime) -> Result<(), Fail> {
         (12, "PgTimestamp"),
         (13, "HttpDate"),
         (14, "MailDate"),
+        (15, "XsdDuration"),
     ] {
         let mut room = [b'#'; 16];
         assert_eq!(rt; timeforms_form_by_name(name.as_bytes()), number);

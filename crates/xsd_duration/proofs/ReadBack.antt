@@ -23,8 +23,8 @@ use Rattle.pg_interval_2.specs.Denotes.{Denotes}
 use Rattle.pg_interval_2.specs.Parts.{is_zero}
 use Rattle.pg_interval_2.specs.Ranges.{IsInRange}
 use Rattle.pg_interval_2.specs.declared.interval.Interval.{Interval}
-use Rattle.xsd_duration.specs.Durations.{Spelling, IsSpelling, SpellsDuration, count_text, counts_of, date_text, time_text}
-use Rattle.xsd_duration.specs.Written.{digits_of, duration_text, has_negative, has_one_sign, has_positive, is_positive, written}
+use Rattle.xsd_duration.specs.Durations.{Spelling, IsSpelling, SpellsDuration, lettered_text, counts_of, date_counts_text, time_counts_text}
+use Rattle.xsd_duration.specs.Written.{digits_of, xml_duration_text, has_negative, has_one_sign, has_positive, is_positive, written_spelling}
 use Rattle.xsd_duration.specs.inside.Writing.{date_part, time_part}
 use Rattle.xsd_duration.proofs.SumFacts.{all_fit, days_are, micros_are, months_are, six_shares, sums_of}
 use Rattle.xsd_duration.proofs.WrittenFacts.{date_is, digits_zero, fraction_none, digits_some, length_decimal_six, no_count, no_digits}
@@ -127,7 +127,7 @@ pointed_if null seconds (suc m) few none = absurd (let is = (no_digits null seco
 
 -- ---- the written spelling
 
-written_is : (t : Interval) → IsInRange t → IsSpelling (written t)
+written_is : (t : Interval) → IsInRange t → IsSpelling (written_spelling t)
 written_is t r =
     let m = abs_32 t.months r.months in
     let d = abs_32 t.days r.days in
@@ -143,12 +143,12 @@ written_is t r =
       fraction = digits-trimmed (padded_digits 6 (micros % 1_000_000)) (digits-padded 6 (micros % 1_000_000) (omega arith));
       pointed = pointed_if (is_zero t) (micros / 1_000_000 % 60) (micros % 1_000_000) (omega arith);
       some = λ none.
-          let parts = none_left (date_text (written t)) (time_text (written t)) none in
-          let year = none_left (count_text (digits_of (unsigned_abs t.months / 12)) (codes "Y"))
-          (count_text (digits_of (unsigned_abs t.months % 12)) (codes "M") ++ count_text (digits_of (unsigned_abs t.days)) (codes "D"))
+          let parts = none_left (date_counts_text (written_spelling t)) (time_counts_text (written_spelling t)) none in
+          let year = none_left (lettered_text (digits_of (unsigned_abs t.months / 12)) (codes "Y"))
+          (lettered_text (digits_of (unsigned_abs t.months % 12)) (codes "M") ++ lettered_text (digits_of (unsigned_abs t.days)) (codes "D"))
           parts.0 in
-          let month = none_left (count_text (digits_of (unsigned_abs t.months % 12)) (codes "M"))
-          (count_text (digits_of (unsigned_abs t.days)) (codes "D")) year.1 in
+          let month = none_left (lettered_text (digits_of (unsigned_abs t.months % 12)) (codes "M"))
+          (lettered_text (digits_of (unsigned_abs t.days)) (codes "D")) year.1 in
           let y0 = digits_zero (unsigned_abs t.months / 12) (omega (arith, m))
           (no_count (digits_of (unsigned_abs t.months / 12)) (codes "Y") year.0)
           in
@@ -164,16 +164,16 @@ written_is t r =
 
 -- ---- its sums
 
-months_back : (t : Interval) → IsInRange t → AreServed t → total Months (counts_of (written t)) ≡ t.months
+months_back : (t : Interval) → IsInRange t → AreServed t → total Months (counts_of (written_spelling t)) ≡ t.months
 months_back t r s =
     let m = abs_32 t.months r.months in
     let y0 = number_is (unsigned_abs t.months / 12) (omega (arith, m)) in
     let m0 = number_is (unsigned_abs t.months % 12) (omega arith) in
-    months_are (written t) (unsigned_abs t.months) (omega (arith, y0, m0)) ∙ s.months
+    months_are (written_spelling t) (unsigned_abs t.months) (omega (arith, y0, m0)) ∙ s.months
 
-days_back : (t : Interval) → IsInRange t → AreServed t → total Days (counts_of (written t)) ≡ t.days
+days_back : (t : Interval) → IsInRange t → AreServed t → total Days (counts_of (written_spelling t)) ≡ t.days
 days_back t r s = let d = abs_32 t.days r.days in
-    days_are (written t) (unsigned_abs t.days) (number_is (unsigned_abs t.days) (omega (arith, d))) ∙ s.days
+    days_are (written_spelling t) (unsigned_abs t.days) (number_is (unsigned_abs t.days) (omega (arith, d))) ∙ s.days
 
 -- the four parts of a time
 parts_whole : (u : ℕ) → u / 3_600_000_000 * 3_600_000_000
@@ -181,21 +181,21 @@ parts_whole : (u : ℕ) → u / 3_600_000_000 * 3_600_000_000
 parts_whole u = omega arith
 
 abbrev seconds_of : Interval → List ℕ
-seconds_of t = (written t).seconds
+seconds_of t = (written_spelling t).seconds
 
 second_number : (t : Interval) → number_of (seconds_of t) ≡ unsigned_abs t.microseconds / 1_000_000 % 60
 second_number t =
     let micros : ℕ = unsigned_abs t.microseconds in
     either_number ((micros % 1_000_000 == 0) && not (is_zero t)) (micros / 1_000_000 % 60) (omega arith)
 
-micros_back : (t : Interval) → IsInRange t → AreServed t → total Micros (counts_of (written t)) ≡ t.microseconds
+micros_back : (t : Interval) → IsInRange t → AreServed t → total Micros (counts_of (written_spelling t)) ≡ t.microseconds
 micros_back t r s =
     let u = abs_64 t.microseconds r.microseconds in
     let micros : ℕ = unsigned_abs t.microseconds in
     let h = number_is (micros / 3_600_000_000) (omega (arith, u)) in
     let m = number_is (micros / 60_000_000 % 60) (omega arith) in
     let f = fraction_number (micros % 1_000_000) (omega arith) in
-    micros_are (written t) micros (rw (h, m, second_number t, f) (parts_whole micros)) ∙ s.micros
+    micros_are (written_spelling t) micros (rw (h, m, second_number t, f) (parts_whole micros)) ∙ s.micros
 
 -- ---- its shares
 
@@ -204,7 +204,7 @@ fits_below : (part : Part) (n : Bool) (z : ℤ) (k : ℕ) → Serves n z → k �
     → fits_type part (signed n k) ≡ true
 fits_below part n z k serves below fit = fits_type-serves part n z k serves below fit
 
-written_fits : (t : Interval) → IsInRange t → AreServed t → fits (counts_of (written t)) ≡ true
+written_fits : (t : Interval) → IsInRange t → AreServed t → fits (counts_of (written_spelling t)) ≡ true
 written_fits t r s =
     let n = has_negative t in
     let micros : ℕ = unsigned_abs t.microseconds in
@@ -223,8 +223,8 @@ written_fits t r s =
     let f0 = fraction_number (micros % 1_000_000) (omega arith) in
     let twelve = rounded-nil 12 in
     let sixty = rounded-nil 60 in
-    all_fit (counts_of (written t))
-    (six_shares (written t) (written_is t r)
+    all_fit (counts_of (written_spelling t))
+    (six_shares (written_spelling t) (written_is t r)
     (fits_below Months n t.months (12 * number_of (digits_of (unsigned_abs t.months / 12)) + rounded 12 []) s.months
     (omega (arith, y0, twelve)) months)
     (fits_below Months n t.months (number_of (digits_of (unsigned_abs t.months % 12))) s.months (omega (arith, m0)) months)
@@ -237,12 +237,12 @@ written_fits t r s =
     (number_of (seconds_of t) * 1_000_000 + rounded 1_000_000 (fraction_digits (micros % 1_000_000))) s.micros (omega (arith, s0, f0)) time))
     (rw (months_back t r s) months) (rw (days_back t r s) days) (rw (micros_back t r s) time)
 
-pub written_denotes : (t : Interval) → IsInRange t → IsTrue (has_one_sign t) → Denotes SpellsDuration (duration_text t) t
-unfolding duration_text
+pub written_denotes : (t : Interval) → IsInRange t → IsTrue (has_one_sign t) → Denotes SpellsDuration (xml_duration_text t) t
+unfolding xml_duration_text
 written_denotes t r one =
     let s = served t one in
-    let same : t ≡ sums_of (counts_of (written t)) = rw (months_back t r s, days_back t r s, micros_back t r s) refl in
-    (counts_of (written t), (written t, written_is t r, refl, refl), written_fits t r s, same)
+    let same : t ≡ sums_of (counts_of (written_spelling t)) = rw (months_back t r s, days_back t r s, micros_back t r s) refl in
+    (counts_of (written_spelling t), (written_spelling t, written_is t r, refl, refl), written_fits t r s, same)
 
 -- ---- what is denoted has one sign
 
@@ -271,10 +271,10 @@ denoted_sign text t d =
 
 -- ---- what was appended
 
-pub text_is : (t : Interval) → IsInRange t → duration_text t
+pub text_is : (t : Interval) → IsInRange t → xml_duration_text t
     ≡ cond {A = List ℕ} (has_negative t) (codes "-") []
     ++ (codes "P" ++ (date_part (unsigned_abs t.months) (unsigned_abs t.days) ++ time_part (is_zero t) (unsigned_abs t.microseconds)))
-unfolding duration_text
+unfolding xml_duration_text
 text_is t r =
     let m = abs_32 t.months r.months in
     let d = abs_32 t.days r.days in
@@ -284,7 +284,7 @@ text_is t r =
     rw (date, time) refl
 
 pub text_from : (t : Interval) (n null : Bool) (m d u : ℕ) → IsInRange t → n ≡ has_negative t → m ≡ unsigned_abs t.months
-    → d ≡ unsigned_abs t.days → null ≡ is_zero t → u ≡ unsigned_abs t.microseconds → duration_text t
+    → d ≡ unsigned_abs t.days → null ≡ is_zero t → u ≡ unsigned_abs t.microseconds → xml_duration_text t
     ≡ cond {A = List ℕ} n (codes "-") [] ++ (codes "P" ++ (date_part m d ++ time_part null u))
 text_from t n null m d u r n1 m1 d1 z1 u1 = rw (n1, m1, d1, z1, u1) (text_is t r)
 

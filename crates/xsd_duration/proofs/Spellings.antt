@@ -8,7 +8,7 @@ use Rattle.scan_core.specs.Digits.{AreDigits}
 use Rattle.scan_core.specs.Fronts.{front_digits, after_digits}
 use Rattle.scan_core.proofs.FrontFacts.{front_of, after_of, front_are_digits, front_and_after}
 use Rattle.scan_core.specs.Number.{minus}
-use Rattle.xsd_duration.specs.Durations.{Spelling, IsSpelling, count_text, date_text, marked_text, spelling_text, time_text}
+use Rattle.xsd_duration.specs.Durations.{Spelling, IsSpelling, lettered_text, date_counts_text, marked_text, spelling_text, time_counts_text}
 use Rattle.xsd_duration.specs.inside.Reading.{Clock, closed_by, fraction_in, is_letter, read_body, read_clock, read_count, read_counts}
 use Rattle.xsd_duration.specs.inside.Reading.{read_fraction, read_seconds, read_spelling, read_time, read_unsigned, seconds_in, spelled}
 use Rattle.xsd_duration.proofs.WrittenFacts.{no_count, none_left}
@@ -16,7 +16,7 @@ use Rattle.xsd_duration.proofs.WrittenFacts.{no_count, none_left}
 -- ---- a count
 
 abbrev IsCounted : ℕ → List ℕ → List ℕ × List ℕ → Type 0
-IsCounted letter bytes r = AreDigits r.0 × (bytes ≡ count_text r.0 (letter ∷ []) ++ r.1)
+IsCounted letter bytes r = AreDigits r.0 × (bytes ≡ lettered_text r.0 (letter ∷ []) ++ r.1)
 
 closed_if : (t : Bool) (letter b d : ℕ) (bytes ds rest : List ℕ) → (t ≡ true → b ≡ letter) → AreDigits (d ∷ ds)
     → (d ∷ ds) ++ (b ∷ rest) ≡ bytes → IsCounted letter bytes (cond {A = List ℕ × List ℕ} t (d ∷ ds, rest) ([], bytes))
@@ -61,7 +61,7 @@ stops_other letter b (d ∷ ds) rest digits h other =
     ∙ ap (λ (l : List ℕ). closed_by letter ((d ∷ ds) ++ b ∷ rest) (d ∷ ds) l) after ∙ rw other refl
 
 stops_count : (letter b : ℕ) (digits rest : List ℕ) → AreDigits digits → is_ascii_digit b ≡ false → (b == letter) ≡ false
-    → Stops letter rest → Stops letter (count_text digits (b ∷ []) ++ rest)
+    → Stops letter rest → Stops letter (lettered_text digits (b ∷ []) ++ rest)
 stops_count letter b [] rest digits h other stops = stops
 stops_count letter b (d ∷ ds) rest digits h other stops =
     subst (Stops letter) (sym (append_assoc (d ∷ ds) (b ∷ []) rest)) (stops_other letter b (d ∷ ds) rest digits h other)
@@ -76,7 +76,7 @@ count_at letter d ds rest h digits =
     ∙ ap (λ (l : List ℕ). closed_by letter ((d ∷ ds) ++ letter ∷ rest) (d ∷ ds) l) after ∙ rw (eq-eqb letter letter refl) refl
 
 count_exact : (letter : ℕ) (digits rest : List ℕ) → is_ascii_digit letter ≡ false → AreDigits digits → Stops letter rest
-    → read_count letter (count_text digits (letter ∷ []) ++ rest) ≡ (digits, rest)
+    → read_count letter (lettered_text digits (letter ∷ []) ++ rest) ≡ (digits, rest)
 count_exact letter [] rest h digits stops = stops
 count_exact letter (d ∷ ds) rest h digits stops =
     ap (read_count letter) (append_assoc (d ∷ ds) (letter ∷ []) rest) ∙ count_at letter d ds rest h digits
@@ -110,7 +110,7 @@ letter_alone letter (b ∷ c ∷ cs) h = cc
 
 -- the text of seconds
 abbrev second_text : List ℕ → List ℕ → List ℕ
-second_text seconds fraction = count_text (seconds ++ marked_text (codes ".") fraction) (codes "S")
+second_text seconds fraction = lettered_text (seconds ++ marked_text (codes ".") fraction) (codes "S")
 
 -- the bytes are these seconds
 record AreSeconds (bytes : List ℕ) (r : List ℕ × List ℕ) : Type 0 where
@@ -208,7 +208,7 @@ seconds_stop letter (d ∷ ds) (f ∷ fs) s p digits pointed =
 
 -- the text of a clock's counts
 abbrev clock_text : Clock → List ℕ
-clock_text c = count_text c.0 (codes "H") ++ (count_text c.1.0 (codes "M") ++ second_text c.1.1.0 c.1.1.1)
+clock_text c = lettered_text c.0 (codes "H") ++ (lettered_text c.1.0 (codes "M") ++ second_text c.1.1.0 c.1.1.1)
 
 -- the counts of a clock are digits, and a fraction stands behind whole seconds
 record AreCounts (c : Clock) : Type 0 where
@@ -235,8 +235,8 @@ time_sound bytes c h =
       fraction = seconds.fraction;
       pointed = seconds.pointed;
     } in
-    let split : bytes ≡ clock_text clock = hours.1 ∙ ap (λ (l : List ℕ). count_text hour.0 (codes "H") ++ l) (minutes.1
-    ∙ ap (λ (l : List ℕ). count_text minute.0 (codes "M") ++ l) seconds.joined) in
+    let split : bytes ≡ clock_text clock = hours.1 ∙ ap (λ (l : List ℕ). lettered_text hour.0 (codes "H") ++ l) (minutes.1
+    ∙ ap (λ (l : List ℕ). lettered_text minute.0 (codes "M") ++ l) seconds.joined) in
     subst (λ (v : Clock). AreCounts v × (bytes ≡ clock_text v)) (same_some clock c made) (counts, split))
 
 time_exact : (h m s f : List ℕ) → AreCounts (h, (m, (s, f))) → read_time (clock_text (h, (m, (s, f)))) ≡ Some (h, (m, (s, f)))
@@ -244,7 +244,7 @@ unfolding read_time
 time_exact h m s f c =
     let seconds = seconds_exact s f c.seconds c.fraction c.pointed in
     let minute = count_exact 77 m (second_text s f) refl c.minutes (seconds_stop 77 s f refl refl c.seconds c.pointed) in
-    let hour = count_exact 72 h (count_text m (codes "M") ++ second_text s f) refl c.hours
+    let hour = count_exact 72 h (lettered_text m (codes "M") ++ second_text s f) refl c.hours
     (stops_count 72 77 m (second_text s f) c.minutes refl refl (seconds_stop 72 s f refl refl c.seconds c.pointed)) in
     rw (hour, minute, seconds) refl
 
@@ -272,8 +272,8 @@ clock_sound (b ∷ c ∷ cs) v h = clock_if (b == 84) b c cs v (eqb-true b 84) h
 no_times : (h m s f : List ℕ) → AreCounts (h, (m, (s, f))) → clock_text (h, (m, (s, f))) ≡ []
     → no_clock ≡ (h, (m, (s, f)))
 no_times h m s f c none =
-    let first = none_left (count_text h (codes "H")) (count_text m (codes "M") ++ second_text s f) none in
-    let second = none_left (count_text m (codes "M")) (second_text s f) first.1 in
+    let first = none_left (lettered_text h (codes "H")) (lettered_text m (codes "M") ++ second_text s f) none in
+    let second = none_left (lettered_text m (codes "M")) (second_text s f) first.1 in
     let seconds = none_left s (marked_text (codes ".") f) (no_count (s ++ marked_text (codes ".") f) (codes "S") second.1) in
     rw (no_count h (codes "H") first.0, no_count m (codes "M") second.0, seconds.0, c.pointed seconds.0) refl
 
@@ -297,7 +297,7 @@ date_and_clock : (y m d clock : List ℕ) → (y ++ (m ++ d)) ++ clock ≡ y ++ 
 date_and_clock y m d clock = append_assoc y (m ++ d) clock ∙ ap (λ (l : List ℕ). y ++ l) (append_assoc m d clock)
 
 abbrev body_text : Spelling → List ℕ
-body_text s = date_text s ++ marked_text (codes "T") (time_text s)
+body_text s = date_counts_text s ++ marked_text (codes "T") (time_counts_text s)
 
 no_counts : (date time : List ℕ) → date ++ time ≡ [] → date ++ marked_text (codes "T") time ≡ []
 no_counts date time h = let none = none_left date time h in rw (none.0, none.1) refl
@@ -316,10 +316,10 @@ counts_sound negative b bs s h =
     option_and_then_some _ _ _ h (λ c found made.
     let clock = clock_sound day.1 c found in
     let spelling : Spelling = spelled negative year.0 month.0 day.0 c in
-    let split : bytes ≡ body_text spelling = years.1 ∙ ap (λ (l : List ℕ). count_text year.0 (codes "Y") ++ l) (months.1
-    ∙ ap (λ (l : List ℕ). count_text month.0 (codes "M") ++ l) (days.1
-    ∙ ap (λ (l : List ℕ). count_text day.0 (codes "D") ++ l) clock.1))
-    ∙ sym (date_and_clock (count_text year.0 (codes "Y")) (count_text month.0 (codes "M")) (count_text day.0 (codes "D"))
+    let split : bytes ≡ body_text spelling = years.1 ∙ ap (λ (l : List ℕ). lettered_text year.0 (codes "Y") ++ l) (months.1
+    ∙ ap (λ (l : List ℕ). lettered_text month.0 (codes "M") ++ l) (days.1
+    ∙ ap (λ (l : List ℕ). lettered_text day.0 (codes "D") ++ l) clock.1))
+    ∙ sym (date_and_clock (lettered_text year.0 (codes "Y")) (lettered_text month.0 (codes "M")) (lettered_text day.0 (codes "D"))
     (marked_text (codes "T") (clock_text c))) in
     let is : IsSpelling spelling = record {
       years = years.0;
@@ -330,7 +330,7 @@ counts_sound negative b bs s h =
       seconds = clock.0.seconds;
       fraction = clock.0.fraction;
       pointed = clock.0.pointed;
-      some = λ none. some_bytes b bs (split ∙ no_counts (date_text spelling) (time_text spelling) none);
+      some = λ none. some_bytes b bs (split ∙ no_counts (date_counts_text spelling) (time_counts_text spelling) none);
     } in
     subst (λ (v : Spelling). IsSpelling v × (v.negative ≡ negative) × (bytes ≡ body_text v)) (same_some spelling s made)
     (is, refl, split))
@@ -343,16 +343,17 @@ counts_exact : (s : Spelling) → IsSpelling s → read_counts s.negative (body_
     ≡ Some (spelled s.negative s.years s.months s.days (s.hours, (s.minutes, (s.seconds, s.fraction))))
 unfolding read_counts
 counts_exact s is =
-    let behind : List ℕ = marked_text (codes "T") (time_text s) in
-    let day_text : List ℕ = count_text s.days (codes "D") ++ behind in
-    let month_text : List ℕ = count_text s.months (codes "M") ++ day_text in
+    let behind : List ℕ = marked_text (codes "T") (time_counts_text s) in
+    let day_text : List ℕ = lettered_text s.days (codes "D") ++ behind in
+    let month_text : List ℕ = lettered_text s.months (codes "M") ++ day_text in
     let year = count_exact 89 s.years month_text refl is.years (stops_count 89 77 s.months day_text is.months refl refl
-    (stops_count 89 68 s.days behind is.days refl refl (clock_stop 89 (time_text s)))) in
+    (stops_count 89 68 s.days behind is.days refl refl (clock_stop 89 (time_counts_text s)))) in
     let month = count_exact 77 s.months day_text refl is.months
-    (stops_count 77 68 s.days behind is.days refl refl (clock_stop 77 (time_text s))) in
-    let day = count_exact 68 s.days behind refl is.days (clock_stop 68 (time_text s)) in
+    (stops_count 77 68 s.days behind is.days refl refl (clock_stop 77 (time_counts_text s))) in
+    let day = count_exact 68 s.days behind refl is.days (clock_stop 68 (time_counts_text s)) in
     let clock = clock_exact s.hours s.minutes s.seconds s.fraction (clock_counts s is) in
-    let split = date_and_clock (count_text s.years (codes "Y")) (count_text s.months (codes "M")) (count_text s.days (codes "D")) behind in
+    let split = date_and_clock (lettered_text s.years (codes "Y")) (lettered_text s.months (codes "M")) (lettered_text s.days (codes "D"))
+    behind in
     rw (split, year, month, day, clock) refl
 
 -- ---- the whole text
@@ -402,8 +403,8 @@ unmarked (b ∷ bs) h = absurd (some_bytes 84 (b ∷ bs) h)
 body_some : (s : Spelling) (body : List ℕ) → IsSpelling s → body ≡ body_text s
     → read_body s.negative body ≡ read_counts s.negative body
 body_some s [] is e =
-    let none = none_left (date_text s) (marked_text (codes "T") (time_text s)) (sym e) in
-    absurd (is.some (rw (none.0, unmarked (time_text s) none.1) refl))
+    let none = none_left (date_counts_text s) (marked_text (codes "T") (time_counts_text s)) (sym e) in
+    absurd (is.some (rw (none.0, unmarked (time_counts_text s) none.1) refl))
 body_some s (b ∷ bs) is e = refl
 
 signed_exact : (negative : Bool) (body : List ℕ) (s : Option Spelling) → read_body negative body ≡ s

@@ -5,7 +5,7 @@ use Rattle.std.proofs.lemmas.Bool.Decides.{nat_tests}
 use Rattle.std.proofs.lemmas.Fmt.{decimal_nonempty, length-decimal-le}
 use Rattle.scan_core.specs.Padded.{padded_digits, trimmed_digits}
 use Rattle.scan_core.proofs.TrimmedFacts.{trimmed_nothing, trimmed_some}
-use Rattle.xsd_duration.specs.Durations.{count_text, marked_text}
+use Rattle.xsd_duration.specs.Durations.{lettered_text, marked_text}
 use Rattle.xsd_duration.specs.Written.{digits_of}
 use Rattle.xsd_duration.specs.inside.Writing.{clock_part, date_part, fraction_part, number_part, seconds_part, time_part}
 
@@ -25,7 +25,7 @@ marked_some : (mark text : List ℕ) → text ≢ [] → marked_text mark text �
 marked_some mark [] some = absurd (some refl)
 marked_some mark (b ∷ bs) some = refl
 
-count_some : (digits letter : List ℕ) → digits ≢ [] → count_text digits letter ≡ digits ++ letter
+count_some : (digits letter : List ℕ) → digits ≢ [] → lettered_text digits letter ≡ digits ++ letter
 count_some [] letter some = absurd (some refl)
 count_some (d ∷ ds) letter some = refl
 
@@ -33,7 +33,7 @@ pub none_left : (xs ys : List ℕ) → xs ++ ys ≡ [] → (xs ≡ []) × (ys �
 none_left [] ys h = (refl, h)
 none_left (x ∷ xs) ys h = cc
 
-pub no_count : (digits letter : List ℕ) → count_text digits letter ≡ [] → digits ≡ []
+pub no_count : (digits letter : List ℕ) → lettered_text digits letter ≡ [] → digits ≡ []
 no_count [] letter h = refl
 no_count (d ∷ ds) letter h = cc
 
@@ -59,7 +59,7 @@ digits_zero n fits none =
       | inr some ↦ absurd (some_digits n fits (sym (digits_some n some) ∙ none))
     ]
 
-number_is : (n : ℕ) (letter : List ℕ) → n < 2 ^ 64 → number_part n letter ≡ count_text (digits_of n) letter
+number_is : (n : ℕ) (letter : List ℕ) → n < 2 ^ 64 → number_part n letter ≡ lettered_text (digits_of n) letter
 unfolding number_part
 number_is n letter fits =
     elim (zero_or_not n) [
@@ -70,8 +70,8 @@ number_is n letter fits =
     ]
 
 pub date_is : (months days : ℕ) → months < 2 ^ 64 → days < 2 ^ 64 → date_part months days
-    ≡ count_text (digits_of (months / 12)) (codes "Y")
-    ++ (count_text (digits_of (months % 12)) (codes "M") ++ count_text (digits_of days) (codes "D"))
+    ≡ lettered_text (digits_of (months / 12)) (codes "Y")
+    ++ (lettered_text (digits_of (months % 12)) (codes "M") ++ lettered_text (digits_of days) (codes "D"))
 unfolding date_part
 date_is months days m d =
     rw (
@@ -91,26 +91,26 @@ fraction_digits micros = trimmed_digits (padded_digits 6 micros)
 
 abbrev pub second_text : Bool → ℕ → ℕ → List ℕ
 second_text null seconds micros =
-    count_text (second_digits null seconds micros ++ marked_text (codes ".") (fraction_digits micros)) (codes "S")
+    lettered_text (second_digits null seconds micros ++ marked_text (codes ".") (fraction_digits micros)) (codes "S")
 
 abbrev pub clock_text : Bool → ℕ → List ℕ
 clock_text null micros =
-    count_text (digits_of (micros / 3_600_000_000)) (codes "H")
-    ++ (count_text (digits_of (micros / 60_000_000 % 60)) (codes "M")
+    lettered_text (digits_of (micros / 3_600_000_000)) (codes "H")
+    ++ (lettered_text (digits_of (micros / 60_000_000 % 60)) (codes "M")
     ++ second_text null (micros / 1_000_000 % 60) (micros % 1_000_000))
 
 pub fraction_none : fraction_digits 0 ≡ []
 fraction_none = trimmed_nothing 6
 
 -- seconds without a fraction
-whole_second : (digits : List ℕ) → count_text (digits ++ marked_text (codes ".") (fraction_digits 0)) (codes "S")
-    ≡ count_text digits (codes "S")
-whole_second digits = ap (λ (l : List ℕ). count_text (digits ++ marked_text (codes ".") l) (codes "S")) fraction_none
-    ∙ ap (λ (l : List ℕ). count_text l (codes "S")) (append-nil digits)
+whole_second : (digits : List ℕ) → lettered_text (digits ++ marked_text (codes ".") (fraction_digits 0)) (codes "S")
+    ≡ lettered_text digits (codes "S")
+whole_second digits = ap (λ (l : List ℕ). lettered_text (digits ++ marked_text (codes ".") l) (codes "S")) fraction_none
+    ∙ ap (λ (l : List ℕ). lettered_text l (codes "S")) (append-nil digits)
 
 whole : (null : Bool) (seconds : ℕ) → seconds < 60
     → cond {A = List ℕ} null (decimal seconds ++ codes "S") (number_part seconds (codes "S"))
-    ≡ count_text (second_digits null seconds 0) (codes "S")
+    ≡ lettered_text (second_digits null seconds 0) (codes "S")
 whole true seconds few = sym (count_some (decimal seconds) (codes "S") (some_digits seconds (omega (arith, few))))
 whole false seconds few = number_is seconds (codes "S") (omega (arith, few))
 
@@ -126,7 +126,7 @@ seconds_is null seconds micros few small =
           let fraction : List ℕ = fraction_digits micros in
           let there : fraction ≢ [] = some_text fraction (trimmed_some 6 micros (omega (arith, some)) (omega (arith, small))) in
           let front = some_digits seconds (omega (arith, few)) in
-          let text : count_text (digits ++ marked_text (codes ".") fraction) (codes "S") ≡ digits ++ (codes "." ++ (fraction ++ codes "S")) =
+          let text : lettered_text (digits ++ marked_text (codes ".") fraction) (codes "S") ≡ digits ++ (codes "." ++ (fraction ++ codes "S")) =
           count_some (digits ++ marked_text (codes ".") fraction) (codes "S") (some_front digits (marked_text (codes ".") fraction) front)
           ∙ ap (λ (l : List ℕ). (digits ++ l) ++ codes "S") (marked_some (codes ".") fraction there)
           ∙ append_assoc digits (codes "." ++ fraction) (codes "S") in
@@ -174,9 +174,10 @@ no_seconds null seconds micros few small none =
 
 pub no_time : (null : Bool) (micros : ℕ) → micros < 2 ^ 64 → clock_text null micros ≡ [] → (micros ≡ 0) × (null ≡ false)
 no_time null micros fits none =
-    let hour = none_left (count_text (digits_of (micros / 3_600_000_000)) (codes "H"))
-    (count_text (digits_of (micros / 60_000_000 % 60)) (codes "M") ++ second_text null (micros / 1_000_000 % 60) (micros % 1_000_000)) none in
-    let minute = none_left (count_text (digits_of (micros / 60_000_000 % 60)) (codes "M"))
+    let hour = none_left (lettered_text (digits_of (micros / 3_600_000_000)) (codes "H"))
+    (lettered_text (digits_of (micros / 60_000_000 % 60)) (codes "M")
+    ++ second_text null (micros / 1_000_000 % 60) (micros % 1_000_000)) none in
+    let minute = none_left (lettered_text (digits_of (micros / 60_000_000 % 60)) (codes "M"))
     (second_text null (micros / 1_000_000 % 60) (micros % 1_000_000)) hour.1 in
     let second = no_seconds null (micros / 1_000_000 % 60) (micros % 1_000_000) (omega arith) (omega arith) minute.1 in
     let h = digits_zero (micros / 3_600_000_000) (omega (arith, fits)) (no_count (digits_of (micros / 3_600_000_000)) (codes "H") hour.0) in

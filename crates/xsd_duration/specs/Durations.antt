@@ -18,9 +18,9 @@ pub record Spelling : Type 0 where
   pub fraction : List ℕ
 
 -- a number and the letter of its unit, or nothing where the number is left out
-abbrev pub count_text : List ℕ → List ℕ → List ℕ
-count_text [] letter = []
-count_text (b ∷ bs) letter = (b ∷ bs) ++ letter
+abbrev pub lettered_text : List ℕ → List ℕ → List ℕ
+lettered_text [] letter = []
+lettered_text (b ∷ bs) letter = (b ∷ bs) ++ letter
 
 -- a mark and what stands behind it, or nothing where nothing would
 abbrev pub marked_text : List ℕ → List ℕ → List ℕ
@@ -28,22 +28,22 @@ marked_text mark [] = []
 marked_text mark (b ∷ bs) = mark ++ (b ∷ bs)
 
 -- the counts in front of the `T`
-abbrev pub date_text : Spelling → List ℕ
-date_text s =
-    count_text s.years (codes "Y")
-    ++ (count_text s.months (codes "M") ++ count_text s.days (codes "D"))
+abbrev pub date_counts_text : Spelling → List ℕ
+date_counts_text s =
+    lettered_text s.years (codes "Y")
+    ++ (lettered_text s.months (codes "M") ++ lettered_text s.days (codes "D"))
 
 -- the counts behind the `T`
-abbrev pub time_text : Spelling → List ℕ
-time_text s =
-    count_text s.hours (codes "H")
-    ++ (count_text s.minutes (codes "M")
-    ++ count_text (s.seconds ++ marked_text (codes ".") s.fraction) (codes "S"))
+abbrev pub time_counts_text : Spelling → List ℕ
+time_counts_text s =
+    lettered_text s.hours (codes "H")
+    ++ (lettered_text s.minutes (codes "M")
+    ++ lettered_text (s.seconds ++ marked_text (codes ".") s.fraction) (codes "S"))
 
 -- the text with this spelling
 abbrev pub spelling_text : Spelling → List ℕ
 spelling_text s =
-    minus s.negative ++ (codes "P" ++ (date_text s ++ marked_text (codes "T") (time_text s)))
+    minus s.negative ++ (codes "P" ++ (date_counts_text s ++ marked_text (codes "T") (time_counts_text s)))
 
 -- digits alone are counted, a fraction stands behind whole seconds alone, and one count stands there at least
 pub record IsSpelling (s : Spelling) : Type 0 where
@@ -55,7 +55,7 @@ pub record IsSpelling (s : Spelling) : Type 0 where
   pub seconds : AreDigits s.seconds
   pub fraction : AreDigits s.fraction
   pub pointed : s.seconds ≡ [] → s.fraction ≡ []
-  pub some : date_text s ++ time_text s ≢ []
+  pub some : date_counts_text s ++ time_counts_text s ≢ []
 
 -- the six counts, all with the sign of the whole; one that is left out is 0
 abbrev pub counts_of : Spelling → List Count

@@ -30,8 +30,8 @@ digits_of n = if n == 0 then [] else decimal n
 
 -- Years and months, days, hours, minutes and seconds, each left out where it is 0. The fraction ends in no zero, and behind a whole
 -- part of 0 it has a `0`; of an interval of zero `0` seconds are left.
-abbrev pub written : Interval → Spelling
-written t =
+abbrev pub written_spelling : Interval → Spelling
+written_spelling t =
     let p = parts_of t in record {
       negative = has_negative t;
       years = digits_of p.years;
@@ -45,5 +45,5 @@ written t =
     }
 
 -- the written text
-unfoldable pub duration_text : Interval → List ℕ
-duration_text t = spelling_text (written t)
+unfoldable pub xml_duration_text : Interval → List ℕ
+xml_duration_text t = spelling_text (written_spelling t)

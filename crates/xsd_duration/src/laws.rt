@@ -6,7 +6,7 @@ ghost use Rattle.pg_interval_2.specs.Ranges.{IsInRange};
 ghost use Rattle.pg_interval_2.specs.declared.interval.Interval.{Interval};
 ghost use Rattle.xsd_duration.specs.Durations.{SpellsDuration};
 ghost use Rattle.xsd_duration.specs.Readings.{IsRefused};
-ghost use Rattle.xsd_duration.specs.Written.{duration_text, has_one_sign};
+ghost use Rattle.xsd_duration.specs.Written.{xml_duration_text, has_one_sign};
 ghost use Rattle.xsd_duration.specs.declared.error.DurationError.{DurationError};
 
 /// A text spells one list of counts at most, so it denotes one interval at most.
@@ -39,5 +39,5 @@ pub fn a_denoted_interval_has_one_sign()
 /// The written text of an interval of one sign denotes this interval.
 pub fn a_written_text_is_read_back()
     ensures { (t : Interval) → IsInRange t → IsTrue (has_one_sign t)
-        → Denotes SpellsDuration (duration_text t) t }
+        → Denotes SpellsDuration (xml_duration_text t) t }
 {}

@@ -3,7 +3,7 @@ ghost use Rattle.std.specs.Prelude.{◌≡◌, ◌+◌, ◌<◌, ◌≤◌, ◌^
 ghost use Rattle.arrayvec.specs.ArrayString.{array_string_len};
 ghost use Rattle.scan_core.specs.Number.{minus};
 ghost use Rattle.pg_interval_2.specs.Parts.{is_zero};
-ghost use Rattle.xsd_duration.specs.Written.{duration_text, has_negative, has_one_sign, has_positive};
+ghost use Rattle.xsd_duration.specs.Written.{xml_duration_text, has_negative, has_one_sign, has_positive};
 ghost use Rattle.xsd_duration.specs.inside.Writing.{clock_part, date_part, fraction_part, number_part, seconds_part, time_part};
 
 use arrayvec::ArrayString;
@@ -52,7 +52,7 @@ fn is_zero(interval: Interval) -> bool
 pub fn push_text<const CAP: usize>(interval: Interval, out: &mut ArrayString<CAP>)
     requires one { IsTrue (has_one_sign interval) }
     requires room { array_string_len out.old + 96 ≤ CAP }
-    ensures bytes { out.new.bytes ≡ out.old.bytes ++ duration_text interval }
+    ensures bytes { out.new.bytes ≡ out.old.bytes ++ xml_duration_text interval }
     ensures len { array_string_len out.new ≤ array_string_len out.old + 96 }
 {
     push_sign(out, has_negative(interval));

@@ -2,7 +2,7 @@
 use Rattle.std.specs.Prelude.{◌≡◌, ℕ, ⊤, List, [], ◌∷◌, ◌++◌, codes, Option, Some, None}
 use Rattle.forms.specs.declared.form.Form.{Form}
 use Rattle.forms.specs.declared.form.Form.TheVariants.{FileTime, IsoDateTime, IsoDate, IsoDuration, Toml, Fancy, PgIso, Postgres, PgVerbose}
-use Rattle.forms.specs.declared.form.Form.TheVariants.{PgSql, IsoStrict, Unix, PgTimestamp, HttpDate, MailDate}
+use Rattle.forms.specs.declared.form.Form.TheVariants.{PgSql, IsoStrict, Unix, PgTimestamp, HttpDate, MailDate, XsdDuration}
 use Rattle.forms.specs.Names.{name_of}
 use Rattle.forms.specs.Buffers.{IsReplyLine}
 
@@ -29,7 +29,7 @@ abbrev pub by_i : List Form
 by_i = IsoDateTime ∷ IsoDuration ∷ IsoDate ∷ IsoStrict ∷ []
 
 abbrev pub by_another : List Form
-by_another = FileTime ∷ Fancy ∷ Toml ∷ Unix ∷ HttpDate ∷ MailDate ∷ []
+by_another = FileTime ∷ Fancy ∷ Toml ∷ Unix ∷ HttpDate ∷ MailDate ∷ XsdDuration ∷ []
 
 -- a text begins with this byte
 abbrev pub Begins : ℕ → List ℕ → Type 0

@@ -105,7 +105,7 @@ pub fn push<const CAP: usize>(
 }
 
 /// The interval of a value.
-fn interval_for(value: Value) -> Result<Interval, Cause>
+pub fn interval_for(value: Value) -> Result<Interval, Cause>
     requires { IsWithinBounds value }
     ensures { result ≡ held value }
 {

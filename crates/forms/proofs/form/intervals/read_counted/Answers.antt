@@ -1,6 +1,7 @@
 -- Answers to the goals of `form::intervals::read_counted`.
 use Rattle.std.proofs.Common.{arith}
 use Rattle.std.proofs.lemmas.Int.{ints}
+use Rattle.pg_interval_2.specs.Styles.{Shape}
 use Rattle.forms.proofs.Intervals.{reads_as, reads_refused}
 use Rattle.forms.proofs.form.intervals.read_counted.Goals as goal
 
@@ -10,7 +11,7 @@ returns-in-Ok-clause-read g c =
     let months = range.months in
     let days = range.days in
     let micros = range.microseconds in
-    reads_as c.args.style c.args.text.now c.in-Ok.interval _ _ _ c.in-Ok.ensures.found (omega (arith, ints)) (omega (arith, ints))
+    reads_as (Shape c.args.style) c.args.text.now c.in-Ok.interval _ _ _ c.in-Ok.ensures.found (omega (arith, ints)) (omega (arith, ints))
     (omega (arith, ints))
 
 pub returns-in-Err-clause-read : goal.returns-in-Err-clause-read
