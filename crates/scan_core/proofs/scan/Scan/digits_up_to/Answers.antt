@@ -8,17 +8,17 @@ use Rattle.scan_core.proofs.scan.Scan.digits_up_to.Goals as goal
 
 pub loop-digit-init : goal.loop-digit-init
 loop-digit-init g c =
-    let some = c.first_digits-value.ensures.passed in
+    let some = c.digits_to_end-value.ensures.passed in
     let start = c.at-start.ensures.place in
     let here = c.at.ensures.place in
     record {
       among = (
         some.0,
-        among_of is_ascii_digit some.0 c.args.self.now c.first_digits-value.new.self some.2 some.3,
+        among_of is_ascii_digit some.0 c.args.self.now c.digits_to_end-value.new.self some.2 some.3,
         some.4,
         omega (arith, some.1, some.3.at, start, here),
       );
-      ticks = c.first_digits-value.ensures.ticks;
+      ticks = c.digits_to_end-value.ensures.ticks;
     }
 
 pub loop-digit-preserved : goal.loop-digit-preserved
