@@ -140,6 +140,7 @@ pub fn read(text: &[u8]) -> Result<i64, DateError>
 }
 
 /// Appends an IMF-fixdate of 29 bytes, such as `Sun, 06 Nov 1994 08:49:37 GMT`, of a real date in UTC that has the name of its day.
+/// Its offset is taken to be 0 and isn't looked at.
 pub fn push_text<const CAP: usize>(out: &mut ArrayString<CAP>, t: &DateTime)
     requires real { IsRealMoment t.now }
     requires named { IsSome t.now.weekday }

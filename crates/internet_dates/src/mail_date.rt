@@ -269,6 +269,7 @@ pub fn read(text: &[u8]) -> Result<i64, DateError>
 }
 
 /// Appends a date of 31 bytes, such as `Tue, 01 Dec 2026 23:24:31 +0000`, of a real date in UTC that has the name of its day.
+/// Its offset is taken to be 0 and isn't looked at.
 pub fn push_text<const CAP: usize>(out: &mut ArrayString<CAP>, t: &DateTime)
     requires real { IsRealMoment t.now }
     requires named { IsSome t.now.weekday }
