@@ -28,18 +28,18 @@ TurnsBy from to text answer = (value : Result Value Cause) × ReadsBy (Shape fro
     × Then (WritesBy (Is held) (style_text to)) value answer
 
 -- the interval of a triple that a text denotes
-held_triple : (from : Style) → IsDenotedInRange from → (text : List ℕ) (t : Interval) → Denotes (Shape from) text t
+held_triple : (from : Style) → IsDenotedInRange (Shape from) → (text : List ℕ) (t : Interval) → Denotes (Shape from) text t
     → Ok t ≡ held (triple t)
 held_triple from in_range text t h =
     let range = in_range text t h in
     sym (held_parts t.months t.days t.microseconds range.months range.days range.microseconds)
 
 -- its text
-written_triple : (from to : Style) → IsDenotedInRange from → (text : List ℕ) (t : Interval) → Denotes (Shape from) text t
+written_triple : (from to : Style) → IsDenotedInRange (Shape from) → (text : List ℕ) (t : Interval) → Denotes (Shape from) text t
     → WritesBy (Is held) (style_text to) (triple t) (Ok (style_text to t))
 written_triple from to in_range text t h = (Ok t, held_triple from in_range text t h, refl)
 
-onto_turn : (from to : Style) → IsDenotedInRange from → (text : List ℕ) (answer : Result (List ℕ) Cause)
+onto_turn : (from to : Style) → IsDenotedInRange (Shape from) → (text : List ℕ) (answer : Result (List ℕ) Cause)
     → IsIntervalAnswer from to text answer → TurnsBy from to text answer
 onto_turn from to in_range text (Ok out) h =
     let P : List ℕ → Type 0 = λ l. WritesBy (Is held) (style_text to) (triple h.0) (Ok l) in
@@ -49,7 +49,7 @@ onto_turn from to in_range text (Err Range) h = (Err Range, inl (h.0, h.1, sym (
 onto_turn from to in_range text (Err _) h = absurd h
 
 -- counts that are spelled, by whether they fit
-by_fit : (from to : Style) → IsDenotedInRange from → (text : List ℕ) (counts : List Count) → Shape from text counts
+by_fit : (from to : Style) → IsDenotedInRange (Shape from) → (text : List ℕ) (counts : List Count) → Shape from text counts
     → (test : Bool) → test ≡ fits counts → (value : Result Value Cause) → value ≡ worth counts
     → (answer : Result (List ℕ) Cause) → Then (WritesBy (Is held) (style_text to)) value answer → IsIntervalAnswer from to text answer
 by_fit from to in_range text counts spelled true all value h answer turned =
@@ -64,7 +64,7 @@ by_fit from to in_range text counts spelled false all value h answer turned =
     let is : answer ≡ Err Range = subst P (h ∙ worth_misfits counts (sym all)) turned in
     subst (IsIntervalAnswer from to text) (sym is) (counts, spelled, sym all)
 
-onto_answer : (from to : Style) → IsDenotedInRange from → (text : List ℕ) (answer : Result (List ℕ) Cause)
+onto_answer : (from to : Style) → IsDenotedInRange (Shape from) → (text : List ℕ) (answer : Result (List ℕ) Cause)
     → TurnsBy from to text answer → IsIntervalAnswer from to text answer
 onto_answer from to in_range text answer (value, inl read, h) =
     by_fit from to in_range text read.0 read.1 (fits read.0) refl value read.2 answer h
@@ -105,14 +105,14 @@ same_turns from to s t f g text answer = (
       (h.0, f.reads text h.0 h.1, (then_writes to t g h.0 answer).1 h.2),
 )
 
-answer_turned : ((s : Style) → IsDenotedInRange s) → (from to : Form) (text : List ℕ) (answer : Result (List ℕ) Cause)
+answer_turned : ((s : Style) → IsDenotedInRange (Shape s)) → (from to : Form) (text : List ℕ) (answer : Result (List ℕ) Cause)
     → IsAnswer from to text answer → Turns from to text answer
 unfolding IsAnswer
 answer_turned in_range from to text answer (inl (s, t, f, g, h)) =
     (same_turns from to s t (of_style from s f) (of_style to t g) text answer).0 (onto_turn s t (in_range s) text answer h)
 answer_turned in_range from to text answer (inr other) = other.1
 
-by_styles : ((s : Style) → IsDenotedInRange s) → (from to : Form) (a b : Option Style) → style_of from ≡ a → style_of to ≡ b
+by_styles : ((s : Style) → IsDenotedInRange (Shape s)) → (from to : Form) (a b : Option Style) → style_of from ≡ a → style_of to ≡ b
     → (text : List ℕ) (answer : Result (List ℕ) Cause) → Turns from to text answer
     → IsAnswer from to text answer
 unfolding IsAnswer
@@ -128,7 +128,7 @@ by_styles in_range from to (Some s) (Some t) f g text answer h =
 by_styles in_range from to (Some s) None f g text answer h = inr (inr g, h)
 by_styles in_range from to None b f g text answer h = inr (inl f, h)
 
-pub answers_turned : ((s : Style) → IsDenotedInRange s) → (from to : Form) (text : List ℕ) (answer : Result (List ℕ) Cause)
+pub answers_turned : ((s : Style) → IsDenotedInRange (Shape s)) → (from to : Form) (text : List ℕ) (answer : Result (List ℕ) Cause)
     → (IsAnswer from to text answer → Turns from to text answer) × (Turns from to text answer → IsAnswer from to text answer)
 answers_turned in_range from to text answer =
     (answer_turned in_range from to text answer, by_styles in_range from to (style_of from) (style_of to) refl refl text answer)
