@@ -1,5 +1,5 @@
 //! Unix time as a form.
-ghost use Rattle.std.specs.Prelude.{◌≡◌, ◌+◌, ◌*◌, ◌^◌, ◌<◌, ◌≤◌, ◌++◌, List, ℕ, length, decimal, IfOk, IfSome, IfNone};
+ghost use Rattle.std.specs.Prelude.{◌≡◌, ◌+◌, ◌*◌, ◌/◌, ◌%◌, ◌^◌, ◌<◌, ◌≤◌, ◌++◌, List, ℕ, length, decimal, IfOk, IfSome, IfNone};
 ghost use Rattle.arrayvec.specs.ArrayString.{array_string_len};
 ghost use Rattle.jiff.specs.Words.{IsWithin};
 ghost use Rattle.scan_core.specs.Digits.{AreDigits, number_of};
@@ -197,8 +197,25 @@ fn push_magnitude<const CAP: usize>(out: &mut ArrayString<CAP>, nanos: u128)
     ensures bytes { out.new.bytes ≡ out.old.bytes ++ magnitude_text nanos }
     ensures len { array_string_len out.new ≤ array_string_len out.old + 30 }
 {
-    push_seconds(out, (nanos / NANOSECONDS_A_SECOND) as u64);
-    push_fraction(out, (nanos % NANOSECONDS_A_SECOND) as u64);
+    let (seconds, rest) = in_seconds(nanos);
+    push_seconds(out, seconds);
+    push_fraction(out, rest);
+}
+
+/// Whole seconds, and the nanoseconds that are left.
+fn in_seconds(nanos: u128) -> (u64, u64)
+    requires { nanos ≤ 10 ^ 22 }
+    ensures seconds { result.0 ≡ nanos / 10 ^ 9 }
+    ensures rest { result.1 ≡ nanos % 10 ^ 9 }
+{
+    // Instants up to the year 2554 fit into 64 bits, where a division is a multiplication.
+    match u64::try_from(nanos) {
+        Ok(few) => (few / 1_000_000_000, few % 1_000_000_000),
+        Err(_) => (
+            (nanos / NANOSECONDS_A_SECOND) as u64,
+            (nanos % NANOSECONDS_A_SECOND) as u64,
+        ),
+    }
 }
 
 /// Appends the digits of a number, of which 64 bits have 20 at most.
