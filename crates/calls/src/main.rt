@@ -6,6 +6,7 @@ mod arguments;
 mod dos_words;
 mod file_time_sums;
 mod file_times;
+mod internet_moments;
 mod intervals;
 mod iso_texts;
 mod iso_values;
@@ -16,6 +17,7 @@ mod scanning;
 mod short_durations;
 mod short_texts;
 mod small;
+mod timestamps;
 mod told;
 mod toml_texts;
 mod unix_times;
@@ -36,11 +38,13 @@ enum Table {
     FancyDuration,
     Iso8601,
     PortTomlDatetime,
+    InternetDates,
+    PgTimestamp,
     Forms,
 }
 
 /// The tables by their names in data/.
-const TABLES: [(&str, Table); 8] = [
+const TABLES: [(&str, Table); 10] = [
     ("scan_core.tsv", Table::ScanCore),
     ("pg_interval_2.tsv", Table::PgInterval2),
     ("dos_date.tsv", Table::DosDate),
@@ -48,6 +52,8 @@ const TABLES: [(&str, Table); 8] = [
     ("fancy_duration.tsv", Table::FancyDuration),
     ("iso8601.tsv", Table::Iso8601),
     ("port_toml_datetime.tsv", Table::PortTomlDatetime),
+    ("internet_dates.tsv", Table::InternetDates),
+    ("pg_timestamp.tsv", Table::PgTimestamp),
     ("forms.tsv", Table::Forms),
 ];
 
@@ -98,6 +104,8 @@ fn answer(alloc: Global, table: Table, row: &Row) -> Answer {
         Table::FancyDuration => short_durations::answer(alloc, call, text?),
         Table::Iso8601 => iso_texts::answer(alloc, call, bytes),
         Table::PortTomlDatetime => toml_texts::answer(alloc, call, text?),
+        Table::InternetDates => internet_moments::answer(alloc, call, bytes),
+        Table::PgTimestamp => timestamps::answer(alloc, call, bytes),
         Table::Forms => lines::answer(alloc, call, bytes),
     }
 }
