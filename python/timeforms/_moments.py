@@ -27,8 +27,8 @@ _TOML = re.compile(r"(?:(\d{4})-(\d\d)-(\d\d))?[T ]?(?:(\d\d):(\d\d):(\d\d)(?:\.
 
 
 def parse_datetime(text: str, form: str = "IsoDateTime") -> Moment:
-    """The moment that a text of the form `FileTime`, `IsoDateTime`, `IsoDate` or `Toml` names: an aware `datetime` in UTC, or a date, a
-    `datetime` without an offset or a time, where the text says no more.
+    """The moment that a text names, of the form `FileTime`, `IsoDateTime`, `IsoDate`, `Toml`, `Unix`, `PgTimestamp`, `HttpDate` or
+    `MailDate`: an aware `datetime` in UTC, or a date, a `datetime` without an offset or a time, where the text says no more.
 
     It is exact: raises `ConversionError`, of the cause `Precision` where the text is finer than microseconds, `Range` outside the years 1
     to 9999, `NoSuchMoment` for a leap second, which Python doesn't have, and as `convert` to `Toml` does.
@@ -37,6 +37,8 @@ def parse_datetime(text: str, form: str = "IsoDateTime") -> Moment:
     datetime.datetime(2015, 6, 26, 14, 13, 23, 500000, tzinfo=datetime.timezone.utc)
     >>> parse_datetime("12:30:00", "Toml")
     datetime.time(12, 30)
+    >>> parse_datetime("2026-12-01 23:24:31.051677+00", "PgTimestamp")
+    datetime.datetime(2026, 12, 1, 23, 24, 31, 51677, tzinfo=datetime.timezone.utc)
     """
     parts = _TOML.fullmatch(convert(form, "Toml", text))
     assert parts, "convert answers a text of TOML"
