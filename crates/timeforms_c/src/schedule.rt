@@ -74,10 +74,12 @@ fn told(answer: Result<(), CheckIntoError>, first: &mut u64, second: &mut u64) -
             *first = line;
             code_of_fault(fault)
         }
-        Err(CheckIntoError::Clash {
-            first: early,
-            second: late,
-        }) => {
+        Err(
+            CheckIntoError::Clash {
+                first: early,
+                second: late,
+            },
+        ) => {
             *first = early;
             *second = late;
             CLASH

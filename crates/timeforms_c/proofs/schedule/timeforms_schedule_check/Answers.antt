@@ -11,9 +11,12 @@ returns-clause-answer c = λ fits.
     let code : FitsSigned w32 c.told.result = search rules in
     let slots : List Slot = take c.check_into-lines.result.0 c.check_into-lines.new.slots in
     let given : Result (List Slot) CheckError = answer_at slots c.check_into-lines.result.1 in
-    let checked = c.check_into-lines.ensures.checks fits in
-    (given, checked, tells_as given given slots c.told.new.first c.told.new.second c.told.result refl code
-    (c.told.ensures.answer c.args.text.now slots checked))
+    let checked = c.check_into-lines.ensures.checks fits in (
+      given,
+      checked,
+      tells_as given given slots c.told.new.first c.told.new.second c.told.result refl code
+          (c.told.ensures.answer c.args.text.now slots checked),
+    )
 
 pub returns-clause-exact : goal.returns-clause-exact
 returns-clause-exact c = λ answer fits h.
