@@ -1,11 +1,11 @@
 -- Digits and the number that they write: one more digit, a front, a join, and the decimal text of a number.
 use Rattle.std.proofs.Common.{◌≡◌, ℕ, zero, suc, ◌+◌, ◌-◌, ◌*◌, ◌^◌, ◌<◌, ◌≤◌, Bool, true, ◌&&◌, List, [], ◌∷◌, ◌++◌, length, get_or, take}
-use Rattle.std.proofs.Common.{drop, decimal, replicate, append_assoc, refl, ap, sym, ◌∙◌, arith}
-use Rattle.std.proofs.Math.Nat.{pow-suc}
+use Rattle.std.proofs.Common.{add-one, drop, decimal, replicate, append_assoc, refl, ap, sym, ◌∙◌, arith}
+use Rattle.std.proofs.Math.Nat.{pow-suc, pow-le-pow_right}
 use Rattle.std.proofs.lemmas.Bool.Decides.{nat_tests}
 use Rattle.std.proofs.lemmas.Fmt.{decimal_is_IsNumeral, length-decimal-le}
 use Rattle.std.proofs.lemmas.Int.Digits.{digits_value_more, digits_value-lt}
-use Rattle.std.proofs.lemmas.List.{drop_more, take_rest}
+use Rattle.std.proofs.lemmas.List.{drop_more, take_rest, length-take}
 use Rattle.std.proofs.lemmas.Str.{digit_value_digit}
 use Rattle.std.proofs.lemmas.Str.Parse.{digit_at, digit_from_value, digits_value-take-le}
 use Rattle.std.specs.Char.{digit_value, is_ascii_digit}
@@ -70,6 +70,24 @@ pub digits-take : (i : ℕ) (ds : List ℕ) → AreDigits ds → AreDigits (take
 digits-take zero ds p = tt
 digits-take (suc i) [] p = tt
 digits-take (suc i) (d ∷ ds) p = (p.0, digits-take i ds p.1)
+
+-- one more digit
+digits_next : (i : ℕ) (ds : List ℕ) → AreDigits (take i ds) → digit_value (get_or ds i 0) < 10 → AreDigits (take (suc i) ds)
+digits_next i [] p d = tt
+digits_next zero (x ∷ ds) p d = (d, tt)
+digits_next (suc i) (x ∷ ds) p d = (p.0, digits_next i ds p.1 d)
+
+pub digits_more : (i : ℕ) (ds : List ℕ) → AreDigits (take i ds) → digit_value (get_or ds i 0) < 10 → AreDigits (take (i + 1) ds)
+digits_more i ds p d = rw add-one (digits_next i ds p d)
+
+-- the number of at most 8 digits
+pub number_of_few : (i : ℕ) (ds : List ℕ) → AreDigits (take i ds) → i ≤ 8 → number_of (take i ds) < 10 ^ 8
+number_of_few i ds all h =
+    let below = number_of-lt (take i ds) all in
+    let long = length-take i ds in
+    let few : length (take i ds) ≤ 8 = omega (arith, long) in
+    let most : 10 ^ length (take i ds) ≤ 10 ^ 8 = pow-le-pow_right (omega arith) few in
+    omega (arith, below, most)
 
 digit_from_test : (d : ℕ) (t all : Bool) → is_ascii_digit d ≡ t → (t && all) ≡ true → (digit_value d < 10) × (all ≡ true)
 digit_from_test d t all e h = grind (arith, nat_tests)

@@ -1,9 +1,11 @@
 -- Bytes that a scan has passed: one after the other, and all of a class that stand in front.
-use Rattle.std.proofs.Common.{◌≡◌, ◌⊎◌, inl, inr, ℕ, ◌-◌, ◌≤◌, ◌&&◌, Bool, true, List, [], ◌∷◌, ◌++◌, length, take, Option, Some, IfSome}
+use Rattle.std.proofs.Common.{◌≡◌, ◌⊎◌, inl, inr, ℕ, ◌-◌, ◌≤◌, ◌&&◌, Bool, true, false, List, [], ◌∷◌, ◌++◌}
+use Rattle.std.proofs.Common.{length, take, Option, Some, IfSome}
 use Rattle.std.proofs.Common.{refl, sym, subst, ◌∙◌, ap, append_assoc, append-nil, length-append, arith}
 use Rattle.std.proofs.lemmas.List.{take_all}
 use Rattle.std.proofs.lemmas.List.Folds.{list_all-append}
 use Rattle.std.specs.List.{list_all}
+use Rattle.scan_core.specs.Blanks.{is_blank}
 use Rattle.scan_core.specs.Fronts.{behind, leading}
 use Rattle.scan_core.specs.Scanning.{Passes, Place, ahead, between, front_byte}
 use Rattle.scan_core.proofs.FrontFacts.{behind_skips, leading_and_behind, leading_skips}
@@ -72,6 +74,25 @@ among_more test bytes old mid new b m h p = record {
       ∙ sym (append_assoc bytes (b ∷ []) (leading test (ahead new)));
   rest = m.rest ∙ behind_cons test b (ahead mid) (ahead new) h p.split;
 }
+
+-- a space, if one was in front, and then the blanks behind it
+pub blanks_behind_a_space : (space : Bool) (old mid new : Place) → (space ≡ true → Passes (32 ∷ []) old mid)
+    → (space ≡ false → mid ≡ old)
+    → ahead new ≡ behind is_blank (ahead mid)
+    → Passes (leading is_blank (ahead mid)) mid new
+    → (ahead new ≡ behind is_blank (ahead old)) × Passes (leading is_blank (ahead old)) old new
+blanks_behind_a_space true old mid new passes other rest passed =
+    let first = passes refl in
+    let P : List ℕ → Type 0 = λ l. Passes l old new in (
+      rest ∙ sym (behind_cons is_blank 32 (ahead old) (ahead mid) refl first.split),
+      subst P (sym (leading_cons is_blank 32 (ahead old) (ahead mid) refl first.split))
+          (passes_more (32 ∷ []) (leading is_blank (ahead mid)) old mid new first passed),
+    )
+blanks_behind_a_space false old mid new passes other rest passed =
+    let same = other refl in (
+      subst (λ (p : Place). ahead new ≡ behind is_blank (ahead p)) same rest,
+      subst (λ (p : Place). Passes (leading is_blank (ahead p)) p new) same passed,
+    )
 
 -- any bytes of the class that were passed
 pub among_of : (test : ℕ → Bool) (bytes : List ℕ) (old new : Place) → list_all test bytes ≡ true → Passes bytes old new

@@ -198,6 +198,18 @@ impl<'a> Scan<'a> {
         ensures passed { Passes (leading is_blank (ahead self.old)) self.old self.new }
         ensures ticks { steps.new + unseen (ahead self.new) ≡ steps.old + unseen (ahead self.old) }
     {
+        // nearly all blanks are one space
+        self.next_if(b' ', steps);
+        self.more_blanks(steps);
+    }
+
+    /// The same, blank by blank.
+    #[inline(always)]
+    fn more_blanks<L: Ledger>(&mut self, steps: &mut Steps<L>)
+        ensures rest { ahead self.new ≡ behind is_blank (ahead self.old) }
+        ensures passed { Passes (leading is_blank (ahead self.old)) self.old self.new }
+        ensures ticks { steps.new + unseen (ahead self.new) ≡ steps.old + unseen (ahead self.old) }
+    {
         while let Some(_) = self.peek_in(Class::Blank) {
             self.next(steps);
         }

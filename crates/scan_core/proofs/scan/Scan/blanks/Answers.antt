@@ -1,30 +1,13 @@
 -- Answers to the goals of `scan::Scan::blanks`.
-use Rattle.std.proofs.Common.{arith, refl, [], ◌∷◌, ◌++◌}
-use Rattle.scan_core.specs.Blanks.{is_blank}
-use Rattle.scan_core.proofs.Scans.{all_passed, among_more, among_none, front_passed}
+use Rattle.scan_core.proofs.Scans.{blanks_behind_a_space}
 use Rattle.scan_core.proofs.scan.Scan.blanks.Goals as goal
 
-pub loop-self-init : goal.loop-self-init
-loop-self-init g c = record { among = ([], among_none is_blank c.args.self.now); ticks = refl }
-
-pub loop-self-preserved : goal.loop-self-preserved
-loop-self-preserved g c =
-    let some = c.loop-self.invariant.among in
-    record {
-      among = (
-        some.0 ++ c.in-Some.field-0 ∷ [],
-        among_more is_blank some.0 c.args.self.now c.loop-self.self c.next.new.self
-            c.in-Some.field-0 some.1 c.in-Some.ensures.some.0 (front_passed c.in-Some.field-0 c.next.result c.loop-self.self c.next.new.self
-            c.next.ensures.front c.in-Some.ensures.some.1 c.next.ensures.some),
-      );
-      ticks = omega (arith, c.next.ensures.ticks, c.loop-self.invariant.ticks);
-    }
-
 pub returns-clause-rest : goal.returns-clause-rest
-returns-clause-rest g c = (all_passed is_blank _ c.args.self.now _ c.loop-self.invariant.among.1 c.in_default.ensures.none).rest
+returns-clause-rest g c =
+    (blanks_behind_a_space c.next_if.result c.args.self.now c.next_if.new.self c.more_blanks.new.self c.next_if.ensures.passed
+    (λ other. (c.next_if.ensures.other other).0) c.more_blanks.ensures.rest c.more_blanks.ensures.passed).0
 
 pub returns-clause-passed : goal.returns-clause-passed
 returns-clause-passed g c =
-    let all = all_passed is_blank _ c.args.self.now _ c.loop-self.invariant.among.1 c.in_default.ensures.none in
-    let front = all.front in
-    rw front all.passed
+    (blanks_behind_a_space c.next_if.result c.args.self.now c.next_if.new.self c.more_blanks.new.self c.next_if.ensures.passed
+    (λ other. (c.next_if.ensures.other other).0) c.more_blanks.ensures.rest c.more_blanks.ensures.passed).1

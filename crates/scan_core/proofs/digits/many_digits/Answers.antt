@@ -1,9 +1,9 @@
--- Answers to the goals of `digits::digits_u64`.
+-- Answers to the goals of `digits::many_digits`.
 use Rattle.std.proofs.Common.{◌+◌, ap, arith}
 use Rattle.std.proofs.lemmas.List.{take_all}
 use Rattle.scan_core.specs.Digits.{number_of}
 use Rattle.scan_core.proofs.DigitFacts.{digit_is, number_of_more, number_of-take-le}
-use Rattle.scan_core.proofs.digits.digits_u64.Goals as goal
+use Rattle.scan_core.proofs.digits.many_digits.Goals as goal
 
 -- the digits so far, and one more, are a front of all
 pub returns-in_err-checked_mul-clause-fits : goal.returns-in_err-checked_mul-clause-fits

@@ -1,9 +1,9 @@
--- The invariant and the measure of the loop of `scan::Scan::blanks`.
+-- The invariant and the measure of the loop of `scan::Scan::more_blanks`.
 use Rattle.std.proofs.Common.{◌≡◌, ℕ, ◌+◌, List, length}
 use Rattle.scan_core.specs.Blanks.{is_blank}
 use Rattle.scan_core.specs.Scanning.{ahead, unseen}
 use Rattle.scan_core.proofs.Scans.{IsAmong}
-use Rattle.scan_core.proofs.scan.Scan.blanks.Given as goal
+use Rattle.scan_core.proofs.scan.Scan.more_blanks.Given as goal
 
 abbrev pub invariant-loop-self : goal.invariant-loop-self
 invariant-loop-self g l = record {

@@ -1,7 +1,7 @@
--- The invariant of the loop of `digits::digits_u64`.
+-- The invariant of the loop of `digits::many_digits`.
 use Rattle.std.proofs.Common.{◌≡◌, ◌^◌, ◌<◌, take}
 use Rattle.scan_core.specs.Digits.{number_of}
-use Rattle.scan_core.proofs.digits.digits_u64.Given as goal
+use Rattle.scan_core.proofs.digits.many_digits.Given as goal
 
 abbrev pub invariant-loop-digit : goal.invariant-loop-digit
 invariant-loop-digit l = record {
