@@ -75,6 +75,7 @@ fn read_style<L: Ledger>(
 }
 
 /// What [`read_counted`] answers, with a counter of its own: `read(Style::Iso, &Looked::new("P1D"))` is the interval of a day.
+#[inline(always)]
 pub fn read(style: Style, text: &Looked<'_>) -> Result<Interval, ParseError>
     ensures answers { Answers style text.now result }
 {
@@ -82,6 +83,7 @@ pub fn read(style: Style, text: &Looked<'_>) -> Result<Interval, ParseError>
 }
 
 /// The same with the counter's ledger.
+#[inline(always)]
 fn read_alone<L: Ledger>(
     style: Style,
     text: &Looked<'_>,
