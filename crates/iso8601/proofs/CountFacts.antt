@@ -14,6 +14,7 @@ use Rattle.iso8601.specs.inside.GrammarParts.{IsSeconds, IsPerhapsClock}
 use Rattle.iso8601.specs.inside.Reading.{number_in, read_mark}
 use Rattle.scan_core.specs.Fronts.{front_digits, after_digits}
 use Rattle.iso8601.specs.inside.TimeReading.{millis_of, read_both}
+use Rattle.iso8601.specs.inside.CountedReading.{read_clock_counts}
 use Rattle.iso8601.specs.inside.DurationReading.{Peeked, with_letter, peek, read_count, read_perhaps, no_seconds, closed_by, read_closed}
 use Rattle.iso8601.specs.inside.DurationReading.{seconds_in, read_seconds, read_clock}
 use Rattle.iso8601.proofs.FieldFacts.{letter_sound}
@@ -240,10 +241,7 @@ seconds_marks other s p c text value (inr d) =
 abbrev IsClockParts : List ℕ → ℕ × (ℕ × (ℕ × ℕ)) → Type 0
 IsClockParts = IsBoth (IsPerhapsCount (codes "H")) (IsBoth (IsPerhapsCount (codes "M")) IsSeconds)
 
-abbrev read_clock_parts : List ℕ → (ℕ × (ℕ × (ℕ × ℕ))) × List ℕ
-read_clock_parts = read_both (read_perhaps 72) (read_both (read_perhaps 77) read_seconds)
-
-clock_parts : Optional IsClockParts read_clock_parts (λ rest. rest ≡ [])
+clock_parts : Optional IsClockParts read_clock_counts (λ rest. rest ≡ [])
 clock_parts =
     let late = both_optional (IsPerhapsCount (codes "M")) IsSeconds (read_perhaps 77) read_seconds (NoCount 77) (λ rest. rest ≡ [])
     (count_optional 77 refl) seconds_optional (seconds_marks 77 refl refl refl) (nothing_left 77) in
@@ -264,7 +262,7 @@ parts_of text v c =
     }
 
 clock_if : (t : Bool) (b : ℕ) (bs : List ℕ) → (t ≡ true → b ≡ 84)
-    → let r : (ℕ × (ℕ × (ℕ × ℕ))) × List ℕ = cond {A = (ℕ × (ℕ × (ℕ × ℕ))) × List ℕ} t (read_clock_parts bs) ((0, (0, (0, 0))), b ∷ bs) in
+    → let r : (ℕ × (ℕ × (ℕ × ℕ))) × List ℕ = cond {A = (ℕ × (ℕ × (ℕ × ℕ))) × List ℕ} t (read_clock_counts bs) ((0, (0, (0, 0))), b ∷ bs) in
     Begins IsPerhapsClock (b ∷ bs) r.0 r.1
 clock_if false b bs is = ([], inl (refl, refl), refl)
 clock_if true b bs is =

@@ -1,9 +1,10 @@
 //! Whether a date's day exists, and the turns to civil dates and times.
-ghost use Rattle.std.specs.Prelude.{◌≡◌, ◌↔◌, ◌+◌, ◌^◌, ◌<◌, IsSome, IfSome, pos, unsigned_abs, ◌+ℤ◌, ◌*ℤ◌, FitsSigned};
+ghost use Rattle.std.specs.Prelude.{◌≡◌, ◌↔◌, ◌+◌, ◌*◌, ◌^◌, ◌<◌, IsSome, IfSome, pos, unsigned_abs, ◌+ℤ◌, ◌-ℤ◌, ◌*ℤ◌, FitsSigned};
 ghost use Rattle.std.specs.Int.{w16, IsInRange};
-ghost use Rattle.jiff.specs.Words.{days_in_year, epoch_day, IsBetween, IsDate, IsIsoWeekDate, IsYear, IsYmd, monday_zero, ordinal};
+ghost use Rattle.jiff.specs.Words.{days_in_year, epoch_day, IsBetween, IsDate, IsEpochDay, IsIsoWeekDate, IsYear, IsYmd, monday_zero, ordinal};
 ghost use Rattle.jiff_core.specs.IsoWeek.{days_from_iso};
 ghost use Rattle.iso8601.specs.Calendar.{day_of, Exists, IsCivilDay};
+ghost use Rattle.iso8601.specs.Moments.{IsOnClock};
 ghost use Rattle.iso8601.specs.inside.Cycles.{IsCycled};
 
 use crate::types::{Date, DateTime, FixedMoment, Time};
@@ -131,6 +132,16 @@ impl Date {
             Date::Ordinal { year, ddd } => ordinal_day(year, ddd),
         }
     }
+
+    /// The number of the day, where 1970-01-01 is 0, and `None` exactly where [`into_naive`](Date::into_naive) is:
+    /// `2015-02-29` has none, and `2023-W06-2` is day 19395.
+    #[inline(always)] // the fields of a date that was just read needn't go through memory
+    pub fn unix_day(&self) -> Option<i32>
+        ensures some { IsSome result ↔ (Exists self.now × IsCivilDay (day_of self.now)) }
+        ensures value { IfSome result (λ day. day ≡ day_of self.now) }
+    {
+        Some(self.into_naive()?.to_plain().to_unix_epoch_day())
+    }
 }
 
 /// The seconds of an offset.
@@ -155,6 +166,29 @@ fn offset_seconds(hours: i32, minutes: i32) -> Option<i32>
     }
 }
 
+/// The milliseconds since midnight of a time that a clock shows.
+fn clock_millis(time: Time) -> Option<u32>
+    ensures some { IsSome result ↔ IsOnClock time }
+    ensures value { IfSome result (λ millis. millis
+        ≡ time.hour * 3_600_000 + time.minute * 60_000 + time.second * 1000 + time.millisecond) }
+{
+    if time.hour > 23 || time.minute > 59 || time.second > 59 || time.millisecond > 999 {
+        return None;
+    }
+    Some(time.hour * 3_600_000 + time.minute * 60_000 + time.second * 1000 + time.millisecond)
+}
+
+/// The milliseconds since 1970 in UTC of a day, milliseconds since midnight, and seconds ahead.
+fn millis_at(day: i32, clock: u32, offset: i32) -> i64
+    requires day { IsEpochDay day }
+    requires clock { clock < 86_400_000 }
+    requires offset { unsigned_abs offset < 86_400 }
+    ensures { result
+        ≡ ((pos 86_400_000 *ℤ day) +ℤ pos clock) -ℤ (pos 1000 *ℤ offset) }
+{
+    86_400_000 * i64::from(day) + i64::from(clock) - 1000 * i64::from(offset)
+}
+
 impl Time {
     ghost use Rattle.std.specs.Prelude.{◌↔◌, IsSome, IfSome};
     ghost use Rattle.iso8601.specs.Moments.{IsCivilTime, IsOnClock};
@@ -177,10 +211,10 @@ impl Time {
 }
 
 impl DateTime {
-    ghost use Rattle.std.specs.Prelude.{◌≡◌, ◌↔◌, IsSome, IfSome};
+    ghost use Rattle.std.specs.Prelude.{◌≡◌, ◌↔◌, ◌+◌, ◌*◌, IsSome, IfSome, pos, ◌+ℤ◌, ◌-ℤ◌, ◌*ℤ◌};
     ghost use Rattle.jiff.specs.Words.{epoch_day};
     ghost use Rattle.iso8601.specs.Calendar.{day_of};
-    ghost use Rattle.iso8601.specs.Moments.{IsCivilTime, IsMoment, IsMomentOf};
+    ghost use Rattle.iso8601.specs.Moments.{IsCivilTime, IsMoment, IsMomentOf, offset_of};
 
     /// The civil date and time on the spot, and the seconds ahead of UTC. `None` exactly where the date or the time has
     /// no civil one, or the offset is 24 hours or more.
@@ -200,6 +234,23 @@ impl DateTime {
             local: civil::DateTime::from_parts(date, time),
             offset_seconds,
         })
+    }
+
+    /// The moment in milliseconds since 1970-01-01T00:00:00Z, and `None` exactly where
+    /// [`into_fixed_offset`](DateTime::into_fixed_offset) is: `2023-02-08T23:40:00+01:23` is 1675894620000.
+    #[inline(always)] // nor those of a date-time
+    pub fn unix_millis(self) -> Option<i64>
+        ensures some { IsSome result ↔ IsMoment self }
+        ensures value { IfSome result (λ millis. millis
+            ≡ ((pos 86_400_000 *ℤ day_of self.date)
+            +ℤ pos (self.time.hour * 3_600_000 + self.time.minute * 60_000
+            + self.time.second * 1000 + self.time.millisecond))
+            -ℤ (pos 1000 *ℤ offset_of self.time)) }
+    {
+        let day = self.date.unix_day()?;
+        let clock = clock_millis(self.time)?;
+        let offset = offset_seconds(self.time.tz_offset_hours, self.time.tz_offset_minutes)?;
+        Some(millis_at(day, clock, offset))
     }
 
     /// The civil date and time of [`into_fixed_offset`](DateTime::into_fixed_offset), and `None` exactly where that is.

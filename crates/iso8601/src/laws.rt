@@ -1,5 +1,6 @@
 //! Laws of dates, times, date-times and durations, each for every value: functions that do nothing.
 ghost use Rattle.std.specs.Prelude.{◌≡◌, ℕ, List, [], ℤ, pos, neg_ℤ, ◌+ℤ◌, ◌≤ℤ◌, ◌↔◌, IsTrue};
+ghost use Rattle.std.specs.Str.{IsAscii};
 ghost use Rattle.jiff_core.specs.Date.{epoch_day};
 ghost use Rattle.jiff_core.specs.DateTime.{civil_nanos};
 ghost use Rattle.jiff_core.specs.declared.civil.date.Date.{Date as CivilDate};
@@ -110,4 +111,11 @@ pub fn defaults_are_zero()
         → ⟦<types::Time as Default>⟧.is_default t.time }
     ensures duration { (d : Duration) → ⟦<types::Duration as Default>⟧.is_default d
         ↔ (d ≡ zero_duration) }
+{}
+
+/// A text that is a date, a date-time or a duration is ASCII: the readers need no test whether it is UTF-8.
+pub fn texts_are_ascii()
+    ensures date { (text : List ℕ) (date : Date) → IsDate text date → IsAscii text }
+    ensures date_time { (text : List ℕ) (t : DateTime) → IsDateTime text t → IsAscii text }
+    ensures duration { (text : List ℕ) (d : Duration) → IsDuration text d → IsAscii text }
 {}

@@ -61,6 +61,7 @@ fn push_year<const CAP: usize>(out: &mut ArrayString<CAP>, year: i32)
 }
 
 /// Appends a date.
+#[inline(always)] // most callers know the kind
 #[tactic(auto, unfolding(crate::specs::Written::date_text))]
 fn push_date<const CAP: usize>(out: &mut ArrayString<CAP>, date: Date)
     requires { array_string_len out.old + 34 ≤ CAP }
@@ -163,7 +164,7 @@ impl Date {
     }
 
     /// Appends what [`Date::text`] answers to a text that has room for 34 bytes more: onto `due ` it makes `due 2015-06-26`.
-    #[inline]
+    #[inline(always)] // the same
     pub fn push_text<const CAP: usize>(&self, out: &mut ArrayString<CAP>)
         requires room { array_string_len out.old + 34 ≤ CAP }
         ensures bytes { out.new.bytes ≡ out.old.bytes ++ date_text self.now }

@@ -38,6 +38,7 @@ fn split_ordinal_day(year: i32, bytes: &[u8]) -> Option<(Date, &[u8])>
 }
 
 /// A day of any kind: where two stand in front, the one with a month is longer.
+#[inline(always)] // an answer of five words would go through memory
 #[tactic(auto, unfolding(crate::specs::inside::Reading::read_day))]
 fn split_day(year: i32, bytes: &[u8]) -> Option<(Date, &[u8])>
     ensures { option_map (λ r. (r.0, r.1.now)) result ≡ read_day year bytes.now }
@@ -52,6 +53,7 @@ fn split_day(year: i32, bytes: &[u8]) -> Option<(Date, &[u8])>
 }
 
 /// The date in front, and what follows it.
+#[inline(always)] // an answer of five words would go through memory
 #[tactic(auto, unfolding(crate::specs::inside::Reading::read_date))]
 pub(crate) fn split_date(bytes: &[u8]) -> Option<(Date, &[u8])>
     ensures { option_map (λ r. (r.0, r.1.now)) result ≡ read_date bytes.now }
