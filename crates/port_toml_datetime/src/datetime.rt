@@ -37,6 +37,14 @@ pub struct Datetime {
 }
 
 impl Datetime {
+    /// Reads a text by its bytes, which may be no UTF-8, as [`FromStr`] reads it: `Datetime::from_ascii(b"07:32:00")`. A text with a
+    /// byte beyond ASCII is no date-time.
+    pub fn from_ascii(date: &[u8]) -> Result<Datetime, DatetimeParseError>
+        ensures { IsReadFrom date.now result }
+    {
+        read(date)
+    }
+
     /// The written text, at most 43 bytes: `1979-05-27T07:32:00.5-07:00`. It takes no memory.
     ///
     /// The parts that are there, with `T` between a date and a time. The text of a value that was
@@ -72,7 +80,7 @@ impl FromStr for Datetime {
     ghost from_str_gives = { IsReadFrom };
 
     fn from_str(date: &str) -> Result<Datetime, DatetimeParseError> {
-        read(date.as_bytes())
+        Datetime::from_ascii(date.as_bytes())
     }
 }
 

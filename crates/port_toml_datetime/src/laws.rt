@@ -2,6 +2,7 @@
 //! that do nothing.
 ghost use Rattle.std.specs.Prelude.{◌≡◌, ◌↔◌, ℕ, List, Result, Ok, IsTrue};
 ghost use Rattle.std.specs.Ordering.{ordering_then};
+ghost use Rattle.std.specs.Str.{IsAscii};
 ghost use Rattle.port_toml_datetime.specs.Checks.{outcome};
 ghost use Rattle.port_toml_datetime.specs.Datetimes.{IsDatetime};
 ghost use Rattle.port_toml_datetime.specs.Faults.{Fault};
@@ -68,4 +69,9 @@ pub fn order_is_by_parts()
         ≡ ordering_then (none_first date_cmp a.date b.date)
         (ordering_then (none_first time_cmp a.time b.time)
         (none_first offset_cmp a.offset b.offset)) }
+{}
+
+/// A text that is a date-time, a date or a time is ASCII: the reader needs no test whether it is UTF-8.
+pub fn texts_are_ascii()
+    ensures { (text : List ℕ) (value : DatetimeValue) → IsDatetime text value → IsAscii text }
 {}
