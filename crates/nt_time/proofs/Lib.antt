@@ -2,3 +2,4 @@
 pub mod CivilLemmas
 pub mod TextLemmas
 pub mod TickLemmas
+pub mod AsciiTexts

@@ -13,11 +13,12 @@ use Rattle.nt_time.specs.Text.{IsTextOf, IsReadFrom}
 
 -- ---- digits, and nothing behind them
 
+pub whole_front : (text : List ℕ) → after_digits text ≡ [] → front_digits text ≡ text
+whole_front text none =
+    sym (append-nil (front_digits text)) ∙ ap (λ (l : List ℕ). front_digits text ++ l) (sym none) ∙ front_and_after text
+
 numeral_of_front : (text : List ℕ) → 0 < length (front_digits text) → after_digits text ≡ [] → IsNumeral 10 text
-numeral_of_front text some none =
-    let whole : front_digits text ≡ text = sym (append-nil (front_digits text)) ∙ ap (λ (l : List ℕ). front_digits text ++ l) (sym none)
-    ∙ front_and_after text in
-    subst (IsNumeral 10) whole (some, front_are_digits text)
+numeral_of_front text some none = subst (IsNumeral 10) (whole_front text none) (some, front_are_digits text)
 
 -- where digits stand in front, the text is a numeral exactly where nothing follows them
 pub some_digits : (text : List ℕ) → 0 < length (front_digits text) → (length (after_digits text) ≡ 0) ↔ IsNumeral 10 text

@@ -3,6 +3,7 @@ ghost use Rattle.std.specs.Prelude.{◌≡◌, ℕ, ◌+◌, ◌-◌, ◌^◌, �
 ghost use Rattle.std.specs.Prelude.{◌↔◌, List, length, Result, Ok, IsTrue, decimal, slice_index};
 ghost use Rattle.std.specs.Int.{w64, to_be_bytes, to_le_bytes, from_be_bytes, from_le_bytes};
 ghost use Rattle.std.specs.Ordering.{nat_cmp, int_cmp};
+ghost use Rattle.std.specs.Str.{IsAscii};
 ghost use Rattle.jiff.specs.Types.{DateTime as CivilDateTime};
 ghost use Rattle.jiff.specs.Words.{civil_nanos};
 ghost use Rattle.nt_time.specs.declared.error.FileTimeRangeErrorKind.{FileTimeRangeErrorKind};
@@ -115,4 +116,9 @@ pub fn equal_refusals_say_the_same()
         → IsTrue (⟦<ParseFileTimeError as PartialEq>⟧.eq a b) ↔ (a ≡ b) }
     ensures civil { (a b : AnyOutOfCivil)
         → IsTrue (⟦<OutOfCivil as PartialEq>⟧.eq a b) ↔ (a ≡ b) }
+{}
+
+/// A text that writes a number is ASCII: the reader needs no test whether it is UTF-8.
+pub fn texts_are_ascii()
+    ensures { (text : List ℕ) (n : ℕ) → IsTextOf text n → IsAscii text }
 {}

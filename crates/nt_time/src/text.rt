@@ -1,11 +1,11 @@
 //! File times as texts: the raw count in decimal.
-ghost use Rattle.std.specs.Prelude.{◌≡◌, ◌↔◌, ℕ, ◌^◌, ◌<◌, Some, decimal, IsTrue};
+ghost use Rattle.std.specs.Prelude.{◌≡◌, Some, IfSome, IfNone, decimal};
 ghost use Rattle.std.specs.Str.Parse.{IsNumeral, without_leading_plus};
-ghost use Rattle.nt_time.specs.Text.{IsTextOf, IsReadFrom};
+ghost use Rattle.nt_time.specs.Text.{IsReadFrom};
 
 use crate::FileTime;
 use crate::error::{ParseFileTimeCause, ParseFileTimeError};
-use scan_core::split_digits;
+use scan_core::{digits_u64, split_digits};
 use std::fmt;
 use std::fmt::Display;
 use std::str::FromStr;
@@ -19,6 +19,26 @@ impl Display for FileTime {
     }
 }
 
+impl FileTime {
+    /// Reads a raw count by the bytes of its text, as [`FromStr`] does: `FileTime::from_ascii(b"+5")` is raw count 5. A text with a byte
+    /// beyond ASCII has a bad digit.
+    pub fn from_ascii(src: &[u8]) -> Result<FileTime, ParseFileTimeError>
+        ensures { IsReadFrom src.now result }
+    {
+        if src.is_empty() {
+            return Err(ParseFileTimeError::new(ParseFileTimeCause::Empty));
+        }
+        // A bad digit behind too many digits is a bad digit: the size comes last.
+        let Some(digits) = numeral(src) else {
+            return Err(ParseFileTimeError::new(ParseFileTimeCause::InvalidDigit));
+        };
+        match digits_u64(digits) {
+            Some(raw) => Ok(FileTime::new(raw)),
+            None => Err(ParseFileTimeError::new(ParseFileTimeCause::Overflow)),
+        }
+    }
+}
+
 /// Reads a raw count: decimal digits, as many as there are, with a `+` before them or without.
 ///
 /// `Empty` exactly for the empty text, `InvalidDigit` exactly for another text that is not so, and
@@ -29,34 +49,24 @@ impl FromStr for FileTime {
     ghost from_str_gives = { IsReadFrom };
 
     fn from_str(src: &str) -> Result<FileTime, ParseFileTimeError> {
-        match src.parse::<u64>() {
-            Ok(raw) => Ok(FileTime::new(raw)),
-            Err(_) => Err(ParseFileTimeError::new(cause_of(src))),
-        }
+        FileTime::from_ascii(src.as_bytes())
     }
 }
 
-/// Why a text is no raw count of 64 bits.
-fn cause_of(text: &str) -> ParseFileTimeCause
-    requires { ¬ ((n : ℕ) × IsTextOf text.now n × (n < 2 ^ 64)) }
-    ensures { IsReadFrom text.now (Err result) }
-{
-    if text.is_empty() {
-        ParseFileTimeCause::Empty
-    } else if is_number(text.as_bytes()) {
-        ParseFileTimeCause::Overflow
-    } else {
-        // A bad digit behind too many digits is a bad digit: the size comes last.
-        ParseFileTimeCause::InvalidDigit
-    }
-}
-
-/// Whether a text is one digit or more, with a plus before them or without.
-fn is_number(text: &[u8]) -> bool
-    ensures { IsTrue result ↔ IsNumeral 10 (without_leading_plus text.now) }
+/// The digits of a text that is one digit or more, with a plus before them or without.
+fn numeral(text: &[u8]) -> Option<&[u8]>
+    ensures found { IfSome result (λ digits. IsNumeral 10 digits.now
+        × (digits.now ≡ without_leading_plus text.now)) }
+    ensures none { IfNone result (¬ IsNumeral 10 (without_leading_plus text.now)) }
 {
     let (digits, rest) = split_digits(without_plus(text));
-    !digits.is_empty() && rest.is_empty()
+    if digits.is_empty() {
+        return None;
+    }
+    if !rest.is_empty() {
+        return None;
+    }
+    Some(digits)
 }
 
 /// A text without the plus at its front.
