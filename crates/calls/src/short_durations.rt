@@ -5,6 +5,7 @@ use crate::small::Small;
 use crate::told::{Answer, printed, text, told};
 use fancy_duration::{
     AsFancyDuration, AsTimes, DurationPart, FancyDuration, FancyError, ParseFancyDuration,
+    StrictError, strict_to_ns,
 };
 use std::alloc::Global;
 use std::time::Duration;
@@ -13,7 +14,7 @@ use std::time::Duration;
 #[derive(Clone, Copy)]
 enum Call {
     ParseToNs,
-    IsFancyText,
+    OfStrict(OfStrict),
     ParseFancyDuration,
     Parse,
     FromStr,
@@ -25,6 +26,14 @@ enum Call {
     FromTimesOfTheGreatest,
     FromTimesThatCarry,
     OfSmall(OfSmall),
+}
+
+/// A call about strict texts.
+#[derive(Clone, Copy)]
+enum OfStrict {
+    IsFancyText,
+    StrictToNs,
+    Message,
 }
 
 /// A call of a type of the user's own.
@@ -46,9 +55,14 @@ enum OfLength {
 }
 
 /// The calls by their names.
-const CALLS: [(&str, Call); 19] = [
+const CALLS: [(&str, Call); 21] = [
     ("parse_to_ns", Call::ParseToNs),
-    ("is_fancy_text", Call::IsFancyText),
+    ("is_fancy_text", Call::OfStrict(OfStrict::IsFancyText)),
+    ("strict_to_ns", Call::OfStrict(OfStrict::StrictToNs)),
+    (
+        "message of a strict text",
+        Call::OfStrict(OfStrict::Message),
+    ),
     ("parse_fancy_duration", Call::ParseFancyDuration),
     ("parse", Call::Parse),
     ("from_str", Call::FromStr),
@@ -74,6 +88,12 @@ const ERRORS: [(&str, FancyError); 2] = [
     ("NotHeld", FancyError::NotHeld),
 ];
 
+/// The refusals of strict texts by their names.
+const STRICT_ERRORS: [(&str, StrictError); 2] = [
+    ("NotStrict", StrictError::NotStrict),
+    ("TooBig", StrictError::TooBig),
+];
+
 /// The parts by their names.
 const PARTS: [(&str, DurationPart); 10] = [
     ("Years", DurationPart::Years),
@@ -92,7 +112,7 @@ const PARTS: [(&str, DurationPart); 10] = [
 pub fn answer(alloc: Global, call: &str, arguments: &str) -> Answer {
     match named(&CALLS, call)? {
         Call::ParseToNs => told(alloc, &FancyDuration::<Duration>::parse_to_ns(arguments)),
-        Call::IsFancyText => told(alloc, &FancyDuration::<Duration>::is_fancy_text(arguments)),
+        Call::OfStrict(call) => of_strict(alloc, call, arguments),
         Call::ParseFancyDuration => {
             let parsed = Duration::parse_fancy_duration(arguments);
             told(alloc, &parsed.map(|length| length.as_times()))
@@ -116,6 +136,17 @@ pub fn answer(alloc: Global, call: &str, arguments: &str) -> Answer {
             told(alloc, &carried.as_times())
         }
         Call::OfSmall(call) => of_small(alloc, call, arguments),
+    }
+}
+
+/// What a call about strict texts answers.
+fn of_strict(alloc: Global, call: OfStrict, arguments: &str) -> Answer {
+    match call {
+        OfStrict::IsFancyText => {
+            told(alloc, &FancyDuration::<Duration>::is_fancy_text(arguments))
+        }
+        OfStrict::StrictToNs => told(alloc, &strict_to_ns(arguments.as_bytes())),
+        OfStrict::Message => printed(alloc, &named(&STRICT_ERRORS, arguments)?),
     }
 }
 

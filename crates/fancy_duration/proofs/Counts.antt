@@ -32,11 +32,31 @@ unit_some Milliseconds = omega arith
 unit_some Microseconds = omega arith
 unit_some Nanoseconds = omega arith
 
+letter_first : (part : DurationPart) → begins_by is_letter (unit_of part) ≡ true
+letter_first Years = refl
+letter_first Months = refl
+letter_first Weeks = refl
+letter_first Days = refl
+letter_first Hours = refl
+letter_first Minutes = refl
+letter_first Seconds = refl
+letter_first Milliseconds = refl
+letter_first Microseconds = refl
+letter_first Nanoseconds = refl
+
+-- a text that begins as the name of a part does begins by a letter
+pub named_letter : (text unit : List ℕ) (part : DurationPart) → begins_by is_letter unit ≡ begins_by is_letter text → unit ≡ unit_of part
+    → begins_by is_letter text ≡ true
+named_letter text unit part first named = sym first ∙ ap (begins_by is_letter) named ∙ letter_first part
+
 digit_not_letter : (d : ℕ) → is_digit d ≡ true → is_letter d ≡ false
 digit_not_letter d e = grind (arith, nat_tests)
 
 digit_not_blank : (d : ℕ) → is_digit d ≡ true → is_blank d ≡ false
 digit_not_blank d e = grind (arith, nat_tests)
+
+pub blank_not_digit : (b : ℕ) → is_blank b ≡ true → is_digit b ≡ false
+blank_not_digit b e = grind (arith, nat_tests)
 
 blank_not_letter : (b : ℕ) → is_blank b ≡ true → is_letter b ≡ false
 blank_not_letter b e = grind (arith, nat_tests)
@@ -119,7 +139,7 @@ counts_other text tail unit e u none (part ∷ parts, h) =
     let splits = count_splits parts text h.1 h.0 part h.2 h.3 h.4 in
     absurd (none part (u ∙ ap unit_front e ∙ splits.unit))
 
-unit_letter : (part : DurationPart) (bs : List ℕ) → unit_front bs ≡ unit_of part
+pub unit_letter : (part : DurationPart) (bs : List ℕ) → unit_front bs ≡ unit_of part
     → begins_by is_letter bs ≡ true
 unit_letter part bs e = unit_front_some bs (λ none. absurd (omega (arith, unit_some part, ap length e)))
 

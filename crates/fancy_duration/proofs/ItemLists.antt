@@ -74,7 +74,7 @@ pub begins_without : (test : ℕ → Bool) (bs : List ℕ) → begins_by test bs
 begins_without test [] h = tt
 begins_without test (b ∷ bs) h = h
 
-letters_no_digit : (rest : List ℕ) → begins_by is_letter rest ≡ true → BeginsWithout is_digit rest
+pub letters_no_digit : (rest : List ℕ) → begins_by is_letter rest ≡ true → BeginsWithout is_digit rest
 letters_no_digit [] h = tt
 letters_no_digit (b ∷ bs) h = letter_not_digit b h
 

@@ -8,6 +8,7 @@ pub mod Breakdowns
 pub mod WrittenSteps
 pub mod Writers
 pub mod Counts
+pub mod FewCounts
 pub mod Spaces
 pub mod Twice
 pub mod Texts
@@ -16,3 +17,4 @@ pub mod SharedTexts
 pub mod StrictTexts
 pub mod MonthsAlone
 pub mod SpelledTexts
+pub mod AsciiTexts

@@ -2,9 +2,8 @@
 use Rattle.std.proofs.Common.{◌≡◌, ℕ, suc, ◌+◌, ◌*◌, ◌<◌, Bool, true, false, nat_le, List, [], ◌∷◌, ◌++◌, length, map, refl, sym, ◌∙◌, ap}
 use Rattle.std.proofs.Common.{subst, arith, append_assoc, inl, inr}
 use Rattle.std.specs.Prelude.{if◌then◌else◌}
-use Rattle.std.proofs.lemmas.Bool.Decides.{nat_tests}
 use Rattle.std.specs.List.{list_all, list_any}
-use Rattle.std.specs.Char.{is_ascii_digit as is_digit, is_ascii_alphabetic as is_letter}
+use Rattle.std.specs.Char.{is_ascii_alphabetic as is_letter}
 use Rattle.std.proofs.lemmas.Bool.{and_parts}
 use Rattle.scan_core.specs.Blanks.{is_blank}
 use Rattle.scan_core.specs.Digits.{number_of}
@@ -18,7 +17,7 @@ use Rattle.fancy_duration.specs.Sums.{SumsTo, is_long, long_follows, can_be, wei
 use Rattle.fancy_duration.specs.Strict.{IsCount, IsStrict}
 use Rattle.fancy_duration.specs.Spelled.{AreMeant}
 use Rattle.fancy_duration.specs.Spelled.{LengthCount, IsLengthCount, nanos_of_counts, SpellsLength}
-use Rattle.fancy_duration.proofs.Counts.{is_unit-unit_of, begins_letter-blanks, digits_begin}
+use Rattle.fancy_duration.proofs.Counts.{is_unit-unit_of, begins_letter-blanks, blank_not_digit, digits_begin}
 use Rattle.fancy_duration.proofs.ItemLists.{add_other}
 use Rattle.fancy_duration.proofs.Totals.{sum_unique}
 
@@ -26,9 +25,6 @@ use Rattle.fancy_duration.proofs.Totals.{sum_unique}
 
 abbrev item_of : LengthCount → Item
 item_of c = record { digits = c.digits; unit = unit_of c.part }
-
-blank_not_digit : (b : ℕ) → is_blank b ≡ true → is_digit b ≡ false
-blank_not_digit b e = grind (arith, nat_tests)
 
 add_blanks : (blanks rest : List ℕ) (items : List Item) → list_all is_blank blanks ≡ true → HasItems rest items
     → HasItems (blanks ++ rest) items

@@ -49,7 +49,7 @@ impl AsTimes for Duration {
     }
 
     fn parse_to_duration(s: &str) -> Result<Self, FancyError> {
-        match read_times(s) {
+        match read_times(s.as_bytes()) {
             Ok((secs, nanos)) => Ok(Duration::new(secs, nanos as u32)),
             Err(error) => Err(error),
         }

@@ -11,3 +11,14 @@ pub enum FancyError {
     #[error("duration is not held by this type")]
     NotHeld,
 }
+
+/// Why a text isn't read as a strict one.
+#[derive(Clone, Copy, Debug, PartialEq, Eq, Error)]
+pub enum StrictError {
+    /// The text isn't a strict one.
+    #[error("text is not counts and their units alone")]
+    NotStrict,
+    /// The sum of the text's counts has more than `u64::MAX` whole seconds.
+    #[error("duration is too big")]
+    TooBig,
+}

@@ -79,7 +79,7 @@ impl<D: AsTimes + Copy> FancyDuration<D> {
         ensures too_big { IsErrOf result FancyError.TooBig ↔ IsTooBig s.now }
         ensures held { result ≢ Err FancyError.NotHeld }
     {
-        read_times(s)
+        read_times(s.as_bytes())
     }
 
     /// The written text, of at most 96 bytes. It takes no memory.
@@ -135,7 +135,7 @@ impl<D: AsTimes + Copy> FancyDuration<D> {
     pub fn is_fancy_text(s: &str) -> bool
         ensures { IsTrue result ↔ IsStrict s.now }
     {
-        is_strict(s)
+        is_strict(s.as_bytes())
     }
 
     /// The length in nanoseconds.

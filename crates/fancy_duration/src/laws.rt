@@ -3,6 +3,7 @@
 ghost use Rattle.std.specs.Prelude.{◌≡◌, ◌≢◌, ℕ, ◌*◌, ◌<◌, ◌^◌, ◌↔◌, List, IsTrue};
 ghost use Rattle.std.specs.Duration.{as_nanos};
 ghost use Rattle.std.specs.Ordering.{nat_cmp};
+ghost use Rattle.std.specs.Str.{IsAscii};
 ghost use Rattle.std.specs.declared.time.Duration.{Duration};
 ghost use Rattle.fancy_duration.specs.declared.error.FancyError.{FancyError as AnyError};
 ghost use Rattle.fancy_duration.specs.declared.fancy.FancyDuration.{FancyDuration as Wrapped};
@@ -102,4 +103,9 @@ pub fn equal_refusals_say_the_same()
 /// Short durations are equal where the wrapped ones are.
 pub fn equality_is_that_of_the_wrapped<D: AsTimes + Copy + PartialEq>()
     ensures { (a b : Wrapped D) → ⟦<FancyDuration<D> as PartialEq>⟧.eq a b ≡ D.eq a.0 b.0 }
+{}
+
+/// A text that spells a length is ASCII: a reader of strict texts needs no test whether they are UTF-8.
+pub fn texts_are_ascii()
+    ensures { (text : List ℕ) (nanos : ℕ) → SpellsLength text nanos → IsAscii text }
 {}

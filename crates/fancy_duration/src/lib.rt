@@ -10,7 +10,8 @@
 //! one text.
 //!
 //! A reader passes over what isn't an item, so `1.5h` is 5 hours and `1 hour` no time at all.
-//! [`FancyDuration::is_fancy_text`] tells the texts that are counts with their units and nothing else.
+//! [`FancyDuration::is_fancy_text`] tells the texts that are counts with their units and nothing else, and
+//! [`strict_to_ns`] reads these alone.
 //!
 //! [`FancyDuration`] wraps any type that has seconds and nanoseconds ([`AsTimes`]), as std's `Duration`.
 #![tactic(auto)]
@@ -28,8 +29,9 @@ mod traits;
 mod written;
 
 pub use as_times::AsTimes;
-pub use error::FancyError;
+pub use error::{FancyError, StrictError};
 pub use fancy::FancyDuration;
 pub use part::DurationPart;
 pub use scan_core::Short;
+pub use strict::strict_to_ns;
 pub use traits::{AsFancyDuration, ParseFancyDuration};
