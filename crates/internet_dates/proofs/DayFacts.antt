@@ -1,6 +1,6 @@
 -- The days of years from 0 to 9999 are civil days, and a day has one date.
 use Rattle.std.proofs.Common.{◌≡◌, ℕ, ◌+◌, ◌*◌, ◌<◌, ◌≤◌, Option, Some, None, refl, sym, ◌∙◌, ap, subst, arith, to_z, of_z}
-use Rattle.std.specs.Prelude.{◌↔◌, ℤ, pos, neg_ℤ, ◌+ℤ◌, ◌-ℤ◌, ◌*ℤ◌, ◌<ℤ◌, ◌≤ℤ◌, IfSome, IsSome}
+use Rattle.std.specs.Prelude.{ℤ, pos, ◌+ℤ◌, ◌-ℤ◌, ◌*ℤ◌, ◌<ℤ◌, ◌≤ℤ◌, IfSome, IsSome}
 use Rattle.std.specs.Int.{int_div_euclid, int_rem_euclid, w16}
 use Rattle.std.proofs.lemmas.Int.{ints}
 use Rattle.jiff_core.specs.Calendar.{IsYear, IsEpochDay, days_in_month as civil_days_in_month}
@@ -9,7 +9,7 @@ use Rattle.jiff_core.specs.declared.civil.date.Date.{Date as CivilDate}
 use Rattle.jiff_core.proofs.DateLemmas.{epoch_day_range, epoch_day_injective}
 use Rattle.jiff_core.proofs.SignedLemmas.{signed_arith}
 use Rattle.scan_core.specs.Calendar.{days_in_month}
-use Rattle.iso8601.specs.Calendar.{after_monday, day_of, Exists, IsCivilDay}
+use Rattle.iso8601.specs.Calendar.{after_monday, day_of, Exists}
 use Rattle.iso8601.specs.declared.types.Date.TheVariants.{YMD}
 use Rattle.internet_dates.specs.DateTimes.{number_of_day, clock_of, IsRealMoment, IsNamedDateAt}
 use Rattle.internet_dates.specs.declared.date_time.DateTime.{DateTime}
@@ -37,9 +37,6 @@ SameDays = (d : CivilDate) → day_of (YMD d.year d.month d.day) ≡ epoch_day d
 abbrev pub AreThere : Type 0
 AreThere = (d : CivilDate) → Exists (YMD d.year d.month d.day)
 
-abbrev pub AreCivil : Type 0
-AreCivil = (day : ℤ) → IsCivilDay day ↔ ((neg_ℤ (pos 4_371_587) ≤ℤ day) × (day ≤ℤ pos 2_932_896))
-
 civil_day : SameDays → (y m d : ℕ) (most : y ≤ 9999) (e : Exists (YMD (pos y) m d))
     → day_of (YMD (pos y) m d) ≡ epoch_day (civil_of y m d most e)
 unfolding civil_of
@@ -47,13 +44,6 @@ civil_day days y m d most e = days (civil_of y m d most e)
 
 pub in_range : SameDays → (y m d : ℕ) → y ≤ 9999 → Exists (YMD (pos y) m d) → IsEpochDay (day_of (YMD (pos y) m d))
 in_range days y m d most e = subst IsEpochDay (sym (civil_day days y m d most e)) (epoch_day_range (civil_of y m d most e))
-
-pub is_civil : SameDays → AreCivil → (y m d : ℕ) → y ≤ 9999 → Exists (YMD (pos y) m d) → IsCivilDay (day_of (YMD (pos y) m d))
-is_civil days civil y m d most e = (civil (day_of (YMD (pos y) m d))).1 (in_range days y m d most e)
-
-pub no_civil : SameDays → AreCivil → (y m d : ℕ) → (Exists (YMD (pos y) m d) × IsCivilDay (day_of (YMD (pos y) m d)) → ⊥)
-    → (y ≤ 9999) × Exists (YMD (pos y) m d) → ⊥
-no_civil days civil y m d isnt h = isnt (h.1, is_civil days civil y m d h.0 h.1)
 
 pub less : (a b : ℤ) → (a ≤ℤ b → ⊥) → b <ℤ a
 less a b isnt = grind (arith, ints)

@@ -8,3 +8,4 @@ pub mod MailReading
 pub mod WrittenFacts
 pub mod ReadBack
 pub mod Judging
+pub mod AsciiTexts

@@ -1,12 +1,13 @@
 -- Dates of mail are read: what is read is one, and each is read.
 use Rattle.std.proofs.Common.{◌≡◌, ℕ, ◌+◌, ◌*◌, ◌⊎◌, ◌||◌, ◌==◌, Bool, true, false, cond, ℤ, pos, List, [], ◌∷◌, ◌++◌, codes, get_or}
 use Rattle.std.proofs.Common.{Option, Some, None, refl, sym, ◌∙◌, ap, subst, append_assoc, inl, inr, arith}
-use Rattle.std.specs.Prelude.{option_map, if◌then◌else◌}
+use Rattle.std.specs.Prelude.{option_map}
 use Rattle.std.proofs.lemmas.Bool.{eqb-true}
 use Rattle.std.proofs.lemmas.Option.{cond_some, some_pair_parts, option_and_then_some}
 use Rattle.scan_core.specs.Digits.{AreDigits}
 use Rattle.scan_core.specs.Fields.{IsField}
 use Rattle.scan_core.specs.Fronts.{leading, behind, BeginsWithout}
+use Rattle.scan_core.specs.Number.{sign_text}
 use Rattle.scan_core.specs.Shares.{signed}
 use Rattle.scan_core.proofs.DigitFacts.{test_from_digit}
 use Rattle.scan_core.proofs.FrontFacts.{behind_of, leading_passes, leading_and_behind}
@@ -125,7 +126,7 @@ numeric_exact negative h m rest hour minute f g =
     rw (zone_joins h m rest, two_exact 0 24 h (m ++ rest) hour f, two_exact 0 59 m rest minute g) refl
 
 numeric_sound : (negative : Bool) (bytes rest : List ℕ) (offset : ℤ) → read_numeric negative bytes ≡ Some (offset, rest)
-    → (text : List ℕ) × IsNumericZone ((if negative then codes "-" else codes "+") ++ text) offset × (bytes ≡ text ++ rest)
+    → (text : List ℕ) × IsNumericZone (sign_text negative ++ text) offset × (bytes ≡ text ++ rest)
 unfolding read_numeric
 numeric_sound negative bytes rest offset h =
     option_and_then_some _ _ _ h (λ x found a. option_and_then_some _ _ _ a (λ y found_minute ready.
@@ -151,7 +152,7 @@ numeric_sound negative bytes rest offset h =
     )))
 
 signed_zone : (negative : Bool) (h m rest : List ℕ) (hour minute : ℕ) → IsField 2 0 24 h hour → IsField 2 0 59 m minute
-    → read_zone (((if negative then codes "-" else codes "+") ++ (h ++ m)) ++ rest) ≡ Some (signed negative (60 * hour + minute), rest)
+    → read_zone ((sign_text negative ++ (h ++ m)) ++ rest) ≡ Some (signed negative (60 * hour + minute), rest)
 signed_zone true h m rest hour minute f g = numeric_exact true h m rest hour minute f g
 signed_zone false h m rest hour minute f g = numeric_exact false h m rest hour minute f g
 

@@ -1,9 +1,9 @@
 -- Dates of mail: RFC 5322, section 3.3, with the names of zones of section 4.3, but for those of one letter. One blank stands in each
 -- place, no line is folded, years have four digits, the hours of a zone go to 24, and one comment may stand, at the end.
 use Rattle.std.specs.Prelude.{◌≡◌, ◌⊎◌, ℕ, ◌+◌, ◌*◌, Bool, true, ◌&&◌, ◌==◌, not, nat_le, ℤ, pos, List, [], ◌++◌, codes, Option, Some, None}
-use Rattle.std.specs.Prelude.{if◌then◌else◌}
 use Rattle.std.specs.List.{list_all}
 use Rattle.scan_core.specs.Fields.{IsField}
+use Rattle.scan_core.specs.Number.{sign_text}
 use Rattle.scan_core.specs.Shares.{signed}
 use Rattle.internet_dates.specs.Fields.{IsFullClock, IsShortClock}
 use Rattle.internet_dates.specs.Names.{IsDayName, IsMonthName, IsZoneName}
@@ -25,7 +25,7 @@ pub record IsNumericZone (text : List ℕ) (offset : ℤ) : Type 0 where
   pub minute : ℕ
   pub hours : IsField 2 0 24 hour_text hour
   pub minutes : IsField 2 0 59 minute_text minute
-  pub joined : text ≡ (if negative then codes "-" else codes "+") ++ (hour_text ++ minute_text)
+  pub joined : text ≡ sign_text negative ++ (hour_text ++ minute_text)
   pub value : offset ≡ signed negative (60 * hour + minute)
 
 -- a zone by numbers or by name

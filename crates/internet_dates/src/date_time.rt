@@ -8,7 +8,6 @@ ghost use Rattle.iso8601.specs.declared.types.Date.TheVariants.{YMD};
 
 use crate::error::DateError;
 use crate::fields::Clock;
-use iso8601::Date;
 use jiff_core::civil;
 
 /// A date and a time of day as they are written, whether or not there is such a moment: `seconds` tells.
@@ -32,14 +31,18 @@ pub struct DateTime {
     pub offset: i16,
 }
 
-/// A date by year, month and day.
-fn calendar_date(year: u16, month: u8, day: u8) -> Date
-    ensures { result ≡ YMD (pos year) month day }
+/// The civil day of a year from 0 to 9999; None where the calendar has no such day.
+#[inline(always)]
+fn civil_day(year: u16, month: u8, day: u8) -> Option<civil::Date>
+    requires { year ≤ 9999 }
+    ensures some { IsSome result ↔ Exists (YMD (pos year) month day) }
+    ensures value { IfSome result
+        (λ civil. (civil.year ≡ pos year) × (civil.month ≡ month) × (civil.day ≡ day)) }
 {
-    Date::YMD {
-        year: i32::from(year),
-        month: u32::from(month),
-        day: u32::from(day),
+    // No month and no day of a month is 99.
+    match civil::Date::new(year as i16, month.min(99) as i8, day.min(99) as i8) {
+        Ok(civil) => Some(civil),
+        Err(_) => None,
     }
 }
 
@@ -50,16 +53,18 @@ fn day_number(year: u16, month: u8, day: u8) -> Option<i32>
     ensures value { IfSome result (λ n. n ≡ day_of (YMD (pos year) month day)) }
 {
     iso8601::laws::civil_dates_are_calendar_dates();
-    iso8601::laws::years_and_weeks_follow_each_other();
     if year > 9999 {
         return None;
     }
-    let civil = calendar_date(year, month, day).into_naive()?;
-    Some(civil.to_plain().to_unix_epoch_day())
+    match civil_day(year, month, day) {
+        Some(civil) => Some(civil.to_unix_epoch_day()),
+        None => None,
+    }
 }
 
 /// The day of the week, 0 for Monday.
 #[tactic(auto, unfolding(iso8601::specs::Calendar::after_monday))]
+#[inline(always)]
 fn weekday_of(day: i64) -> u8
     requires { IsWithin (10 ^ 15) day }
     ensures { pos result ≡ after_monday day }
@@ -68,6 +73,7 @@ fn weekday_of(day: i64) -> u8
 }
 
 /// Whether the name that stands is the day's.
+#[inline(always)]
 fn is_named(weekday: Option<u8>, day: i32) -> bool
     ensures { IsTrue result ↔ IfSome weekday (λ weekday. pos weekday ≡ after_monday day) }
 {
@@ -78,6 +84,7 @@ fn is_named(weekday: Option<u8>, day: i32) -> bool
 }
 
 /// Whether a clock shows the time.
+#[inline(always)]
 fn is_shown(hour: u8, minute: u8, second: u8) -> bool
     ensures { IsTrue result ↔ ((hour < 24) × (minute < 60) × (second < 60)) }
 {
@@ -85,13 +92,15 @@ fn is_shown(hour: u8, minute: u8, second: u8) -> bool
 }
 
 /// Whether an offset in minutes is less than a day.
+#[inline(always)]
 fn is_offset(minutes: i16) -> bool
     ensures { IsTrue result ↔ (unsigned_abs minutes < 1440) }
 {
-    minutes.unsigned_abs() < 1440
+    -1440 < minutes && minutes < 1440
 }
 
 /// The seconds since midnight.
+#[inline(always)]
 fn clock_of(hour: u8, minute: u8, second: u8) -> u32
     ensures { result ≡ (hour * 60 + minute) * 60 + second }
 {
@@ -99,6 +108,7 @@ fn clock_of(hour: u8, minute: u8, second: u8) -> u32
 }
 
 /// The seconds since 1970 in UTC.
+#[inline(always)]
 fn seconds_at(day: i32, clock: u32, offset: i16) -> i64
     ensures { result ≡ (day *ℤ pos 86_400 +ℤ pos clock) -ℤ offset *ℤ pos 60 }
 {
@@ -106,6 +116,7 @@ fn seconds_at(day: i32, clock: u32, offset: i16) -> i64
 }
 
 /// A year from 0 on.
+#[inline(always)]
 fn written_year(year: i16) -> Option<u16>
     ensures some { IsSome result ↔ (pos 0 ≤ℤ year) }
     ensures value { IfSome result (λ y. pos y ≡ year) }
@@ -114,6 +125,7 @@ fn written_year(year: i16) -> Option<u16>
 }
 
 /// The year, the month and the day with this number, in a year from `first` on to 9999.
+#[inline(always)]
 fn date_at(number: i64, first: u16) -> Option<(u16, u8, u8)>
     ensures real { IfSome result (λ r. IsDay first number r.0 r.1 r.2) }
     ensures none { IfNone result ((y m d : ℕ) → ¬ (IsDay first number y m d)) }
@@ -132,6 +144,7 @@ fn date_at(number: i64, first: u16) -> Option<(u16, u8, u8)>
 }
 
 /// The number of a day, and the seconds since its midnight.
+#[inline(always)]
 fn split_seconds(seconds: i64) -> (i64, u32)
     ensures day { result.0 ≡ int_div_euclid seconds (pos 86_400) }
     ensures clock { pos result.1 ≡ int_rem_euclid seconds (pos 86_400) }
@@ -145,6 +158,7 @@ fn split_seconds(seconds: i64) -> (i64, u32)
 }
 
 /// The time so many seconds after midnight.
+#[inline(always)]
 fn time_of(clock: u32) -> Clock
     requires { clock < 86_400 }
     ensures same { (result.hour * 60 + result.minute) * 60 + result.second ≡ clock }
@@ -166,9 +180,19 @@ impl DateTime {
     /// of another day, no clock shows the time, as 24:00 or a second 60, or the offset is a day or more.
     ///
     /// `Sun, 06 Nov 1994 08:49:37 GMT` is 784111777.
+    #[inline(always)]
     pub fn seconds(self) -> Option<i64>
         ensures some { IsSome result ↔ IsRealMoment self }
         ensures value { IfSome result (λ seconds. seconds ≡ seconds_of self) }
+    {
+        self.moment()
+    }
+
+    /// The same of a date that stands where it is, without a copy.
+    #[inline(always)]
+    fn moment(&self) -> Option<i64>
+        ensures some { IsSome result ↔ IsRealMoment self.now }
+        ensures value { IfSome result (λ seconds. seconds ≡ seconds_of self.now) }
     {
         let day = day_number(self.year, self.month, self.day)?;
         if !is_named(self.weekday, day) {
@@ -186,14 +210,15 @@ impl DateTime {
 
     /// The moment of fields whose year is one from `first` on.
     #[inline(always)]
-    pub(crate) fn judged(self, first: u16) -> Result<i64, DateError>
+    pub(crate) fn judged(&self, first: u16) -> Result<i64, DateError>
         ensures syntax { result ≢ Err DateError.Syntax }
-        ensures ok { IfOk result (λ seconds. IsRealMoment self × (first ≤ self.year)
-            × (seconds ≡ seconds_of self)) }
-        ensures unreal { result ≡ Err DateError.NoSuchMoment → IsRealMoment self → ⊥ }
-        ensures range { result ≡ Err DateError.Range → IsRealMoment self × (self.year < first) }
+        ensures ok { IfOk result (λ seconds. IsRealMoment self.now × (first ≤ self.now.year)
+            × (seconds ≡ seconds_of self.now)) }
+        ensures unreal { result ≡ Err DateError.NoSuchMoment → IsRealMoment self.now → ⊥ }
+        ensures range { result ≡ Err DateError.Range
+            → IsRealMoment self.now × (self.now.year < first) }
     {
-        match self.seconds() {
+        match self.moment() {
             Some(seconds) => {
                 if self.year < first {
                     Err(DateError::Range)
@@ -207,6 +232,7 @@ impl DateTime {
 
     /// The date and the time in UTC of so many seconds since 1970-01-01, with the day's name, or None exactly where the year isn't from
     /// `first` to 9999.
+    #[inline(always)]
     pub fn at(seconds: i64, first: u16) -> Option<DateTime>
         ensures found { IfSome result (λ t. IsNamedDateAt first seconds t) }
         ensures none { IfNone result ((t : Fields) → ¬ (IsNamedDateAt first seconds t)) }

@@ -1,5 +1,5 @@
 //! The small readers at the front of a text.
-ghost use Rattle.std.specs.Prelude.{◌≡◌, option_map};
+ghost use Rattle.std.specs.Prelude.{◌≡◌, ◌≤◌, option_map};
 ghost use Rattle.internet_dates.specs.inside.Reading.{four_number, read_clock, read_four, read_mark, read_pair, read_two, read_year, two_number};
 
 /// A time of day by its fields.
@@ -25,20 +25,22 @@ pub(crate) fn strip(mark: u8, bytes: &[u8]) -> Option<&[u8]>
 #[inline(always)]
 #[tactic(auto, unfolding(crate::specs::inside::Reading::two_number))]
 pub(crate) fn two_number(a: u8, b: u8, lo: u8, hi: u8) -> Option<u8>
+    requires { hi ≤ 99 }
     ensures { result ≡ two_number lo hi a b }
 {
-    if a.is_ascii_digit() && b.is_ascii_digit() {
-        let number = 10 * (a - b'0') + (b - b'0');
-        if lo <= number && number <= hi {
-            return Some(number);
-        }
+    // 528 is what this is of two zeros. Behind a digit, the range leaves digits alone in the first place.
+    let number = 10 * u32::from(a) + u32::from(b);
+    if b.is_ascii_digit() && 528 + u32::from(lo) <= number && number <= 528 + u32::from(hi) {
+        Some((number - 528) as u8)
+    } else {
+        None
     }
-    None
 }
 
 /// The number of the two digits in front, and what follows them.
 #[inline(always)]
 pub(crate) fn split_two(bytes: &[u8], lo: u8, hi: u8) -> Option<(u8, &[u8])>
+    requires { hi ≤ 99 }
     ensures { option_map (λ r. (r.0, r.1.now)) result ≡ read_two lo hi bytes.now }
 {
     match bytes {
@@ -51,6 +53,7 @@ pub(crate) fn split_two(bytes: &[u8], lo: u8, hi: u8) -> Option<(u8, &[u8])>
 #[inline(always)]
 #[tactic(auto, unfolding(crate::specs::inside::Reading::read_pair))]
 pub(crate) fn split_pair(mark: u8, bytes: &[u8], lo: u8, hi: u8) -> Option<(u8, &[u8])>
+    requires { hi ≤ 99 }
     ensures { option_map (λ r. (r.0, r.1.now)) result ≡ read_pair mark lo hi bytes.now }
 {
     split_two(strip(mark, bytes)?, lo, hi)
@@ -58,16 +61,13 @@ pub(crate) fn split_pair(mark: u8, bytes: &[u8], lo: u8, hi: u8) -> Option<(u8, 
 
 /// The number of four digits.
 #[inline(always)]
-#[tactic(auto, unfolding(crate::specs::inside::Reading::four_number))]
+#[tactic(auto, unfolding(crate::specs::inside::Reading::four_number, crate::specs::inside::Reading::two_number))]
 fn four_number(a: u8, b: u8, c: u8, d: u8) -> Option<u16>
     ensures { result ≡ four_number a b c d }
 {
-    if a.is_ascii_digit() && b.is_ascii_digit() && c.is_ascii_digit() && d.is_ascii_digit() {
-        let front = 1000 * u16::from(a - b'0') + 100 * u16::from(b - b'0');
-        Some(front + 10 * u16::from(c - b'0') + u16::from(d - b'0'))
-    } else {
-        None
-    }
+    let front = two_number(a, b, 0, 99)?;
+    let back = two_number(c, d, 0, 99)?;
+    Some(100 * u16::from(front) + u16::from(back))
 }
 
 /// The number of the four digits in front, and what follows them.

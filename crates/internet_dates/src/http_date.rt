@@ -29,23 +29,25 @@ fn is_gmt(bytes: &[u8]) -> bool
 
 /// An IMF-fixdate, from behind the comma.
 #[inline(always)]
-#[tactic(auto, unfolding(crate::specs::inside::Reading::read_fixdate))]
+#[tactic(auto, unfolding(crate::specs::inside::Reading::read_fixdate, crate::specs::inside::Reading::read_clock))]
 fn read_fixdate(weekday: u8, bytes: &[u8]) -> Option<DateTime>
     ensures { result ≡ read_fixdate weekday bytes.now }
 {
     let (day, rest) = split_pair(b' ', bytes, 1, 31)?;
     let (month, rest) = split_month(rest)?;
     let (year, rest) = split_year(rest)?;
-    let (clock, rest) = split_clock(rest)?;
+    let (hour, rest) = split_pair(b' ', rest, 0, 24)?;
+    let (minute, rest) = split_pair(b':', rest, 0, 59)?;
+    let (second, rest) = split_pair(b':', rest, 0, 60)?;
     if is_gmt(rest) {
         Some(DateTime {
             weekday: Some(weekday),
             year,
             month,
             day,
-            hour: clock.hour,
-            minute: clock.minute,
-            second: clock.second,
+            hour,
+            minute,
+            second,
             offset: 0,
         })
     } else {
@@ -105,6 +107,7 @@ fn read_asctime(weekday: u8, bytes: &[u8]) -> Option<DateTime>
 
 /// A date of either form: a comma behind the name of the day tells them apart.
 #[tactic(auto, unfolding(crate::specs::inside::Reading::read_http_date))]
+#[inline(always)]
 fn read_fields(text: &[u8]) -> Option<DateTime>
     ensures { result ≡ read_http_date text.now }
 {
@@ -133,7 +136,28 @@ pub fn fields(text: &[u8]) -> Option<DateTime>
 pub fn read(text: &[u8]) -> Result<i64, DateError>
     ensures { IsRead IsHttpDate 0 text.now result }
 {
-    match fields(text) {
+    // Of an IMF-fixdate this one test of the length stands for those of all fields.
+    if text.len() == 29 {
+        moment_of(text)
+    } else {
+        read_other(text)
+    }
+}
+
+/// The same in a function of its own.
+#[inline(never)]
+fn read_other(text: &[u8]) -> Result<i64, DateError>
+    ensures { IsRead IsHttpDate 0 text.now result }
+{
+    moment_of(text)
+}
+
+/// The same at each place where it is called.
+#[inline(always)]
+fn moment_of(text: &[u8]) -> Result<i64, DateError>
+    ensures { IsRead IsHttpDate 0 text.now result }
+{
+    match read_fields(text) {
         Some(t) => t.judged(0),
         None => Err(DateError::Syntax),
     }
@@ -141,6 +165,7 @@ pub fn read(text: &[u8]) -> Result<i64, DateError>
 
 /// Appends an IMF-fixdate of 29 bytes, such as `Sun, 06 Nov 1994 08:49:37 GMT`, of a real date in UTC that has the name of its day.
 /// Its offset is taken to be 0 and isn't looked at.
+#[inline(always)]
 pub fn push_text<const CAP: usize>(out: &mut ArrayString<CAP>, t: &DateTime)
     requires real { IsRealMoment t.now }
     requires named { IsSome t.now.weekday }

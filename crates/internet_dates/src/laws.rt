@@ -1,5 +1,6 @@
 //! Laws of dates, each for every value: functions that do nothing.
 ghost use Rattle.std.specs.Prelude.{◌≡◌, ℕ, List, ℤ, pos, IsSome, Ok, Result};
+ghost use Rattle.std.specs.Str.{IsAscii};
 ghost use Rattle.internet_dates.specs.DateTimes.{IsNamedDateAt, IsRealMoment};
 ghost use Rattle.internet_dates.specs.HttpDate.{IsHttpDate};
 ghost use Rattle.internet_dates.specs.MailDate.{IsMailDate};
@@ -34,8 +35,16 @@ pub fn a_written_text_spells_its_date()
 
 /// What is read of the written text of a moment is this moment.
 pub fn a_written_moment_is_read_back()
-    ensures http { (seconds : ℤ) (t : DateTime) (answer : Result ℤ DateError) → IsNamedDateAt 0 seconds t
+    ensures http { (seconds : ℤ) (t : DateTime) (answer : Result ℤ DateError)
+        → IsNamedDateAt 0 seconds t
         → IsRead IsHttpDate 0 (http_date_text t) answer → answer ≡ Ok seconds }
-    ensures mail { (seconds : ℤ) (t : DateTime) (answer : Result ℤ DateError) → IsNamedDateAt 1900 seconds t
+    ensures mail { (seconds : ℤ) (t : DateTime) (answer : Result ℤ DateError)
+        → IsNamedDateAt 1900 seconds t
         → IsRead IsMailDate 1900 (mail_date_text t) answer → answer ≡ Ok seconds }
+{}
+
+/// A text that is a date of HTTP or of mail is ASCII: the readers need no test whether it is UTF-8.
+pub fn texts_are_ascii()
+    ensures http { (text : List ℕ) (t : DateTime) → IsHttpDate text t → IsAscii text }
+    ensures mail { (text : List ℕ) (t : DateTime) → IsMailDate text t → IsAscii text }
 {}

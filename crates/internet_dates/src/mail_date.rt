@@ -3,7 +3,7 @@ ghost use Rattle.std.specs.Prelude.{◌≡◌, ◌+◌, ◌*◌, ◌^◌, ◌<�
 ghost use Rattle.scan_core.specs.Fronts.{behind};
 ghost use Rattle.scan_core.specs.Shares.{signed};
 ghost use Rattle.internet_dates.specs.MailDate.{is_comment_byte};
-ghost use Rattle.internet_dates.specs.inside.Reading.{begins_with_digit, is_comment, is_text, read_day, read_day_behind, read_front, read_mail_clock, read_mail_date, read_named, read_numeric, read_opening, read_seconds, read_spaced_zone, read_ut, read_zone, read_zone_name};
+ghost use Rattle.internet_dates.specs.inside.Reading.{begins_with_digit, is_closed, is_comment, is_text, read_day, read_day_behind, read_front, read_mail_date, read_named, read_numeric, read_opening, read_seconds, read_spaced_zone, read_ut, read_zone, read_zone_name};
 ghost use Rattle.arrayvec.specs.ArrayString.{array_string_len};
 ghost use Rattle.internet_dates.specs.DateTimes.{IsRealMoment};
 ghost use Rattle.internet_dates.specs.MailDate.{IsMailDate};
@@ -13,7 +13,7 @@ ghost use Rattle.internet_dates.specs.declared.date_time.DateTime.{DateTime as F
 
 use crate::date_time::DateTime;
 use crate::error::DateError;
-use crate::fields::{Clock, split_pair, split_two, split_year, strip, two_number};
+use crate::fields::{split_pair, split_two, split_year, strip, two_number};
 use crate::names::{split_month, split_weekday, split_zone_name};
 use crate::written::push_moment;
 use arrayvec::ArrayString;
@@ -77,6 +77,7 @@ fn split_day(bytes: &[u8]) -> Option<(u8, &[u8])>
 }
 
 /// Seconds behind a colon, or 0 where there is none, and what follows them.
+#[inline(always)]
 fn split_seconds(bytes: &[u8]) -> Option<(u8, &[u8])>
     ensures { option_map (λ r. (r.0, r.1.now)) result ≡ read_seconds bytes.now }
 {
@@ -84,25 +85,6 @@ fn split_seconds(bytes: &[u8]) -> Option<(u8, &[u8])>
         [b':', rest @ ..] => split_two(rest, 0, 60),
         _ => Some((0, bytes)),
     }
-}
-
-/// Hours, minutes and perhaps seconds behind a blank, and what follows them.
-#[inline(always)]
-#[tactic(auto, unfolding(crate::specs::inside::Reading::read_mail_clock))]
-fn split_mail_clock(bytes: &[u8]) -> Option<(Clock, &[u8])>
-    ensures { option_map (λ r. (r.0, r.1.now)) result ≡ read_mail_clock bytes.now }
-{
-    let (hour, rest) = split_pair(b' ', bytes, 0, 24)?;
-    let (minute, rest) = split_pair(b':', rest, 0, 59)?;
-    let (second, rest) = split_seconds(rest)?;
-    Some((
-        Clock {
-            hour,
-            minute,
-            second,
-        },
-        rest,
-    ))
 }
 
 /// The minutes with their sign.
@@ -202,22 +184,29 @@ fn is_closing(bytes: &[u8]) -> bool
     }
 }
 
-/// Whether a comment is left, or nothing.
-#[tactic(auto, unfolding(crate::specs::inside::Reading::is_comment))]
-fn is_comment(bytes: &[u8]) -> bool
-    ensures { result ≡ is_comment bytes.now }
+/// Whether a blank and a comment are left.
+#[inline(never)] // a text has a comment seldom
+fn is_bracketed(bytes: &[u8]) -> bool
+    ensures { result ≡ is_closed (read_opening bytes.now) }
 {
-    if bytes.is_empty() {
-        return true;
-    }
     match split_opening(bytes) {
         Some(inner) => is_closing(behind_comment(inner)),
         None => false,
     }
 }
 
+/// Whether a comment is left, or nothing.
+#[inline(always)]
+#[tactic(auto, unfolding(crate::specs::inside::Reading::is_comment))]
+fn is_comment(bytes: &[u8]) -> bool
+    ensures { result ≡ is_comment bytes.now }
+{
+    bytes.is_empty() || is_bracketed(bytes)
+}
+
 /// The fields of a date.
-#[tactic(auto, unfolding(crate::specs::inside::Reading::read_mail_date))]
+#[tactic(auto, unfolding(crate::specs::inside::Reading::read_mail_date, crate::specs::inside::Reading::read_mail_clock))]
+#[inline(always)]
 fn read_fields(text: &[u8]) -> Option<DateTime>
     ensures { result ≡ read_mail_date text.now }
 {
@@ -225,7 +214,9 @@ fn read_fields(text: &[u8]) -> Option<DateTime>
     let (day, rest) = split_day(rest)?;
     let (month, rest) = split_month(rest)?;
     let (year, rest) = split_year(rest)?;
-    let (clock, rest) = split_mail_clock(rest)?;
+    let (hour, rest) = split_pair(b' ', rest, 0, 24)?;
+    let (minute, rest) = split_pair(b':', rest, 0, 59)?;
+    let (second, rest) = split_seconds(rest)?;
     let (offset, rest) = split_spaced_zone(rest)?;
     if is_comment(rest) {
         Some(DateTime {
@@ -233,9 +224,9 @@ fn read_fields(text: &[u8]) -> Option<DateTime>
             year,
             month,
             day,
-            hour: clock.hour,
-            minute: clock.minute,
-            second: clock.second,
+            hour,
+            minute,
+            second,
             offset,
         })
     } else {
@@ -262,7 +253,28 @@ pub fn fields(text: &[u8]) -> Option<DateTime>
 pub fn read(text: &[u8]) -> Result<i64, DateError>
     ensures { IsRead IsMailDate 1900 text.now result }
 {
-    match fields(text) {
+    // Behind this one test no field up to the seconds is tested for its length. Few texts are shorter.
+    if text.len() >= 25 {
+        moment_of(text)
+    } else {
+        read_short(text)
+    }
+}
+
+/// The same in a function of its own.
+#[inline(never)]
+fn read_short(text: &[u8]) -> Result<i64, DateError>
+    ensures { IsRead IsMailDate 1900 text.now result }
+{
+    moment_of(text)
+}
+
+/// The same at each place where it is called.
+#[inline(always)]
+fn moment_of(text: &[u8]) -> Result<i64, DateError>
+    ensures { IsRead IsMailDate 1900 text.now result }
+{
+    match read_fields(text) {
         Some(t) => t.judged(FIRST_YEAR),
         None => Err(DateError::Syntax),
     }
@@ -270,6 +282,7 @@ pub fn read(text: &[u8]) -> Result<i64, DateError>
 
 /// Appends a date of 31 bytes, such as `Tue, 01 Dec 2026 23:24:31 +0000`, of a real date in UTC that has the name of its day.
 /// Its offset is taken to be 0 and isn't looked at.
+#[inline(always)]
 pub fn push_text<const CAP: usize>(out: &mut ArrayString<CAP>, t: &DateTime)
     requires real { IsRealMoment t.now }
     requires named { IsSome t.now.weekday }
