@@ -3,6 +3,7 @@ pub mod PieceFacts
 pub mod YearFacts
 pub mod OffsetFacts
 pub mod TimeFacts
+pub mod MicrosFacts
 pub mod PlaceFacts
 pub mod ValueFacts
 pub mod MomentFacts
@@ -11,3 +12,4 @@ pub mod HeldFacts
 pub mod BoundFacts
 pub mod DayFacts
 pub mod OneText
+pub mod AsciiTexts

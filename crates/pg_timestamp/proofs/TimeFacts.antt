@@ -15,6 +15,7 @@ use Rattle.pg_timestamp.specs.Timestamps.{IsMicrosFraction, IsTimeOfDay}
 use Rattle.pg_timestamp.specs.declared.time.Time.{Time}
 use Rattle.pg_timestamp.specs.inside.Places.{fraction_front, after_fraction, has_point, behind_point, AreTimeAt, after_time}
 use Rattle.pg_timestamp.specs.inside.Places.{IsPerhapsOffsetAt, after_perhaps, is_point, EndsTime}
+use Rattle.pg_timestamp.specs.inside.Micros.{AreMicros}
 use Rattle.pg_timestamp.proofs.PieceFacts.{front_three, one_number}
 use Rattle.pg_timestamp.proofs.OffsetFacts.{perhaps_found, perhaps_front, perhaps_ends, one_perhaps}
 
@@ -80,18 +81,14 @@ pointed : (text : List ℕ) → has_point text ≡ true → (fraction_front text
 pointed [] h = absurd (let e = h in cc)
 pointed (b ∷ bs) h = let is : b ≡ 46 = eqb-true b 46 h in rw is (refl, refl)
 
--- the digits that a reader finds behind the point
-pub digits_behind : (digits rest : List ℕ) → digits ≡ front_digits rest → AreDigits digits
-digits_behind digits rest e = subst AreDigits (sym e) (front_are_digits rest)
-
-pub pointed_found : (text rest digits : List ℕ) (point : Bool) (micros : ℕ) → point ≡ has_point text → rest ≡ behind_point text
-    → digits ≡ front_digits rest → point ≡ true
-    → (0 < length digits) × (length digits ≤ 6) → micros ≡ number_of (six digits) → IsMicrosFraction (fraction_front text) micros
-pointed_found text rest digits point micros p r d seen bound value =
+pub pointed_found : (text rest : List ℕ) (point : Bool) (micros : ℕ) → point ≡ has_point text → rest ≡ behind_point text → point ≡ true
+    → AreMicros (front_digits rest) micros
+    → IsMicrosFraction (fraction_front text) micros
+pointed_found text rest point micros p r seen are =
     let parts = pointed text (sym p ∙ seen) in
-    let front : fraction_front text ≡ 46 ∷ digits = parts.0 ∙ ap (λ (l : List ℕ). 46 ∷ l) (sym (d ∙ ap front_digits r)) in
+    let front : fraction_front text ≡ 46 ∷ front_digits rest = parts.0 ∙ ap (λ (l : List ℕ). 46 ∷ front_digits l) (sym r) in
     let F : List ℕ → Type 0 = λ l. IsMicrosFraction l micros in
-    subst F (sym front) (fraction_made digits micros (digits_behind digits rest d) bound value)
+    subst F (sym front) (fraction_made (front_digits rest) micros (front_are_digits rest) are.0 are.1)
 
 -- ---- a time
 

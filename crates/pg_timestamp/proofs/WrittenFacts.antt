@@ -1,6 +1,6 @@
 -- Written texts: their lengths, and that they are read back.
-use Rattle.std.proofs.Common.{◌≡◌, ℕ, ◌+◌, ◌-◌, ◌^◌, ◌<◌, ◌≤◌, ◌==◌, ◌||◌, Bool, true, false, cond, List, [], ◌++◌, append_assoc, length}
-use Rattle.std.proofs.Common.{length-append, replicate, decimal, refl, sym, ◌∙◌, ap, subst, inl, inr, arith, Option, Some, None}
+use Rattle.std.proofs.Common.{◌≡◌, ℕ, ◌+◌, ◌-◌, ◌/◌, ◌%◌, ◌^◌, ◌<◌, ◌≤◌, ◌==◌, ◌||◌, Bool, true, false, cond, List, [], ◌++◌, append_assoc}
+use Rattle.std.proofs.Common.{length, length-append, replicate, decimal, refl, sym, ◌∙◌, ap, subst, inl, inr, arith, Option, Some, None}
 use Rattle.std.specs.Prelude.{ℤ, pos, codes}
 use Rattle.std.proofs.lemmas.Bool.{eqb-true}
 use Rattle.std.proofs.lemmas.Bool.Decides.{nat_tests}
@@ -9,7 +9,7 @@ use Rattle.scan_core.specs.Calendar.{days_in_month, is_leap_year}
 use Rattle.scan_core.specs.Digits.{number_of}
 use Rattle.scan_core.specs.Padded.{padded_digits, trimmed_digits}
 use Rattle.scan_core.proofs.PaddedFacts.{padded_field, length-padded, length-zeros, digits-padded, number_of-padded}
-use Rattle.scan_core.proofs.TrimmedFacts.{digits-trimmed, trimmed_fills, trimmed_some}
+use Rattle.scan_core.proofs.TrimmedFacts.{digits-trimmed, trimmed_fills, trimmed_some, zero_dropped}
 use Rattle.pg_timestamp.specs.Pieces.{IsMarkedPair, era_text}
 use Rattle.pg_timestamp.specs.Dates.{IsLongYear, calendar_year}
 use Rattle.pg_timestamp.specs.Timestamps.{IsMicrosFraction, IsZoneOffset, IsPerhapsOffset, IsPerhapsTime, IsTimeOfDay, IsTimestampText}
@@ -22,11 +22,18 @@ use Rattle.pg_timestamp.specs.declared.timestamp.Timestamp.{Timestamp}
 use Rattle.pg_timestamp.specs.declared.value.Value.{Value}
 use Rattle.pg_timestamp.proofs.YearFacts.{held_below}
 
-pub length_decimal_u8 : (n : ℕ) → n < 2 ^ 8 → length (decimal n) ≤ 3
-length_decimal_u8 n small = length-decimal-le 3 n (omega arith) (omega arith) (omega arith)
-
 pub length_decimal_u16 : (n : ℕ) → n < 2 ^ 16 → length (decimal n) ≤ 5
 length_decimal_u16 n small = length-decimal-le 5 n (omega arith) (omega arith) (omega arith)
+
+-- three zeros at the end of six digits
+pub thousands : (n : ℕ) → 0 < n → n < 2 ^ 32 → n % 1000 ≡ 0
+    → trimmed_digits (padded_digits 6 n) ≡ trimmed_digits (padded_digits 3 (n / 1000))
+thousands n some fits none =
+    let one = zero_dropped 6 n some (omega (arith, fits)) (omega (arith, none)) in
+    let two = zero_dropped 5 (n / 10) (omega (arith, some, none)) (omega (arith, fits)) (omega (arith, none)) in
+    let three = zero_dropped 4 (n / 10 / 10) (omega (arith, some, none)) (omega (arith, fits)) (omega (arith, none)) in
+    let same : n / 10 / 10 / 10 ≡ n / 1000 = omega arith in
+    one.0 ∙ two.0 ∙ three.0 ∙ ap (λ (k : ℕ). trimmed_digits (padded_digits 3 k)) same
 
 -- ---- pieces
 

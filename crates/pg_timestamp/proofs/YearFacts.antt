@@ -1,10 +1,11 @@
 -- The digits of a year, and the year that is held.
-use Rattle.std.proofs.Common.{◌≡◌, ℕ, ◌+◌, ◌-◌, ◌*◌, ◌%◌, ◌^◌, ◌<◌, ◌≤◌, min, true, false, nat_lt, List, ◌++◌, length, refl, sym, ◌∙◌, ap}
-use Rattle.std.proofs.Common.{subst, arith}
+use Rattle.std.proofs.Common.{◌≡◌, ℕ, ◌+◌, ◌-◌, ◌*◌, ◌%◌, ◌^◌, ◌<◌, ◌≤◌, min, true, false, nat_lt, List, [], ◌∷◌, ◌++◌, length}
+use Rattle.std.proofs.Common.{refl, sym, ◌∙◌, ap, subst, arith}
 use Rattle.std.proofs.lemmas.Bool.Decides.{nat_tests}
+use Rattle.std.specs.Char.{digit_value, is_ascii_digit}
 use Rattle.scan_core.specs.Digits.{AreDigits, number_of}
 use Rattle.scan_core.specs.Fronts.{front_digits}
-use Rattle.scan_core.proofs.DigitFacts.{digits_right, number_of-append, number_of-lt}
+use Rattle.scan_core.proofs.DigitFacts.{digit_is_alone, digits_from_all, digits_right, number_of-append, number_of-lt}
 use Rattle.scan_core.proofs.FrontFacts.{front_are_digits}
 use Rattle.pg_timestamp.specs.Dates.{IsLongYear, held_year}
 
@@ -42,4 +43,29 @@ front_year text digits year same few number =
       digits = front_are_digits text;
       number = number
           ∙ ap (λ (l : List ℕ). held_year (number_of l)) same;
+    }
+
+-- a digit by its byte
+pub digit_is : (d : ℕ) → true ≡ is_ascii_digit d → (digit_value d < 10) × (d - 48 ≡ digit_value d)
+digit_is d is =
+    let all : is_ascii_digit d ≡ true = sym is in
+    let are : AreDigits (d ∷ []) = digits_from_all (d ∷ []) (rw all refl) in
+    let value = digit_is_alone d are.0 in (are.0, omega (arith, value))
+
+-- the year of four digits
+pub four_year : (a b c d : ℕ) → true ≡ is_ascii_digit a → true ≡ is_ascii_digit b → true ≡ is_ascii_digit c → true ≡ is_ascii_digit d
+    → IsLongYear (a ∷ b ∷ c ∷ d ∷ []) (100 * (10 * (a - 48) + (b - 48)) + (10 * (c - 48) + (d - 48)))
+four_year a b c d da db dc dd =
+    let (ta, va) = digit_is a da in
+    let (tb, vb) = digit_is b db in
+    let (tc, vc) = digit_is c dc in
+    let (td, vd) = digit_is d dd in
+    let value : 100 * (10 * (a - 48) + (b - 48)) + (10 * (c - 48) + (d - 48)) ≡ number_of (a ∷ b ∷ c ∷ d ∷ []) =
+    omega (arith, va, vb, vc, vd) in
+    let small : number_of (a ∷ b ∷ c ∷ d ∷ []) < 40_000 = omega (arith, ta, tb, tc, td) in
+    record {
+      least = omega arith;
+      digits = (ta, (tb, (tc, (td, tt))));
+      number = value
+          ∙ sym (held_below (number_of (a ∷ b ∷ c ∷ d ∷ [])) small);
     }

@@ -1,5 +1,6 @@
 //! Laws of timestamps, each for every value: functions that do nothing.
 ghost use Rattle.std.specs.Prelude.{◌≡◌, ◌↔◌, ℕ, Bool, List, pos, neg_ℤ, ◌-ℤ◌, ◌≤ℤ◌, ◌≤◌, IsTrue};
+ghost use Rattle.std.specs.Str.{IsAscii};
 ghost use Rattle.iso8601.specs.Calendar.{day_of, Exists};
 ghost use Rattle.iso8601.specs.declared.types.Date.TheVariants.{YMD};
 ghost use Rattle.pg_timestamp.specs.Dates.{IsRealDate, calendar_year, date_number, held_year};
@@ -74,4 +75,9 @@ pub fn equality_is_that_of_the_fields()
         → IsTrue (⟦<value::Value as PartialEq>⟧.eq a b) ↔ (a ≡ b) }
     ensures no_value { (a b : NoValue)
         → IsTrue (⟦<value::NoValue as PartialEq>⟧.eq a b) ↔ (a ≡ b) }
+{}
+
+/// A text that is a timestamp is ASCII: the reader needs no test whether it is UTF-8.
+pub fn texts_are_ascii()
+    ensures { (text : List ℕ) (t : Timestamp) → IsTimestampText text t → IsAscii text }
 {}

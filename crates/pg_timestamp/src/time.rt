@@ -1,12 +1,12 @@
 //! Times behind a date.
-ghost use Rattle.std.specs.Prelude.{◌≡◌, ◌^◌, ◌<◌, ◌≤◌, ◌++◌, ℕ, length, replicate, ◌-◌, IfSome, IfNone};
-ghost use Rattle.scan_core.specs.Digits.{AreDigits, number_of};
+ghost use Rattle.std.specs.Prelude.{◌≡◌, ◌^◌, ◌≤◌, ℕ, IfSome, IfNone};
+ghost use Rattle.scan_core.specs.Fronts.{front_digits, after_digits};
 ghost use Rattle.pg_timestamp.specs.Timestamps.{IsMicrosFraction};
+ghost use Rattle.pg_timestamp.specs.inside.Micros.{AreMicros};
 ghost use Rattle.pg_timestamp.specs.inside.Places.{fraction_front, after_fraction, has_point, behind_point};
 
 use crate::offset::perhaps_offset;
 use crate::pair::pair;
-use scan_core::{digits_u32, split_digits};
 
 /// A time as it is written, whether or not a clock has it.
 #[derive(Clone, Copy, Debug, PartialEq, Eq)]
@@ -27,18 +27,40 @@ pub struct Time {
 fn fraction(text: &[u8]) -> Option<(u32, &[u8])>
     ensures found { IfSome result (λ r. IsMicrosFraction (fraction_front text.now) r.0) }
     ensures rest { IfSome result (λ r. r.1.now ≡ after_fraction text.now) }
-    ensures none { IfNone result ((micros : ℕ) → ¬ (IsMicrosFraction (fraction_front text.now) micros)) }
+    ensures none { IfNone result ((micros : ℕ)
+        → ¬ (IsMicrosFraction (fraction_front text.now) micros)) }
 {
     let (point, rest) = split_point(text);
     if point {
-        let (digits, rest) = split_digits(rest);
-        match micros(digits) {
-            Some(number) => Some((number, rest)),
+        match split_micros(rest) {
+            Some((micros, rest)) => Some((micros, rest)),
             None => None,
         }
     } else {
         Some((0, rest))
     }
+}
+
+/// The microseconds of one to six digits in front, and what follows them.
+fn split_micros(text: &[u8]) -> Option<(u32, &[u8])>
+    ensures found { IfSome result (λ r. AreMicros (front_digits text.now) r.0) }
+    ensures rest { IfSome result (λ r. r.1.now ≡ after_digits text.now) }
+    ensures none { IfNone result ((micros : ℕ) → ¬ (AreMicros (front_digits text.now) micros)) }
+{
+    let mut len = 0;
+    let mut number: u32 = 0;
+    while len < text.len() && text[len].is_ascii_digit() {
+        if len == 6 {
+            return None;
+        }
+        number = 10 * number + (text[len] - b'0') as u32;
+        len += 1;
+    }
+    if len == 0 {
+        return None;
+    }
+    let (_, rest) = text.split_at(len);
+    Some((number * scale(6 - len), rest))
 }
 
 /// Whether a point stands in front, and what follows it.
@@ -50,23 +72,6 @@ fn split_point(text: &[u8]) -> (bool, &[u8])
         [b'.', rest @ ..] => (true, rest),
         _ => (false, text),
     }
-}
-
-/// The microseconds of one to six digits.
-fn micros(digits: &[u8]) -> Option<u32>
-    requires { AreDigits digits.now }
-    ensures found { IfSome result (λ n. ((0 < length digits.now) × (length digits.now ≤ 6))
-        × (n ≡ number_of (digits.now ++ replicate (6 - length digits.now) 48))) }
-    ensures none { IfNone result (¬ ((0 < length digits.now) × (length digits.now ≤ 6))) }
-{
-    if digits.is_empty() {
-        return None;
-    }
-    if digits.len() > 6 {
-        return None;
-    }
-    let number = digits_u32(digits).unwrap();
-    Some(number * scale(6 - digits.len()))
 }
 
 /// A power of ten: `10 ^ places`.

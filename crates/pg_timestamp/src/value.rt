@@ -1,13 +1,15 @@
 //! What timestamps are worth.
 ghost use Rattle.std.specs.Prelude.{◌≡◌, ◌↔◌, ◌+◌, ◌*◌, ◌<◌, ◌≤◌, ℤ, pos, ◌≤ℤ◌, IsTrue, IsSome, IfSome, neg_ℤ, unsigned_abs, ◌+ℤ◌, ◌-ℤ◌, ◌*ℤ◌, ◌<ℤ◌};
 ghost use Rattle.jiff.specs.Words.{IsBetween};
-ghost use Rattle.iso8601.specs.Calendar.{IsCivilDay};
+ghost use Rattle.iso8601.specs.Calendar.{Exists, IsCivilDay};
 ghost use Rattle.iso8601.specs.declared.types.Date.TheVariants.{YMD};
 ghost use Rattle.pg_timestamp.specs.Dates.{IsRealDate, calendar_year, date_number};
+ghost use Rattle.pg_timestamp.specs.inside.Days.{IsDayNumber};
 ghost use Rattle.pg_timestamp.specs.Values.{IsClockTime, IsShort, IsRealTime, micros_of_day, timed, value_at};
 
 use crate::date::Date;
 use crate::time::Time;
+use jiff_core::civil;
 use thiserror::Error;
 
 /// What a timestamp is worth, counted from 1970-01-01.
@@ -52,7 +54,7 @@ fn calendar_date(date: &Date) -> iso8601::Date
 }
 
 /// Whether there is such a day.
-pub(crate) fn is_real_day(date: &Date) -> bool
+fn is_real_day(date: &Date) -> bool
     ensures { IsTrue result ↔ IsRealDate date.now }
 {
     if date.year == 0 {
@@ -61,14 +63,56 @@ pub(crate) fn is_real_day(date: &Date) -> bool
     calendar_date(date).exists()
 }
 
-/// The number of a day, or `None` exactly where it isn't a civil one.
-pub(crate) fn civil_day(date: &Date) -> Option<i32>
+/// The number of a civil day, or `None` exactly where it isn't a civil one.
+fn civil_day(date: &Date) -> Option<i32>
     requires { IsRealDate date.now }
     ensures some { IsSome result ↔ IsCivilDay (date_number date.now) }
     ensures value { IfSome result (λ day. day ≡ date_number date.now) }
 {
     let day = calendar_date(date).into_naive()?;
     Some(day.to_plain().to_unix_epoch_day())
+}
+
+/// The number of a date's day, or why it has none.
+pub(crate) fn day_number(date: &Date) -> Result<i32, NoValue>
+    ensures { IsDayNumber date.now result }
+{
+    if date.bc || date.year < 1 || date.year > 9_999 {
+        return rare_number(*date);
+    }
+    iso8601::laws::civil_dates_are_calendar_dates();
+    iso8601::laws::years_and_weeks_follow_each_other();
+    match civil_date(date.year as i16, date.month, date.day) {
+        Some(civil) => Ok(civil.to_unix_epoch_day()),
+        None => Err(NoValue::NoSuchMoment),
+    }
+}
+
+/// The civil date of a year from 1 to 9999, where there is such a day.
+fn civil_date(year: i16, month: u8, day: u8) -> Option<civil::Date>
+    requires { IsBetween (pos 1) (pos 9_999) year }
+    ensures some { IsSome result ↔ Exists (YMD year month day) }
+    ensures year { IfSome result (λ civil. civil.year ≡ year) }
+    ensures month { IfSome result (λ civil. civil.month ≡ month) }
+    ensures day { IfSome result (λ civil. civil.day ≡ day) }
+{
+    let month = i8::try_from(month).ok()?;
+    let day = i8::try_from(day).ok()?;
+    civil::Date::new(year, month, day).ok()
+}
+
+/// The number of the day of any date, or why it has none.
+#[inline(never)] // nearly all years are after Christ and have four digits
+fn rare_number(date: Date) -> Result<i32, NoValue>
+    ensures { IsDayNumber date result }
+{
+    if !is_real_day(&date) {
+        return Err(NoValue::NoSuchMoment);
+    }
+    match civil_day(&date) {
+        Some(day) => Ok(day),
+        None => Err(NoValue::Range),
+    }
 }
 
 /// Whether a clock shows the time.

@@ -1,7 +1,7 @@
 //! The value of a timestamp, or why it has none.
 
 use crate::timestamp::Timestamp;
-use crate::value::{NoValue, Value, civil_day, is_real_day, is_real_time, value_at};
+use crate::value::{NoValue, Value, day_number, is_real_time, value_at};
 
 impl Timestamp {
     ghost use Rattle.std.specs.Prelude.{◌≡◌, IfOk, IfErr};
@@ -18,12 +18,13 @@ impl Timestamp {
         ensures value { IfOk result (λ value. value ≡ value_of self.now) }
         ensures refusal { IfErr result (IsRefusedBy self.now) }
     {
-        if !is_real_day(&self.date) || !is_real_time(&self.time) {
+        if !is_real_time(&self.time) {
             return Err(NoValue::NoSuchMoment);
         }
         iso8601::laws::years_and_weeks_follow_each_other();
-        let Some(day) = civil_day(&self.date) else {
-            return Err(NoValue::Range);
+        let day = match day_number(&self.date) {
+            Ok(day) => day,
+            Err(cause) => return Err(cause),
         };
         let value = value_at(day, &self.time);
         if !value.is_within_bounds() {

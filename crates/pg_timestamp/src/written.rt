@@ -1,8 +1,9 @@
 //! The written text of a value.
 ghost use Rattle.std.specs.Prelude.{◌≡◌, ◌+◌, ◌<◌, ◌≤◌, ◌++◌, length, Option};
 ghost use Rattle.arrayvec.specs.ArrayString.{array_string_len};
-ghost use Rattle.scan_core.specs.Padded.{padded_digits};
+ghost use Rattle.scan_core.specs.Padded.{padded_digits, trimmed_digits};
 ghost use Rattle.pg_timestamp.specs.Pieces.{era_text};
+ghost use Rattle.pg_timestamp.specs.Values.{IsClockTime, IsRealTime, IsRealTimestamp};
 ghost use Rattle.pg_timestamp.specs.Written.{blank_time_text, year_first_text, micros_text, zone_text, perhaps_time_text, timestamp_text};
 
 use crate::date::Date;
@@ -11,18 +12,18 @@ use crate::time::Time;
 use crate::timestamp::Timestamp;
 use crate::value::Value;
 use arrayvec::ArrayString;
-use scan_core::{push_padded, push_text, push_trimmed};
+use scan_core::{push_padded, push_text, push_trimmed, push_two};
 
-/// The mark and at least two digits.
-#[tactic(auto, using(crate::proofs::WrittenFacts::length_decimal_u8))]
+/// The mark and two digits.
 fn push_pair<const CAP: usize>(out: &mut ArrayString<CAP>, mark: &str, value: u8)
     requires mark { length mark.now ≡ 1 }
-    requires room { array_string_len out.old + 4 ≤ CAP }
+    requires value { value < 100 }
+    requires room { array_string_len out.old + 3 ≤ CAP }
     ensures bytes { out.new.bytes ≡ out.old.bytes ++ (mark.now ++ padded_digits 2 value) }
-    ensures len { array_string_len out.new ≤ array_string_len out.old + 4 }
+    ensures len { array_string_len out.new ≤ array_string_len out.old + 3 }
 {
     push_text(out, mark);
-    push_padded(out, value as u64, 2);
+    push_two(out, value as u64);
 }
 
 /// At least four digits.
@@ -38,6 +39,8 @@ fn push_year<const CAP: usize>(out: &mut ArrayString<CAP>, year: u16)
 /// A date without its era.
 #[tactic(auto, unfolding(crate::specs::Written::year_first_text))]
 fn push_date<const CAP: usize>(out: &mut ArrayString<CAP>, date: &Date)
+    requires month { date.now.month < 100 }
+    requires day { date.now.day < 100 }
     requires room { array_string_len out.old + 13 ≤ CAP }
     ensures bytes { out.new.bytes ≡ out.old.bytes ++ year_first_text date.now }
     ensures len { array_string_len out.new ≤ array_string_len out.old + 13 }
@@ -47,8 +50,24 @@ fn push_date<const CAP: usize>(out: &mut ArrayString<CAP>, date: &Date)
     push_pair(out, "-", date.day);
 }
 
+/// The digits of a fraction, without the zeros at their end.
+#[tactic(auto, using(scan_core::proofs::DigitFacts::length_decimal_u32, crate::proofs::WrittenFacts::thousands))]
+fn push_micros<const CAP: usize>(out: &mut ArrayString<CAP>, micros: u32)
+    requires some { 0 < micros }
+    requires room { array_string_len out.old + 10 ≤ CAP }
+    ensures bytes { out.new.bytes ≡ out.old.bytes ++ trimmed_digits (padded_digits 6 micros) }
+    ensures len { array_string_len out.new ≤ array_string_len out.old + 10 }
+{
+    // Most fractions that end in zeros are whole milliseconds.
+    if micros % 1000 == 0 {
+        push_trimmed(out, (micros / 1000) as u64, 3);
+    } else {
+        push_trimmed(out, micros as u64, 6);
+    }
+}
+
 /// A point and the digits of a fraction, or nothing.
-#[tactic(auto, using(scan_core::proofs::DigitFacts::length_decimal_u32), unfolding(crate::specs::Written::micros_text))]
+#[tactic(auto, unfolding(crate::specs::Written::micros_text))]
 fn push_fraction<const CAP: usize>(out: &mut ArrayString<CAP>, micros: u32)
     requires room { array_string_len out.old + 11 ≤ CAP }
     ensures bytes { out.new.bytes ≡ out.old.bytes ++ micros_text micros }
@@ -56,7 +75,7 @@ fn push_fraction<const CAP: usize>(out: &mut ArrayString<CAP>, micros: u32)
 {
     if micros != 0 {
         push_text(out, ".");
-        push_trimmed(out, micros as u64, 6);
+        push_micros(out, micros);
     }
 }
 
@@ -67,13 +86,16 @@ fn push_offset<const CAP: usize>(out: &mut ArrayString<CAP>, offset: Option<i32>
     ensures len { array_string_len out.new ≤ array_string_len out.old + 3 }
 {
     if offset.is_some() {
-        push_text(out, "+00");
+        out.push('+');
+        out.push('0');
+        out.push('0');
     }
 }
 
 /// A time.
 #[tactic(auto, unfolding(crate::specs::Written::blank_time_text))]
 fn push_clock<const CAP: usize>(out: &mut ArrayString<CAP>, time: &Time)
+    requires clock { IsClockTime time.now }
     requires room { array_string_len out.old + 26 ≤ CAP }
     ensures bytes { out.new.bytes ≡ out.old.bytes ++ blank_time_text time.now }
     ensures len { array_string_len out.new ≤ array_string_len out.old + 26 }
@@ -87,6 +109,7 @@ fn push_clock<const CAP: usize>(out: &mut ArrayString<CAP>, time: &Time)
 
 /// A time, or nothing.
 fn push_time<const CAP: usize>(out: &mut ArrayString<CAP>, time: &Option<Time>)
+    requires real { IsRealTime time.now }
     requires room { array_string_len out.old + 26 ≤ CAP }
     ensures bytes { out.new.bytes ≡ out.old.bytes ++ perhaps_time_text time.now }
     ensures len { array_string_len out.new ≤ array_string_len out.old + 26 }
@@ -110,6 +133,7 @@ fn push_era<const CAP: usize>(out: &mut ArrayString<CAP>, bc: bool)
 /// A timestamp.
 #[tactic(auto, unfolding(crate::specs::Written::timestamp_text))]
 fn push_timestamp<const CAP: usize>(out: &mut ArrayString<CAP>, timestamp: &Timestamp)
+    requires real { IsRealTimestamp timestamp.now }
     requires room { array_string_len out.old + 42 ≤ CAP }
     ensures bytes { out.new.bytes ≡ out.old.bytes ++ timestamp_text timestamp.now }
     ensures len { array_string_len out.new ≤ array_string_len out.old + 42 }

@@ -1,7 +1,6 @@
 -- Answers to the goals of `made::moment_at`.
-use Rattle.std.proofs.Common.{◌≡◌, rules, ◌∙◌, ap, FitsSigned, w32, w64}
-use Rattle.std.specs.Prelude.{pos}
-use Rattle.std.specs.Int.{int_div_euclid, int_rem_euclid}
+use Rattle.std.proofs.Common.{◌≡◌, ◌/◌, ◌%◌, rules, ◌∙◌, FitsSigned, w32, w64}
+use Rattle.std.specs.Prelude.{pos, ◌+ℤ◌, ◌-ℤ◌}
 use Rattle.std.proofs.lemmas.Int.{to_z-of_z}
 use Rattle.pg_timestamp.specs.Values.{micros_of_day}
 use Rattle.pg_timestamp.specs.Dates.{date_number}
@@ -12,9 +11,11 @@ pub returns : goal.returns
 returns c =
     let m : FitsSigned w64 c.args.micros = c.ranges.micros in
     let d : FitsSigned w32 c.utc_day.result = search rules in
-    let day : date_number c.date_at.result ≡ int_div_euclid c.args.micros (pos 86_400_000_000) =
-    (simp to_z-of_z at c.date_at.ensures.day) ∙ (simp to_z-of_z at c.utc_day.ensures.value) in
-    let micros : pos (micros_of_day c.time_at.result) ≡ int_rem_euclid c.args.micros (pos 86_400_000_000) =
-    ap (λ n. pos n) c.time_at.ensures.micros ∙ (simp to_z-of_z at c.utc_micros.ensures.value) in
-    moment_written c.args.micros c.date_at.result c.time_at.result c.date_at.ensures.real day c.date_at.ensures.held c.time_at.ensures.clock
-    micros c.time_at.ensures.offset
+    let since : pos c.since_first-since.result ≡ c.args.micros +ℤ pos 210_866_803_200_000_000 =
+    simp to_z-of_z at c.since_first-since.ensures.value in
+    let day : date_number c.date_at.result ≡ pos (c.since_first-since.result / 86_400_000_000) -ℤ pos 2_440_588 =
+    (simp to_z-of_z at c.date_at.ensures.day) ∙ c.utc_day.ensures.value in
+    let micros : micros_of_day c.time_at.result ≡ c.since_first-since.result % 86_400_000_000 = c.time_at.ensures.micros
+    ∙ c.utc_micros.ensures.value in
+    moment_written c.args.micros c.since_first-since.result c.date_at.result c.time_at.result since c.date_at.ensures.real day
+    c.date_at.ensures.held c.time_at.ensures.clock micros c.time_at.ensures.offset
