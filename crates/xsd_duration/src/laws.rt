@@ -1,5 +1,6 @@
 //! Laws of durations, each for every text or interval: functions that do nothing.
 ghost use Rattle.std.specs.Prelude.{◌≡◌, ℕ, List, IsTrue};
+ghost use Rattle.std.specs.Str.{IsAscii};
 ghost use Rattle.scan_core.specs.Count.{Count};
 ghost use Rattle.pg_interval_2.specs.Denotes.{Denotes};
 ghost use Rattle.pg_interval_2.specs.Ranges.{IsInRange};
@@ -40,4 +41,9 @@ pub fn a_denoted_interval_has_one_sign()
 pub fn a_written_text_is_read_back()
     ensures { (t : Interval) → IsInRange t → IsTrue (has_one_sign t)
         → Denotes SpellsDuration (xml_duration_text t) t }
+{}
+
+/// A text that is a duration is ASCII: the reader needs no test whether it is UTF-8.
+pub fn texts_are_ascii()
+    ensures { (text : List ℕ) (counts : List Count) → SpellsDuration text counts → IsAscii text }
 {}

@@ -5,6 +5,7 @@
 #![tactic(auto)]
 
 mod error;
+mod front;
 pub mod laws;
 mod reading;
 mod sums;

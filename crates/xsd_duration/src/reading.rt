@@ -1,47 +1,50 @@
-//! The reader. It splits a text into the digits of its counts, and then sums the counts.
+//! The reader. It passes a text once, for the numbers of its counts, and then sums them.
 ghost use Rattle.std.specs.Prelude.{◌≡◌, IfOk, IfErr, Ok, option_map};
 ghost use Rattle.pg_interval_2.specs.Denotes.{Denotes};
 ghost use Rattle.pg_interval_2.specs.declared.interval.Interval.{Interval as AnyInterval};
 ghost use Rattle.xsd_duration.specs.Durations.{SpellsDuration};
 ghost use Rattle.xsd_duration.specs.Readings.{IsRefused};
-ghost use Rattle.xsd_duration.specs.inside.Reading.{clock_of, read_clock, read_count, read_counts, read_fraction, read_seconds, read_spelling, read_time, read_unsigned, spelling_of};
+ghost use Rattle.xsd_duration.specs.inside.Fronts.{clock_counted, counted, counts_counted, fraction_counted, seconds_counted};
+ghost use Rattle.xsd_duration.specs.inside.Fronts.{seen, sign_split, time_counted, unsigned_counted};
+ghost use Rattle.xsd_duration.specs.inside.Numbers.{numbers_of};
+ghost use Rattle.xsd_duration.specs.inside.Reading.{read_spelling};
 
 use crate::error::DurationError;
+use crate::front::{Front, fraction_of, front_of};
 use crate::sums::sum_of;
 use pg_interval_2::Interval;
-use scan_core::split_digits;
 
-/// The digits of the counts behind a `T`, empty where a count is left out.
+/// The numbers of the counts behind a `T`, 0 where a count is left out, and the fraction of seconds in microseconds.
 #[derive(Clone, Copy)]
-pub(crate) struct Clock<'a> {
-    pub(crate) hours: &'a [u8],
-    pub(crate) minutes: &'a [u8],
-    pub(crate) seconds: &'a [u8],
-    pub(crate) fraction: &'a [u8],
+pub(crate) struct Clock {
+    pub(crate) hours: u64,
+    pub(crate) minutes: u64,
+    pub(crate) seconds: u64,
+    pub(crate) micros: u64,
 }
 
-/// The digits of all counts, and whether a minus stands in front.
+/// The numbers of all counts, cut to `u64::MAX`, and whether a minus stands in front.
 #[derive(Clone, Copy)]
-pub(crate) struct Fields<'a> {
+pub(crate) struct Numbers {
     pub(crate) negative: bool,
-    pub(crate) years: &'a [u8],
-    pub(crate) months: &'a [u8],
-    pub(crate) days: &'a [u8],
-    pub(crate) clock: Clock<'a>,
+    pub(crate) years: u64,
+    pub(crate) months: u64,
+    pub(crate) days: u64,
+    pub(crate) clock: Clock,
 }
 
-/// The interval that a whole text denotes: `read("P1Y2M3DT4H5M6.5S")` is 14 months, 3 days and 14,706,500,000 microseconds, and
-/// `read("-P1D")` is a day before.
+/// The interval that a whole text denotes: `read(b"P1Y2M3DT4H5M6.5S")` is 14 months, 3 days and 14,706,500,000 microseconds, and
+/// `read(b"-P1D")` is a day before.
 ///
 /// A text is a duration as XML Schema 1.1 part 2, section 3.3.6, has it. Months are 12 a year; hours aren't carried into days. `Syntax`
 /// exactly where the text is no duration, `Range` exactly where it is one and its months, days or microseconds leave their types.
-pub fn read(text: &str) -> Result<Interval, DurationError>
+pub fn read(text: &[u8]) -> Result<Interval, DurationError>
     ensures ok { IfOk result (λ t. Denotes SpellsDuration text.now t) }
     ensures all { (t : AnyInterval) → Denotes SpellsDuration text.now t → result ≡ Ok t }
     ensures err { IfErr result (λ e. IsRefused text.now e) }
 {
-    match split_spelling(text.as_bytes()) {
-        Some(fields) => match sum_of(&fields) {
+    match numbers_in(text) {
+        Some(numbers) => match sum_of(numbers) {
             Some(interval) => Ok(interval),
             None => Err(DurationError::Range),
         },
@@ -49,84 +52,89 @@ pub fn read(text: &str) -> Result<Interval, DurationError>
     }
 }
 
-/// The digits of the count in front that has this letter, and what follows it; no digits and all bytes where it isn't there.
-#[tactic(auto, unfolding(crate::specs::inside::Reading::read_count))]
-fn split_count(bytes: &[u8], letter: u8) -> (&[u8], &[u8])
-    ensures { (result.0.now, result.1.now) ≡ read_count letter bytes.now }
+/// The number of the count in front that has this letter, and the digits behind it; 0 and the same front where it isn't there.
+#[inline(always)]
+fn split_count<'a>(front: &Front<'a>, letter: u8) -> (u64, Front<'a>)
+    ensures { (result.0, seen result.1) ≡ counted letter (seen front.now) }
 {
-    let (digits, rest) = split_digits(bytes);
-    if digits.is_empty() {
-        return (digits, bytes);
-    }
-    match rest {
-        [byte, behind @ ..] if *byte == letter => (digits, behind),
-        _ => (&[], bytes),
+    match front.rest {
+        [byte, behind @ ..] if *byte == letter && !front.digits.is_empty() => (
+            front.number,
+            front_of(behind),
+        ),
+        _ => (0, *front),
     }
 }
 
-/// The digits behind the point in front, and what follows them; no digits and all bytes where they aren't there.
-#[tactic(auto, unfolding(crate::specs::inside::Reading::read_fraction))]
-fn split_fraction(bytes: &[u8]) -> (&[u8], &[u8])
-    ensures { (result.0.now, result.1.now) ≡ read_fraction bytes.now }
+/// The fraction behind the point in front, in microseconds, and what follows it; 0 and all bytes where it isn't there.
+#[inline(always)]
+#[tactic(auto, unfolding(crate::specs::inside::Fronts::fraction_counted))]
+fn split_fraction(bytes: &[u8]) -> (u64, &[u8])
+    ensures { (result.0, result.1.now) ≡ fraction_counted bytes.now }
 {
     match bytes {
         [byte, behind @ ..] if *byte == b'.' => {
-            let (digits, rest) = split_digits(behind);
-            if digits.is_empty() {
-                (digits, bytes)
+            let front = front_of(behind);
+            if front.digits.is_empty() {
+                (0, bytes)
             } else {
-                (digits, rest)
+                (fraction_of(front.digits, front.number), front.rest)
             }
         }
-        _ => (&[], bytes),
+        _ => (0, bytes),
     }
 }
 
-/// The digits of seconds and of their fraction that are all of the bytes; none of no bytes.
-#[tactic(auto, unfolding(crate::specs::inside::Reading::read_seconds))]
-fn split_seconds(bytes: &[u8]) -> Option<(&[u8], &[u8])>
-    ensures { option_map (λ r. (r.0.now, r.1.now)) result ≡ read_seconds bytes.now }
+/// The seconds and their fraction where they are all that is left; none of nothing.
+#[inline(always)]
+fn split_seconds(front: &Front<'_>) -> Option<(u64, u64)>
+    ensures { result ≡ seconds_counted (seen front.now) }
 {
-    if bytes.is_empty() {
-        return Some((bytes, bytes));
+    if front.digits.is_empty() {
+        return if front.rest.is_empty() {
+            Some((0, 0))
+        } else {
+            None
+        };
     }
-    let (digits, rest) = split_digits(bytes);
-    if digits.is_empty() {
-        return None;
-    }
-    let (fraction, last) = split_fraction(rest);
+    let (micros, last) = split_fraction(front.rest);
     match last {
-        [byte] if *byte == b'S' => Some((digits, fraction)),
+        [byte] if *byte == b'S' => Some((front.number, micros)),
         _ => None,
     }
 }
 
 /// The counts that are all of the bytes behind a `T`.
-#[tactic(auto, unfolding(crate::specs::inside::Reading::read_time))]
-fn split_time(bytes: &[u8]) -> Option<Clock<'_>>
-    ensures { option_map clock_of result ≡ read_time bytes.now }
+#[inline(always)]
+#[tactic(auto, unfolding(crate::specs::inside::Fronts::time_counted))]
+fn split_time(bytes: &[u8]) -> Option<Clock>
+    ensures { result ≡ time_counted bytes.now }
 {
-    let (hours, rest) = split_count(bytes, b'H');
-    let (minutes, rest) = split_count(rest, b'M');
-    let (seconds, fraction) = split_seconds(rest)?;
+    let (hours, front) = split_count(&front_of(bytes), b'H');
+    let (minutes, front) = split_count(&front, b'M');
+    let (seconds, micros) = split_seconds(&front)?;
     Some(Clock {
         hours,
         minutes,
         seconds,
-        fraction,
+        micros,
     })
 }
 
-/// The counts behind the `T` in front, at least one; none of no bytes.
-fn split_clock(bytes: &[u8]) -> Option<Clock<'_>>
-    ensures { option_map clock_of result ≡ read_clock bytes.now }
+/// The counts behind the `T` in front, at least one; none of nothing.
+#[inline(always)]
+fn split_clock(front: &Front<'_>) -> Option<Clock>
+    ensures { result ≡ clock_counted (seen front.now) }
 {
-    match bytes {
+    if !front.digits.is_empty() {
+        return None;
+    }
+    match front.rest {
         [] => Some(Clock {
-            hours: &[],
-            minutes: &[],
-            seconds: &[],
-            fraction: &[],
+            hours: 0,
+            minutes: 0,
+            seconds: 0,
+            micros: 0,
         }),
         [_] => None,
         [byte, time @ ..] if *byte == b'T' => split_time(time),
@@ -135,15 +143,16 @@ fn split_clock(bytes: &[u8]) -> Option<Clock<'_>>
 }
 
 /// The counts that are all of the bytes.
-#[tactic(auto, unfolding(crate::specs::inside::Reading::read_counts))]
-fn split_counts(negative: bool, bytes: &[u8]) -> Option<Fields<'_>>
-    ensures { option_map spelling_of result ≡ read_counts negative bytes.now }
+#[inline(always)]
+#[tactic(auto, unfolding(crate::specs::inside::Fronts::counts_counted))]
+fn split_counts(negative: bool, bytes: &[u8]) -> Option<Numbers>
+    ensures { result ≡ counts_counted negative bytes.now }
 {
-    let (years, rest) = split_count(bytes, b'Y');
-    let (months, rest) = split_count(rest, b'M');
-    let (days, rest) = split_count(rest, b'D');
-    let clock = split_clock(rest)?;
-    Some(Fields {
+    let (years, front) = split_count(&front_of(bytes), b'Y');
+    let (months, front) = split_count(&front, b'M');
+    let (days, front) = split_count(&front, b'D');
+    let clock = split_clock(&front)?;
+    Some(Numbers {
         negative,
         years,
         months,
@@ -153,8 +162,9 @@ fn split_counts(negative: bool, bytes: &[u8]) -> Option<Fields<'_>>
 }
 
 /// The counts behind the `P` in front, at least one.
-fn split_unsigned(negative: bool, bytes: &[u8]) -> Option<Fields<'_>>
-    ensures { option_map spelling_of result ≡ read_unsigned negative bytes.now }
+#[inline(always)]
+fn split_unsigned(negative: bool, bytes: &[u8]) -> Option<Numbers>
+    ensures { result ≡ unsigned_counted negative bytes.now }
 {
     match bytes {
         [] => None,
@@ -167,13 +177,22 @@ fn split_unsigned(negative: bool, bytes: &[u8]) -> Option<Fields<'_>>
     }
 }
 
-/// The whole text's sign and counts.
-#[tactic(auto, unfolding(crate::specs::inside::Reading::read_spelling))]
-fn split_spelling(text: &[u8]) -> Option<Fields<'_>>
-    ensures { option_map spelling_of result ≡ read_spelling text.now }
+/// Whether a minus stands in front, and what follows it.
+#[inline(always)]
+fn split_sign(text: &[u8]) -> (bool, &[u8])
+    ensures { (result.0, result.1.now) ≡ sign_split text.now }
 {
     match text {
-        [byte, rest @ ..] if *byte == b'-' => split_unsigned(true, rest),
-        _ => split_unsigned(false, text),
+        [byte, rest @ ..] if *byte == b'-' => (true, rest),
+        _ => (false, text),
     }
+}
+
+/// The whole text's sign, and the numbers of its counts.
+#[inline(always)]
+fn numbers_in(text: &[u8]) -> Option<Numbers>
+    ensures { result ≡ option_map numbers_of (read_spelling text.now) }
+{
+    let (negative, rest) = split_sign(text);
+    split_unsigned(negative, rest)
 }

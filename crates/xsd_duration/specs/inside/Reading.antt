@@ -2,8 +2,6 @@
 use Rattle.std.specs.Prelude.{ℕ, Bool, true, false, ◌==◌, List, [], ◌∷◌, Option, Some, None, if◌then◌else◌, option_and_then}
 use Rattle.scan_core.specs.Fronts.{front_digits, after_digits}
 use Rattle.xsd_duration.specs.Durations.{Spelling}
-use Rattle.xsd_duration.specs.declared.reading.Clock.{Clock as Split}
-use Rattle.xsd_duration.specs.declared.reading.Fields.{Fields}
 
 -- digits and what follows the letter behind them, or no digits and all bytes
 abbrev pub closed_by : ℕ → List ℕ → List ℕ → List ℕ → List ℕ × List ℕ
@@ -90,10 +88,3 @@ unfoldable pub read_spelling : List ℕ → Option Spelling
 read_spelling [] = read_unsigned false []
 read_spelling (b ∷ bs) =
     if b == 45 then read_unsigned true bs else read_unsigned false (b ∷ bs)
-
--- the counts of a clock, and the spelling, in slices of a text
-abbrev pub clock_of : Split → Clock
-clock_of c = (c.hours.now, (c.minutes.now, (c.seconds.now, c.fraction.now)))
-
-abbrev pub spelling_of : Fields → Spelling
-spelling_of f = spelled f.negative f.years.now f.months.now f.days.now (clock_of f.clock)
