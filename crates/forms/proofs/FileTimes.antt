@@ -22,7 +22,7 @@ use Rattle.forms.specs.form.FileTime.{worth, ticks_after, held}
 use Rattle.nt_time.specs.Text.{IsTextOf}
 use Rattle.forms.specs.inside.Lawful.{Lawful}
 use Rattle.forms.proofs.Fitting.{less, no_more}
-use Rattle.forms.proofs.Lawful.{then_ok, else_ok, same_ok, one_image, IsHeldBack, lawful_by}
+use Rattle.forms.proofs.Lawful.{AreAscii, then_ok, else_ok, same_ok, one_image, IsHeldBack, lawful_by}
 
 -- ---- reading
 
@@ -111,6 +111,16 @@ between nanos ticks from not =
     let least : pos (100 * ticks) ≤ℤ (nanos -ℤ unix_nanos 0) = let l = floor.0 in omega (arith, ints) in
     not_whole (nanos -ℤ unix_nanos 0) ticks least (omega (arith, ints)) (λ e. not (omega (arith, ints))) (omega (arith, ints))
 
+-- the count that an instant is given has 64 bits
+pub count_fits : (nanos : ℤ) (ticks : ℕ) → IsFromUnixNanos nanos (Ok ticks) → unix_nanos ticks ≡ nanos → ticks < 2 ^ 64
+count_fits nanos ticks from e =
+    let last : nanos ≤ℤ unix_nanos (2 ^ 64 - 1) = no_more (unix_nanos (2 ^ 64 - 1)) nanos (λ h. let e = from.overflow.1 h in cc) in
+    omega (arith, ints)
+
+-- 10_330_176_681_277_348_905 is the inverse of 25 modulo 2^64
+pub divided : (ticks : ℕ) → ticks < 2 ^ 64 → (100 * ticks / 4) % 2 ^ 64 * 10_330_176_681_277_348_905 % 2 ^ 64 ≡ ticks
+divided ticks fits = omega arith
+
 -- an instant before the first count or after the last
 pub beyond : (nanos : ℤ) (error : FileTimeRangeErrorKind) → IsFromUnixNanos nanos (Err error)
     → ticks_after (nanos -ℤ unix_nanos 0) ≡ Err Range
@@ -154,8 +164,8 @@ held_back digits (Instant nanos) ticks w h =
 held_back digits _ ticks w h = absurd (let e : Err Kind ≡ Ok ticks = h in cc)
 
 pub file_times : ((text : List ℕ) (m n : ℕ) → IsTextOf text m → IsTextOf text n → m ≡ n)
-    → ((ticks : ℕ) → IsFileTime ticks → IsTextOf (decimal ticks) ticks) → Lawful FileTime
-file_times one digits =
+    → ((ticks : ℕ) → IsFileTime ticks → IsTextOf (decimal ticks) ticks) → AreAscii IsTextOf → Lawful FileTime
+file_times one digits ascii =
     lawful_by FileTime IsTextOf (Is worth) (Is held) decimal (record {
       reads = λ text a h. h;
       read = λ text a h. h;
@@ -166,6 +176,7 @@ file_times one digits =
       one = one;
       one_worth = one_image worth;
       one_held = one_image held;
+      ascii = ascii;
       within = λ text ticks value spelled h. within text ticks value spelled (sym h);
       back =
           λ value ticks w h. held_back digits value ticks w (sym h);

@@ -1,5 +1,5 @@
 -- Dates of HTTP and of mail as forms: their moments, what is held of a value, and that it is read back. What is said is said of any grammar.
-use Rattle.std.proofs.Common.{◌≡◌, ◌≢◌, ◌⊎◌, ℕ, ◌+◌, ◌*◌, ◌^◌, ◌<◌, ◌≤◌, List, Result, Ok, Err, refl, sym, ◌∙◌, ap, subst, inl, inr, arith}
+use Rattle.std.proofs.Common.{◌≡◌, ◌≢◌, ◌⊎◌, ℕ, ◌+◌, ◌*◌, ◌<◌, ◌≤◌, List, Result, Ok, Err, refl, sym, ◌∙◌, ap, subst, inl, inr, arith}
 use Rattle.std.specs.Prelude.{ℤ, pos, ◌+ℤ◌, ◌-ℤ◌, ◌*ℤ◌, unsigned_abs, IsSome}
 use Rattle.std.specs.Int.{int_div_euclid, int_rem_euclid}
 use Rattle.std.proofs.lemmas.Int.{ints}
@@ -26,7 +26,7 @@ use Rattle.forms.specs.form.InternetDates.{Holds, HoldsSecond, Worth}
 use Rattle.forms.specs.inside.InternetParts.{answered}
 use Rattle.forms.specs.inside.Lawful.{Lawful}
 use Rattle.forms.proofs.Judging.{one_judged, judged_within}
-use Rattle.forms.proofs.Lawful.{HasRows, IsHeldBack, lawful_by}
+use Rattle.forms.proofs.Lawful.{AreAscii, HasRows, IsHeldBack, lawful_by}
 
 -- ---- reading
 
@@ -143,13 +143,14 @@ held_back Spells text_of first back (Length nanos) t h = absurd (let e : Ok t �
 pub dates : (form : Form) (Spells : List ℕ → DateTime → Type 0) (text_of : DateTime → List ℕ) (first : ℕ)
     → HasRows form Spells (Worth first) (Holds first) text_of
     → ((text : List ℕ) (a b : DateTime) → Spells text a → Spells text b → a ≡ b) → HasOneDate → IsSpelledBack Spells text_of → SameDays
-    → Lawful form
-dates form Spells text_of first rows one one_date back days =
+    → AreAscii Spells → Lawful form
+dates form Spells text_of first rows one one_date back days ascii =
     lawful_by form Spells (Worth first) (Holds first) text_of rows
     (record {
       one = one;
       one_worth = λ t a b h k. one_judged (IsRealMoment t) (first ≤ t.year) (Instant (seconds_of t *ℤ pos 1_000_000_000)) a b h k;
       one_held = one_held one_date first;
+      ascii = ascii;
       within = λ text t value spelled h. judged_within (IsRealMoment t) (first ≤ t.year) (Instant (seconds_of t *ℤ pos 1_000_000_000)) value
           (λ real least. moment_within days t real) h;
       back = λ value t w h. held_back Spells text_of first back value t h;

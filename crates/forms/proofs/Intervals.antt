@@ -1,5 +1,5 @@
 -- The interval forms: what counts are worth, what interval is held of a value, and that it is read back. What is said is said of any style.
-use Rattle.std.proofs.Common.{◌≡◌, ℕ, ◌/◌, ◌%◌, ◌==◌, ◌&&◌, true, false, IsTrue, List, Some, None, Ok, Err, FitsSigned, w32, w64, refl, sym}
+use Rattle.std.proofs.Common.{◌≡◌, ℕ, ◌/◌, ◌%◌, ◌==◌, ◌&&◌, false, IsTrue, List, Some, None, Ok, Err, FitsSigned, w32, w64, refl, sym}
 use Rattle.std.proofs.Common.{◌∙◌, ap, subst, inl, inr, arith}
 use Rattle.std.specs.Prelude.{ℤ, pos, Result}
 use Rattle.std.proofs.lemmas.Bool.{and_parts, and_left, and_right, false_from_ne_true}
@@ -30,7 +30,7 @@ use Rattle.forms.specs.inside.Lawful.{Lawful}
 use Rattle.forms.specs.inside.Readers.{IsRefusedBy}
 use Rattle.scan_core.proofs.FitFacts.{within_32, within_64, fits_32, fits_64}
 use Rattle.forms.proofs.Fitting.{widen}
-use Rattle.forms.proofs.Lawful.{then_ok, same_ok, one_image, IsHeldBack, HasRows, lawful_by}
+use Rattle.forms.proofs.Lawful.{AreAscii, then_ok, same_ok, one_image, IsHeldBack, HasRows, lawful_by}
 
 -- a length in whole days of 86_400 seconds and the microseconds beyond them
 abbrev pub length_in_days : ℕ → Interval
@@ -256,13 +256,14 @@ held_back s written_back _ t w h = absurd (let e : Err Kind ≡ Ok t = h in cc)
 
 pub intervals : (form : Form) (s : Style) → HasRows form (Shape s) (Is worth) (Is held) (style_text s)
     → ((text : List ℕ) (a b : List Count) → Shape s text a → Shape s text b → a ≡ b) → IsDenotedInRange (Shape s) → IsWrittenBack s
-    → Lawful form
-intervals form s rows one in_range written_back =
+    → AreAscii (Shape s) → Lawful form
+intervals form s rows one in_range written_back ascii =
     lawful_by form (Shape s) (Is worth) (Is held) (style_text s) rows
     (record {
       one = one;
       one_worth = one_image worth;
       one_held = one_image held;
+      ascii = ascii;
       within = λ text counts value spelled h. within (Shape s) in_range text counts value spelled (sym h);
       back = λ value t w h. held_back s written_back value t w (sym h);
     })

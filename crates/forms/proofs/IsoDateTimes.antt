@@ -1,6 +1,6 @@
 -- Date-times of ISO 8601 as a form: their moments, and that the text of a moment is short and read back.
 use Rattle.std.proofs.Common.{◌≡◌, ℕ, ◌+◌, ◌*◌, ◌/◌, ◌%◌, ◌^◌, ◌<◌, ◌≤◌, ◌==◌, Bool, true, false, List, ◌++◌, codes, length, Result, Ok}
-use Rattle.std.proofs.Common.{Err, refl, sym, ◌∙◌, ap, subst, inl, inr, length-append, arith, ap₂, if◌then◌else◌}
+use Rattle.std.proofs.Common.{◌⊎◌, Err, refl, sym, ◌∙◌, ap, subst, inl, inr, length-append, arith, ap₂, if◌then◌else◌}
 use Rattle.std.specs.Prelude.{ℤ, pos, ◌+ℤ◌, ◌-ℤ◌, ◌*ℤ◌, unsigned_abs}
 use Rattle.std.specs.Int.{is_negative}
 use Rattle.std.proofs.lemmas.Bool.Decides.{nat_tests}
@@ -18,15 +18,14 @@ use Rattle.jiff_core.specs.declared.civil.date.Date.{Date as CivilDate}
 use Rattle.iso8601.specs.Calendar.{day_of, IsCivilDay, Exists}
 use Rattle.iso8601.specs.declared.types.Date.{Date}
 use Rattle.iso8601.specs.DateTimes.{IsDateTime}
-use Rattle.iso8601.specs.Moments.{IsMoment, IsMomentOf, offset_of}
+use Rattle.iso8601.specs.Moments.{IsMoment, offset_of}
 use Rattle.iso8601.specs.Ranges.{IsDateTimeInRange, HaveOneSign}
 use Rattle.iso8601.specs.Written.{year_text, date_text, date_time_text}
 use Rattle.scan_core.specs.Number.{minus}
 use Rattle.iso8601.specs.declared.types.Date.TheVariants.{YMD}
 use Rattle.iso8601.specs.declared.types.DateTime.{DateTime}
-use Rattle.iso8601.specs.declared.types.FixedMoment.{FixedMoment}
 use Rattle.forms.specs.declared.cause.Cause.{Cause}
-use Rattle.forms.specs.declared.cause.Cause.TheVariants.{Range, Kind, Precision}
+use Rattle.forms.specs.declared.cause.Cause.TheVariants.{Range, NoSuchMoment, Kind, Precision}
 use Rattle.forms.specs.declared.form.Form.TheVariants.{IsoDateTime}
 use Rattle.forms.specs.declared.value.Value.{Value}
 use Rattle.forms.specs.declared.value.Value.TheVariants.{Instant, Day, Local, Clock, Triple, Length}
@@ -38,8 +37,8 @@ use Rattle.iso8601.specs.DateTimes.{IsDateTime}
 use Rattle.forms.specs.inside.CivilMoments.{utc, in_millis, HoldsCivil}
 use Rattle.forms.specs.inside.Lawful.{Lawful}
 use Rattle.forms.proofs.IsoDates.{AreCalendarDates, date_in_range, is_civil_day, civil_bounds}
-use Rattle.forms.proofs.Judging.{one_judged, judged_within}
-use Rattle.forms.proofs.Lawful.{then_ok, same_ok, IsHeldBack, lawful_by}
+use Rattle.forms.proofs.Judging.{one_judged, judged_within, judged_none}
+use Rattle.forms.proofs.Lawful.{AreAscii, then_ok, same_ok, IsHeldBack, lawful_by}
 
 -- ---- reading
 
@@ -47,28 +46,20 @@ clock_same : (hour minute second millis n : ℕ) → n ≡ 1_000_000 * millis
     → ((hour * 60 + minute) * 60 + second) * 1_000_000_000 + millis * 1_000_000 ≡ (hour * 3600 + minute * 60 + second) * 1_000_000_000 + n
 clock_same hour minute second millis n e = omega arith
 
--- the moment of a civil date-time and its offset
-pub moment_value : (t : DateTime) (m : FixedMoment) → IsMomentOf t m
-    → civil_nanos m.local -ℤ m.offset_seconds *ℤ pos 1_000_000_000 ≡ instant_of t
-moment_value t m h =
-    let parts = civil_nanos-parts m.local in
-    let day = h.0 in
-    let clock = h.1 in
-    let offset = h.2 in
-    let times : time_nanos m.local.time ≡ clock_of t.time = rw (clock.0, clock.1, clock.2)
-    (sym (clock_same t.time.hour t.time.minute t.time.second t.time.millisecond m.local.time.subsec_nanosecond clock.3)) in
-    omega (arith, ints)
+-- the moment of a date-time in milliseconds
+pub moment_value : (t : DateTime) (millis : ℤ)
+    → millis ≡ (pos 86_400_000 *ℤ day_of t.date +ℤ pos (t.time.hour * 3_600_000 + t.time.minute * 60_000 + t.time.second * 1000
+    + t.time.millisecond))
+    -ℤ pos 1000 *ℤ offset_of t.time → millis *ℤ pos 1_000_000 ≡ instant_of t
+moment_value t millis h = omega (arith, ints)
 
-pub is_worth : (t : DateTime) (m : FixedMoment) → IsMoment t → IsMomentOf t m
-    → Worth t (Ok (Instant (civil_nanos m.local -ℤ m.offset_seconds *ℤ pos 1_000_000_000)))
-is_worth t m real of = inl (
-  record { day = real.0; clock = real.2; offset = real.3 },
-  real.1,
-  ap (λ (z : ℤ). Ok (Instant z)) (moment_value t m of),
-)
+pub is_worth : (t : DateTime) → IsMoment t → Worth t (Ok (Instant (instant_of t)))
+is_worth t real = inl (record { day = real.0; clock = real.2; offset = real.3 }, real.1, refl)
 
-pub is_out : (t : DateTime) → IsReal t → (IsMoment t → ⊥) → Worth t (Err Range)
-is_out t real isnt = inr (inr (real, (λ day. isnt (real.day, day, real.clock, real.offset)), refl))
+pub none_worth : (t : DateTime) (cause : Cause) → (IsMoment t → ⊥)
+    → (IsReal t × (cause ≡ Range)) ⊎ ((IsReal t → ⊥) × (cause ≡ NoSuchMoment)) → Worth t (Err cause)
+none_worth t cause isnt why = judged_none (IsReal t) (IsCivilDay (day_of t.date)) (Instant (instant_of t)) cause
+    (λ real day. isnt (real.day, day, real.clock, real.offset)) why
 
 -- ---- the text of a date is short
 
@@ -319,14 +310,16 @@ real_within laws t real day = instant_within (day_of t.date) (offset_of t.time) 
     real.clock.1 real.clock.2 real.clock.3)
 
 pub iso_date_times : ((text : List ℕ) (a b : DateTime) → IsDateTime text a → IsDateTime text b → a ≡ b)
-    → ((t : DateTime) → IsDateTimeInRange t → IsDateTime (date_time_text t) t) → AreCalendarDates → Lawful IsoDateTime
-iso_date_times one spelled laws =
+    → ((t : DateTime) → IsDateTimeInRange t → IsDateTime (date_time_text t) t) → AreCalendarDates → AreAscii IsDateTime
+    → Lawful IsoDateTime
+iso_date_times one spelled laws ascii =
     lawful_by IsoDateTime IsDateTime Worth Holds date_time_text
     (record { reads = λ text a h. h; read = λ text a h. h; writes = λ value a h. h; written = λ value a h. h })
     (record {
       one = one;
       one_worth = λ t a b h k. one_judged (IsReal t) (IsCivilDay (day_of t.date)) (Instant (instant_of t)) a b h k;
       one_held = one_held laws;
+      ascii = ascii;
       within = λ text t value spelled h. judged_within (IsReal t) (IsCivilDay (day_of t.date)) (Instant (instant_of t)) value
           (real_within laws t) h;
       back = held_back laws spelled;

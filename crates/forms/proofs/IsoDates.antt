@@ -22,7 +22,7 @@ use Rattle.iso8601.specs.Dates.{IsDate}
 use Rattle.forms.specs.inside.CivilDates.{date_of}
 use Rattle.forms.specs.inside.Lawful.{Lawful}
 use Rattle.forms.proofs.Judging.{one_judged, judged_within}
-use Rattle.forms.proofs.Lawful.{same_ok, IsHeldBack, lawful_by}
+use Rattle.forms.proofs.Lawful.{AreAscii, same_ok, IsHeldBack, lawful_by}
 
 -- what the laws of the crate below say of civil dates
 pub record AreCalendarDates : Type 0 where
@@ -103,8 +103,9 @@ held_back laws spelled (Day day) date w h =
 held_back laws spelled _ date w h = absurd (let e : Ok date ≡ Err Kind = h in cc)
 
 pub iso_dates : ((text : List ℕ) (a b : Date) → IsDate text a → IsDate text b → a ≡ b)
-    → ((date : Date) → IsDateInRange date → IsDate (date_text date) date) → AreCalendarDates → Lawful IsoDate
-iso_dates one spelled laws =
+    → ((date : Date) → IsDateInRange date → IsDate (date_text date) date) → AreCalendarDates → AreAscii IsDate
+    → Lawful IsoDate
+iso_dates one spelled laws ascii =
     lawful_by IsoDate IsDate Worth Holds date_text (record {
       reads = λ text a h. h;
       read = λ text a h. h;
@@ -115,6 +116,7 @@ iso_dates one spelled laws =
       one = one;
       one_worth = λ date a b h k. one_judged (Exists date) (IsCivilDay (day_of date)) (Day (day_of date)) a b h k;
       one_held = one_held laws;
+      ascii = ascii;
       within = λ text date value spelled h. judged_within (Exists date) (IsCivilDay (day_of date)) (Day (day_of date)) value
           (λ real day. civil_bounds laws (day_of date) day) h;
       back = held_back laws spelled;

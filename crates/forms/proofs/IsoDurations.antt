@@ -10,7 +10,7 @@ use Rattle.iso8601.specs.Fields.{IsOrZero}
 use Rattle.iso8601.specs.Ranges.{IsDurationInRange}
 use Rattle.iso8601.specs.WrittenDurations.{duration_text}
 use Rattle.iso8601.specs.declared.types.Duration.{Duration}
-use Rattle.iso8601.specs.declared.types.Duration.TheVariants.{YMDHMS, Weeks}
+use Rattle.iso8601.specs.declared.types.Duration.TheVariants.{Weeks}
 use Rattle.forms.specs.declared.cause.Cause.TheVariants.{Range, Kind, Precision}
 use Rattle.forms.specs.declared.form.Form.TheVariants.{IsoDuration}
 use Rattle.forms.specs.declared.value.Value.{Value}
@@ -20,7 +20,7 @@ use Rattle.forms.specs.Values.{IsWithinBounds, Same}
 use Rattle.forms.specs.form.IsoDuration.{triple_of, worth, duration_of, counts_of, held_length, held}
 use Rattle.forms.specs.inside.IsoParts.{micros_of}
 use Rattle.forms.specs.inside.Lawful.{Lawful}
-use Rattle.forms.proofs.Lawful.{then_ok, same_ok, one_image, IsHeldBack, lawful_by}
+use Rattle.forms.proofs.Lawful.{AreAscii, then_ok, same_ok, one_image, IsHeldBack, lawful_by}
 
 -- ---- reading
 
@@ -236,14 +236,15 @@ held_back spelled (Length nanos) d w h =
 held_back spelled _ d w h = absurd (let e : Err Kind ≡ Ok d = h in cc)
 
 pub iso_durations : ((text : List ℕ) (a b : Duration) → IsDuration text a → IsDuration text b → a ≡ b) → AreSpelled
-    → Lawful IsoDuration
-iso_durations one spelled =
+    → AreAscii IsDuration → Lawful IsoDuration
+iso_durations one spelled ascii =
     lawful_by IsoDuration IsDuration (Is worth) (Is held) duration_text
     (record { reads = λ text a h. h; read = λ text a h. h; writes = λ value a h. h; written = λ value a h. h })
     (record {
       one = one;
       one_worth = one_image worth;
       one_held = one_image held;
+      ascii = ascii;
       within = λ text d value spells h. body_small spells.0 d spells.1 value (sym h);
       back = λ value d w h. held_back spelled value d w (sym h);
     })

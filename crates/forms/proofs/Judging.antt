@@ -1,5 +1,5 @@
 -- What is real and in range, what isn't real, and what is out of range: one answer.
-use Rattle.std.proofs.Common.{◌≡◌, Result, Ok, Err, sym, ◌∙◌, subst, inl, inr}
+use Rattle.std.proofs.Common.{◌≡◌, ◌⊎◌, Result, Ok, Err, sym, ◌∙◌, ap, subst, inl, inr}
 use Rattle.forms.specs.declared.cause.Cause.{Cause}
 use Rattle.forms.specs.declared.cause.Cause.TheVariants.{NoSuchMoment, Range}
 use Rattle.forms.specs.declared.value.Value.{Value}
@@ -25,3 +25,9 @@ judged_within Real InRange made value bound (inl h) = let same : made ≡ value 
     subst IsWithinBounds same (bound h.0 h.1)
 judged_within Real InRange made value bound (inr (inl h)) = absurd (let e : Ok value ≡ Err NoSuchMoment = h.1 in cc)
 judged_within Real InRange made value bound (inr (inr h)) = absurd (let e : Ok value ≡ Err Range = h.2 in cc)
+
+-- what has no value is judged by whether it is real
+pub judged_none : (Real InRange : Type 0) (made : Value) (cause : Cause) → (Real → InRange → ⊥)
+    → (Real × (cause ≡ Range)) ⊎ ((Real → ⊥) × (cause ≡ NoSuchMoment)) → Judged Real InRange made (Err cause)
+judged_none Real InRange made cause isnt (inl h) = inr (inr (h.0, isnt h.0, ap Err h.1))
+judged_none Real InRange made cause isnt (inr h) = inr (inl (h.0, ap Err h.1))

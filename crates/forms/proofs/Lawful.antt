@@ -1,5 +1,6 @@
 -- The laws of any form, from what its four words say of each other.
-use Rattle.std.proofs.Common.{◌≡◌, ℕ, Bool, true, false, cond, List, Result, Ok, Err, IfOk, refl, sym, ◌∙◌, ap, subst, inl, inr}
+use Rattle.std.proofs.Common.{◌≡◌, ◌≢◌, ℕ, Bool, true, false, cond, List, Result, Ok, Err, IfOk, refl, sym, ◌∙◌, ap, subst, inl, inr}
+use Rattle.std.specs.Str.{IsAscii}
 use Rattle.arrayvec.specs.ArrayString.{ArrayString}
 use Rattle.forms.specs.declared.cause.Cause.{Cause}
 use Rattle.forms.specs.declared.cause.Cause.TheVariants.{Syntax}
@@ -47,6 +48,16 @@ one_by Spells Worth one one_worth text a b (inl h) (inr k) = absurd (k.0 h.0 h.1
 one_by Spells Worth one one_worth text a b (inr h) (inl k) = absurd (h.0 k.0 k.1)
 one_by Spells Worth one one_worth text a b (inr h) (inr k) = h.1 ∙ sym k.1
 
+-- what is spelled is ASCII
+abbrev pub AreAscii : {X : Type 0} → (List ℕ → X → Type 0) → Type 0
+AreAscii {X} Spells = (text : List ℕ) (x : X) → Spells text x → IsAscii text
+
+ascii_by : {X : Type 0} (Spells : List ℕ → X → Type 0) (Worth : X → Result Value Cause → Type 0) → AreAscii Spells
+    → (text : List ℕ) (a : Result Value Cause) → ReadsBy Spells Worth text a → a ≢ Err Syntax
+    → IsAscii text
+ascii_by Spells Worth ascii text a (inl h) other = ascii text h.0 h.1
+ascii_by Spells Worth ascii text a (inr h) other = absurd (other h.1)
+
 within_by : {X : Type 0} (Spells : List ℕ → X → Type 0) (Worth : X → Result Value Cause → Type 0)
     → ((text : List ℕ) (x : X) (value : Value) → Spells text x → Worth x (Ok value) → IsWithinBounds value)
     → (text : List ℕ) (value : Value) → ReadsBy Spells Worth text (Ok value)
@@ -74,12 +85,14 @@ pub record HasRows {X Y : Type 0} (form : Form) (Spells : List ℕ → X → Typ
   pub writes : (value : Value) (a : Result (List ℕ) Cause) → Writes form value a → WritesBy Holds text_of value a
   pub written : (value : Value) (a : Result (List ℕ) Cause) → WritesBy Holds text_of value a → Writes form value a
 
--- what the words say of each other: each relation has one answer, what is worth is within the bounds, and what is held is held back
+-- what the words say of each other: each relation has one answer, what is spelled is ASCII, what is worth is within
+-- the bounds, and what is held is held back
 pub record AreLawful {X Y : Type 0} (Spells : List ℕ → X → Type 0) (Worth : X → Result Value Cause → Type 0)
     (Holds : Value → Result Y Cause → Type 0) (text_of : Y → List ℕ) : Type 0 where
   pub one : (text : List ℕ) (x y : X) → Spells text x → Spells text y → x ≡ y
   pub one_worth : (x : X) (a b : Result Value Cause) → Worth x a → Worth x b → a ≡ b
   pub one_held : (value : Value) (a b : Result Y Cause) → Holds value a → Holds value b → a ≡ b
+  pub ascii : AreAscii Spells
   pub within : (text : List ℕ) (x : X) (value : Value) → Spells text x → Worth x (Ok value) → IsWithinBounds value
   pub back : (value : Value) (y : Y) → IsWithinBounds value → Holds value (Ok y) → IsHeldBack Spells Worth Holds (text_of y) value y
 
@@ -114,6 +127,7 @@ pub lawful_by : {X Y : Type 0} (form : Form) (Spells : List ℕ → X → Type 0
 lawful_by form Spells Worth Holds text_of rows words = record {
   one = λ text a b h k. one_by Spells Worth words.one words.one_worth text a b (rows.reads text a h) (rows.reads text b k);
   one_written = λ value a b h k. one_written_by Holds text_of words.one_held value a b (rows.writes value a h) (rows.writes value b k);
+  ascii = λ text a h other. ascii_by Spells Worth words.ascii text a (rows.reads text a h) other;
   within = λ text value h. within_by Spells Worth words.within text value (rows.reads text (Ok value) h);
   back = back_by form Spells Worth Holds text_of rows words;
 }

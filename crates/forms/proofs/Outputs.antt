@@ -1,9 +1,9 @@
 -- Outputs behind outputs, and fronts of them.
-use Rattle.std.proofs.Common.{◌≡◌, ◌⊎◌, ℕ, List, [], ◌∷◌, ◌++◌, Option, refl, sym, ◌∙◌, ap, subst, append_assoc, append-nil}
+use Rattle.std.proofs.Common.{◌≡◌, ℕ, List, [], ◌∷◌, ◌++◌, Option, refl, sym, ◌∙◌, ap, subst, append_assoc, append-nil}
 use Rattle.std.proofs.KnownBytes.{Appends-trans}
 use Rattle.std.specs.Io.KnownBytes.{Appends}
 use Rattle.forms.specs.Outside.{AppendsFront}
-use Rattle.forms.specs.Outputs.{AreOutputs, IsFrontOfOutputs, GainsOutputs, GainsOutputsFront}
+use Rattle.forms.specs.Outputs.{AreOutputs, GainsOutputs, GainsOutputsFront}
 
 pub outputs_append : {A : Type 0} (Says : A → List ℕ → List ℕ → A → Type 0) (s t u : A) (xs ys : List (List ℕ)) (a b : List ℕ)
     → AreOutputs Says s xs a t → AreOutputs Says t ys b u

@@ -1,7 +1,7 @@
 -- PostgreSQL's timestamps as a form: their values in nanoseconds, what is held of a value, and that it is read back.
-use Rattle.std.proofs.Common.{◌≡◌, ◌≢◌, ℕ, ◌*◌, ◌/◌, ◌%◌, ◌^◌, ◌<◌, List, Result, Ok, Err, Option, None, Some, refl, sym, ◌∙◌, ap, subst}
+use Rattle.std.proofs.Common.{◌≡◌, ℕ, ◌*◌, ◌/◌, ◌%◌, List, Result, Ok, Err, Option, None, Some, refl, sym, ◌∙◌, ap, subst}
 use Rattle.std.proofs.Common.{inl, inr, arith}
-use Rattle.std.specs.Prelude.{ℤ, pos, ◌+ℤ◌, ◌-ℤ◌, ◌*ℤ◌, ◌≤ℤ◌, ◌<ℤ◌, unsigned_abs}
+use Rattle.std.specs.Prelude.{ℤ, pos, ◌*ℤ◌, ◌≤ℤ◌, unsigned_abs}
 use Rattle.std.specs.Int.{int_div_euclid, int_rem_euclid}
 use Rattle.std.proofs.lemmas.Int.{ints}
 use Rattle.jiff_core.proofs.SignedLemmas.{signed_arith}
@@ -24,7 +24,7 @@ use Rattle.forms.specs.form.PgTimestamp.{in_nanos, Holds, HoldsMicros, Worth}
 use Rattle.forms.specs.inside.PgTimestampParts.{FindsMicros}
 use Rattle.forms.specs.inside.Lawful.{Lawful}
 use Rattle.forms.proofs.Judging.{one_judged, judged_within}
-use Rattle.forms.proofs.Lawful.{IsHeldBack, lawful_by}
+use Rattle.forms.proofs.Lawful.{AreAscii, IsHeldBack, lawful_by}
 
 -- ---- reading
 
@@ -160,14 +160,15 @@ held_back back value text bounds h =
 -- ---- the laws
 
 pub timestamps : ((text : List ℕ) (a b : Timestamp) → IsTimestampText text a → IsTimestampText text b → a ≡ b) → HasOneText → AreReadBack
-    → Lawful PgTimestamp
-timestamps one one_text back =
+    → AreAscii IsTimestampText → Lawful PgTimestamp
+timestamps one one_text back ascii =
     lawful_by PgTimestamp IsTimestampText Worth Holds (λ text. text)
     (record { reads = λ text a h. h; read = λ text a h. h; writes = λ value a h. h; written = λ value a h. h })
     (record {
       one = one;
       one_worth = λ t a b h k. one_judged (IsRealTimestamp t) (IsInRange t) (in_nanos (value_of t)) a b h k;
       one_held = one_held one_text;
+      ascii = ascii;
       within = λ text t value spelled h. worth_within t value h;
       back = held_back back;
     })

@@ -1,5 +1,5 @@
 -- The words that ask for a sample, and what a run in memory wrote of it.
-use Rattle.std.proofs.Common.{◌≡◌, ℕ, arith, refl, List, [], drop, decimal, Option, Some, sym, ◌∙◌, ap, subst, append-nil}
+use Rattle.std.proofs.Common.{◌≡◌, ℕ, arith, refl, List, [], drop, Option, Some, sym, ◌∙◌, ap, subst, append-nil}
 use Rattle.std.proofs.lemmas.Fmt.{decimal_injective}
 use Rattle.std.proofs.KnownBytes.{Consumes-whole}
 use Rattle.std.specs.Prelude.{IfSome}

@@ -1,7 +1,7 @@
 -- Short durations as a form: what a length is worth, which lengths are held, and that they are read back.
-use Rattle.std.proofs.Common.{◌≡◌, ℕ, ◌*◌, ◌%◌, ◌^◌, ◌<◌, ◌≤◌, ◌==◌, ◌&&◌, Bool, true, false, List, Result, Ok, Err, refl, sym, ◌∙◌, ap}
+use Rattle.std.proofs.Common.{◌≡◌, ℕ, ◌*◌, ◌%◌, ◌^◌, ◌<◌, ◌≤◌, Bool, true, false, List, Ok, Err, refl, sym, ◌∙◌, ap}
 use Rattle.std.proofs.Common.{subst, inl, inr, arith}
-use Rattle.std.specs.Prelude.{ℤ, pos, negsuc, ◌<ℤ◌, nat_le, nat_lt, IsErrOf, ◌↔◌}
+use Rattle.std.specs.Prelude.{ℤ, pos, negsuc, ◌<ℤ◌, nat_le, nat_lt, ◌↔◌}
 use Rattle.std.specs.Ordering.{int_eq}
 use Rattle.std.proofs.lemmas.Bool.{and_from, and_parts, false_from_ne_true, leb-true, le-leb, ltb-true, lt-ltb, le-ltb}
 use Rattle.std.proofs.lemmas.Bool.Decides.{nat_tests}
@@ -14,8 +14,6 @@ use Rattle.fancy_duration.specs.Strict.{IsStrict}
 use Rattle.fancy_duration.specs.Sums.{SumsTo}
 use Rattle.fancy_duration.specs.Times.{nanos_of, times_of}
 use Rattle.fancy_duration.specs.Written.{length_text}
-use Rattle.fancy_duration.specs.declared.error.FancyError.{FancyError}
-use Rattle.fancy_duration.specs.declared.error.FancyError.TheVariants.{TooBig, NotHeld}
 use Rattle.fancy_duration.specs.declared.part.DurationPart.TheVariants.{Years, Months, Minutes}
 use Rattle.forms.specs.declared.cause.Cause.TheVariants.{Syntax, Range, Kind, Ambiguous}
 use Rattle.forms.specs.declared.form.Form.TheVariants.{Fancy}
@@ -27,7 +25,7 @@ use Rattle.fancy_duration.specs.Spelled.{SpellsLength}
 use Rattle.forms.specs.form.Fancy.{worth, has_months_alone, length_of, held}
 use Rattle.forms.specs.inside.FancyParts.{length_of_triple}
 use Rattle.forms.specs.inside.Lawful.{Lawful}
-use Rattle.forms.proofs.Lawful.{then_ok, else_ok, same_ok, one_image, IsHeldBack, lawful_by}
+use Rattle.forms.proofs.Lawful.{AreAscii, then_ok, else_ok, same_ok, one_image, IsHeldBack, lawful_by}
 
 -- ---- reading
 
@@ -199,23 +197,15 @@ held_back sums strict back (Triple months days micros) nanos w h =
 held_back sums strict back _ nanos w h = absurd (let e : Err Kind ≡ Ok nanos = h in cc)
 
 pub short_durations : ((text : List ℕ) (a b : ℕ) → SumsTo text a → SumsTo text b → a ≡ b) → AreSums → AreStrict → AreReadBack
-    → Lawful Fancy
-short_durations one sums strict back =
+    → AreAscii SpellsLength → Lawful Fancy
+short_durations one sums strict back ascii =
     lawful_by Fancy SpellsLength (Is worth) (Is held) length_text
     (record { reads = λ text a h. h; read = λ text a h. h; writes = λ value a h. h; written = λ value a h. h })
     (record {
       one = λ text a b h k. one text a b ((sums text a).0 h).1 ((sums text b).0 k).1;
       one_worth = one_image worth;
       one_held = one_image held;
+      ascii = ascii;
       within = λ text nanos value spelled h. within text nanos value spelled (sym h);
       back = λ value nanos w h. held_back sums strict back value nanos w (sym h);
     })
-
-abbrev failed : FancyError → Result (ℕ × ℕ) FancyError
-failed error = Err error
-
--- what the reader of short durations refuses of a strict text
-pub refused : AreSums → (text : List ℕ) (error : FancyError) → IsStrict text → (IsErrOf (failed error) TooBig → IsTooBig text)
-    → (failed error ≡ Err NotHeld → ⊥) → ReadsBy SpellsLength (Is worth) text (Err Range)
-refused sums text TooBig strict big held = reads_too_big sums text strict (big refl)
-refused sums text NotHeld strict big held = absurd (held refl)

@@ -33,7 +33,7 @@ use Rattle.forms.specs.inside.TomlParts.{fraction_of}
 use Rattle.forms.specs.inside.TomlParts.{day_of, clock_of, worth}
 use Rattle.port_toml_datetime.specs.Datetimes.{IsDatetime}
 use Rattle.forms.specs.inside.Lawful.{Lawful}
-use Rattle.forms.proofs.Lawful.{else_ok, same_ok, map_ok, one_image, IsHeldBack, lawful_by}
+use Rattle.forms.proofs.Lawful.{AreAscii, else_ok, same_ok, map_ok, one_image, IsHeldBack, lawful_by}
 
 -- ---- days
 
@@ -340,8 +340,9 @@ held_back back (Clock nanos) d w h =
 held_back back _ d w h = absurd (let e : Ok d ≡ Err Kind = h in cc)
 
 pub toml_date_times : SameDays → ((text : List ℕ) (a b : Datetime) → IsDatetime text a → IsDatetime text b → a ≡ b)
-    → ((text : List ℕ) (value : Datetime) → IsDatetime text value → IsWellFormed value) → AreReadBack → Lawful Toml
-toml_date_times days one formed back =
+    → ((text : List ℕ) (value : Datetime) → IsDatetime text value → IsWellFormed value) → AreReadBack → AreAscii IsDatetime
+    → Lawful Toml
+toml_date_times days one formed back ascii =
     lawful_by Toml IsDatetime (Is worth) Holds text_of (record {
       reads = λ text a h. h;
       read = λ text a h. h;
@@ -352,6 +353,7 @@ toml_date_times days one formed back =
       one = one;
       one_worth = one_image worth;
       one_held = one_held days;
+      ascii = ascii;
       within = λ text d value spelled h. within_of days d.date d.time d.offset value (formed text d spelled) (sym h);
       back = held_back back;
     })

@@ -8,6 +8,9 @@ use Rattle.std.proofs.lemmas.Bool.{eqb-true}
 use Rattle.std.proofs.lemmas.Bool.Decides.{nat_tests}
 use Rattle.std.proofs.lemmas.Int.{ints}
 use Rattle.std.proofs.lemmas.List.{nil_from_length}
+use Rattle.std.proofs.lemmas.Str.{IsAscii-append}
+use Rattle.std.proofs.lemmas.Str.Ascii.{IsAscii-cons, IsAscii-nil}
+use Rattle.std.specs.Str.{IsAscii}
 use Rattle.jiff.specs.Words.{IsWithin}
 use Rattle.scan_core.specs.Digits.{AreDigits, number_of}
 use Rattle.scan_core.specs.Fronts.{front_digits, after_digits, NoDigitFirst}
@@ -19,7 +22,7 @@ use Rattle.scan_core.proofs.DigitFacts.{number_of-append, number_of-decimal, num
 use Rattle.scan_core.proofs.FrontFacts.{front_of, after_of, front_are_digits, front_and_after}
 use Rattle.scan_core.proofs.PaddedFacts.{digits-padded, length-zeros, number_of-padded, padded_field}
 use Rattle.scan_core.proofs.TrimmedFacts.{digits-trimmed, trimmed_fills, trimmed_some}
-use Rattle.std.proofs.lemmas.Fmt.{decimal_nonempty, length-decimal-le}
+use Rattle.std.proofs.lemmas.Fmt.{IsAscii-from_digits, decimal_nonempty, length-decimal-le}
 use Rattle.forms.specs.declared.cause.Cause.{Cause}
 use Rattle.forms.specs.declared.cause.Cause.TheVariants.{Syntax, Range, Kind}
 use Rattle.forms.specs.declared.form.Form.TheVariants.{Unix}
@@ -30,7 +33,7 @@ use Rattle.forms.specs.Values.{IsWithinBounds}
 use Rattle.forms.specs.form.Unix.{IsShortFraction, nine_digits, Spells, worth, held, fraction_text, magnitude_text, unix_text}
 use Rattle.forms.specs.inside.Lawful.{Lawful}
 use Rattle.forms.specs.inside.UnixParts.{minus_of, behind_minus}
-use Rattle.forms.proofs.Lawful.{then_ok, same_ok, one_image, IsHeldBack, lawful_by}
+use Rattle.forms.proofs.Lawful.{AreAscii, then_ok, same_ok, one_image, IsHeldBack, lawful_by}
 
 -- ---- the minus in front
 
@@ -137,9 +140,9 @@ pub record AreParts (text : List ℕ) (negative : Bool) (whole tail : List ℕ) 
   pub front : whole ≡ front_digits (behind_minus text)
   pub rest : tail ≡ after_digits (behind_minus text)
 
-pub parts_of : (text bytes number whole tail : List ℕ) (negative : Bool) → bytes ≡ text → negative ≡ minus_of bytes
-    → number ≡ behind_minus bytes → whole ≡ front_digits number → tail ≡ after_digits number → AreParts text negative whole tail
-parts_of text bytes number whole tail negative same m n w t = record { sign = cc; front = cc; rest = cc }
+pub parts_of : (text number whole tail : List ℕ) (negative : Bool) → negative ≡ minus_of text → number ≡ behind_minus text
+    → whole ≡ front_digits number → tail ≡ after_digits number → AreParts text negative whole tail
+parts_of text number whole tail negative m n w t = record { sign = cc; front = cc; rest = cc }
 
 spelled_parts : (text : List ℕ) (nanos : ℤ) (s : Spells text nanos) → AreParts text s.negative s.whole s.tail
 spelled_parts text nanos s =
@@ -339,6 +342,24 @@ held_back (Instant nanos) z w h =
     }
 held_back _ z w h = absurd (let e : Err Kind ≡ Ok z = h in cc)
 
+-- ---- ASCII
+
+minus_ascii : (negative : Bool) → IsAscii (minus negative)
+minus_ascii true = IsAscii-cons 45 [] (omega arith) IsAscii-nil
+minus_ascii false = IsAscii-nil
+
+tail_ascii : (fraction tail : List ℕ) → IsShortFraction fraction tail → IsAscii tail
+tail_ascii fraction tail (inl h) = subst IsAscii (sym h.1) IsAscii-nil
+tail_ascii fraction tail (inr h) =
+    subst IsAscii (sym h.2) (IsAscii-cons 46 fraction (omega arith) (IsAscii-from_digits fraction h.1))
+
+spelled_ascii : AreAscii Spells
+spelled_ascii text nanos h =
+    let whole = IsAscii-from_digits h.whole h.digits in
+    subst IsAscii (sym h.joined)
+    (IsAscii-append (minus h.negative) (h.whole ++ h.tail) (minus_ascii h.negative)
+    (IsAscii-append h.whole h.tail whole (tail_ascii h.fraction h.tail h.point)))
+
 pub unix_times : Lawful Unix
 unix_times =
     lawful_by Unix Spells (Is worth) (Is held) unix_text (record {
@@ -351,6 +372,7 @@ unix_times =
       one = one;
       one_worth = one_image worth;
       one_held = one_image held;
+      ascii = spelled_ascii;
       within = λ text z value spelled h. within text z value spelled (sym h);
       back = λ value z w h. held_back value z w (sym h);
     })

@@ -24,22 +24,21 @@ is_some : (n : ℕ) (test : Bool) → test ≡ (n == 0) → test ≡ false → n
 is_some n test e h = let some : (n == 0) ≡ false = sym e ∙ h in grind (arith, nat_tests)
 
 -- a text that is read whole
-pub reads_whole : {V : Type 0} (Spells : List ℕ → V → Type 0) (Worth : V → Result Value Cause → Type 0) (bytes text rest : List ℕ)
-    (value : V) (answer : Result Value Cause) (empty : Bool) → bytes ≡ text → Begins Spells bytes value rest → empty ≡ (length rest == 0)
+pub reads_whole : {V : Type 0} (Spells : List ℕ → V → Type 0) (Worth : V → Result Value Cause → Type 0) (text rest : List ℕ)
+    (value : V) (answer : Result Value Cause) (empty : Bool) → Begins Spells text value rest → empty ≡ (length rest == 0)
     → empty ≡ true → Worth value answer → ReadsBy Spells Worth text answer
-reads_whole Spells Worth bytes text rest value answer empty e h test none worth =
-    subst (λ (l : List ℕ). ReadsBy Spells Worth l answer) e (inl
-    (value, whole Spells bytes rest value h (is_none (length rest) empty test none), worth))
+reads_whole Spells Worth text rest value answer empty h test none worth =
+    inl (value, whole Spells text rest value h (is_none (length rest) empty test none), worth)
 
 -- a text with something left behind the longest prefix
-pub reads_part : {V : Type 0} (Spells : List ℕ → V → Type 0) (Worth : V → Result Value Cause → Type 0) (bytes text rest : List ℕ)
-    (empty : Bool) → bytes ≡ text → NoneLonger Spells bytes rest → empty ≡ (length rest == 0) → empty ≡ false
+pub reads_part : {V : Type 0} (Spells : List ℕ → V → Type 0) (Worth : V → Result Value Cause → Type 0) (text rest : List ℕ)
+    (empty : Bool) → NoneLonger Spells text rest → empty ≡ (length rest == 0) → empty ≡ false
     → ReadsBy Spells Worth text (Err Syntax)
-reads_part Spells Worth bytes text rest empty e longest test some =
+reads_part Spells Worth text rest empty longest test some =
     let none_left = is_some (length rest) empty test some in
-    inr (λ value spelled. let less = longest value [] (text, spelled, e ∙ sym (append-nil text)) in none_left (omega arith), refl)
+    inr (λ value spelled. let less = longest value [] (text, spelled, sym (append-nil text)) in none_left (omega arith), refl)
 
 -- a text without a prefix in the grammar
-pub reads_no_front : {V : Type 0} (Spells : List ℕ → V → Type 0) (Worth : V → Result Value Cause → Type 0) (bytes text : List ℕ)
-    → bytes ≡ text → NoneBegins Spells bytes → ReadsBy Spells Worth text (Err Syntax)
-reads_no_front Spells Worth bytes text e none = inr (λ value spelled. none value [] (text, spelled, e ∙ sym (append-nil text)), refl)
+pub reads_no_front : {V : Type 0} (Spells : List ℕ → V → Type 0) (Worth : V → Result Value Cause → Type 0) (text : List ℕ)
+    → NoneBegins Spells text → ReadsBy Spells Worth text (Err Syntax)
+reads_no_front Spells Worth text none = inr (λ value spelled. none value [] (text, spelled, sym (append-nil text)), refl)

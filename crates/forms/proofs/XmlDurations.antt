@@ -15,13 +15,13 @@ use Rattle.forms.specs.declared.form.Form.TheVariants.{XsdDuration}
 use Rattle.forms.specs.declared.value.Value.{Value}
 use Rattle.forms.specs.declared.value.Value.TheVariants.{Triple, Length}
 use Rattle.forms.specs.Answers.{Is, ReadsBy}
-use Rattle.forms.specs.Values.{IsWithinBounds, Same}
+use Rattle.forms.specs.Values.{Same}
 use Rattle.forms.specs.form.Intervals.{worth, interval_of, interval_of_length}
 use Rattle.forms.specs.form.XsdDuration.{held, if_one_sign, of_one_sign}
 use Rattle.forms.specs.inside.Lawful.{Lawful}
 use Rattle.forms.specs.inside.Readers.{cause_of}
 use Rattle.forms.proofs.Intervals.{held_parts, interval_held, IsDenotedInRange, length_held, triple, within, worth_fits, worth_misfits}
-use Rattle.forms.proofs.Lawful.{IsHeldBack, lawful_by, one_image, same_ok, then_ok}
+use Rattle.forms.proofs.Lawful.{AreAscii, IsHeldBack, lawful_by, one_image, same_ok, then_ok}
 
 -- ---- reading
 
@@ -75,14 +75,15 @@ held_back written_back (Length nanos) t h =
 held_back written_back _ t h = absurd (let e : Err Kind ≡ Ok t = h in cc)
 
 pub xml_durations : ((text : List ℕ) (a b : List Count) → SpellsDuration text a → SpellsDuration text b → a ≡ b)
-    → IsDenotedInRange SpellsDuration → IsWrittenBack → Lawful XsdDuration
-xml_durations one in_range written_back =
+    → IsDenotedInRange SpellsDuration → IsWrittenBack → AreAscii SpellsDuration → Lawful XsdDuration
+xml_durations one in_range written_back ascii =
     lawful_by XsdDuration SpellsDuration (Is worth) (Is held) xml_duration_text
     (record { reads = λ text a h. h; read = λ text a h. h; writes = λ value a h. h; written = λ value a h. h })
     (record {
       one = one;
       one_worth = one_image worth;
       one_held = one_image held;
+      ascii = ascii;
       within = λ text counts value spelled h. within SpellsDuration in_range text counts value spelled (sym h);
       back = λ value t w h. held_back written_back value t (sym h);
     })

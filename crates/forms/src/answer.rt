@@ -17,7 +17,7 @@ use crate::form::Form;
 use crate::laws;
 use crate::line::named_text;
 use crate::text_reply::push_text_reply;
-use crate::value::{Value, push_value, read_counted, read_value};
+use crate::value::{Value, push_value, read_bytes, read_counted, read_value};
 use arrayvec::ArrayString;
 use scan_core::{Looked, Short, Steps};
 use std::alloc::Global;
@@ -128,18 +128,18 @@ fn push_read<const CAP: usize>(
     }
 }
 
-/// Appends the text of one form in another form.
+/// Appends the text of one form, which may be no UTF-8, in another form.
 pub(crate) fn push_turned<const CAP: usize>(
     from: Form,
     to: Form,
-    text: &str,
+    text: &[u8],
     out: &mut ArrayString<CAP>,
 ) -> Result<(), Cause>
     requires room { array_string_len out.old + 96 ≤ CAP }
     ensures turned { Puts (Turns from to text.now) out.old.bytes out.new.bytes result }
     ensures len { array_string_len out.new ≤ array_string_len out.old + 96 }
 {
-    push_read(to, read_value(from, text), out)
+    push_read(to, read_bytes(from, text), out)
 }
 
 /// The answer of `reply` as a `String`. `Refused` has its cause, exactly where `reply` refuses; `NoMemory` may stand
@@ -200,7 +200,7 @@ pub fn push_answer<const CAP: usize>(
     ensures len { array_string_len out.new ≤ array_string_len out.old + 96 }
 {
     laws::answers_are_readings_written();
-    match push_turned(from, to, text, out) {
+    match push_turned(from, to, text.as_bytes(), out) {
         Ok(()) => false,
         Err(cause) => {
             push_refusal(cause.name(), out);

@@ -1,6 +1,7 @@
 //! Laws of forms, lines, replies and the ends of runs.
-ghost use Rattle.std.specs.Prelude.{pos, ◌≡◌, ◌⊎◌, ◌↔◌, ◌+◌, ◌-◌, ◌/◌, ◌^◌, ◌<◌, ◌++◌, List, ℕ, Option, Result as AnyResult, Ok, IfSome, IsTrue, IsUtf8, codes};
+ghost use Rattle.std.specs.Prelude.{pos, ◌≡◌, ◌≢◌, ◌⊎◌, ◌↔◌, ◌+◌, ◌-◌, ◌/◌, ◌^◌, ◌<◌, ◌++◌, List, ℕ, Option, Result as AnyResult, Ok, Err, IfSome, IsTrue, IsUtf8, codes};
 ghost use Rattle.std.specs.Io.KnownBytes.{Appends};
+ghost use Rattle.std.specs.Str.{IsAscii};
 ghost use Rattle.pg_interval_2.specs.Denotes.{Denotes};
 ghost use Rattle.pg_interval_2.specs.Styles.{Shape};
 ghost use Rattle.pg_interval_2.specs.declared.interval.Interval.{Interval as AnyInterval};
@@ -50,6 +51,14 @@ pub(crate) fn all_lawful()
     timestamps::lawful();
     http_mail::lawful();
     xml_durations::lawful();
+}
+
+/// A text that has a form's shape is ASCII, whatever it stands for there.
+pub fn texts_are_ascii()
+    ensures { (form : AnyForm) (text : List ℕ) (answer : AnyResult AnyValue AnyCause)
+        → Reads form text answer → answer ≢ Err AnyCause.Syntax → IsAscii text }
+{
+    all_lawful();
 }
 
 /// A text stands for one value at most in each form, and where it stands for none there is one cause.

@@ -5,11 +5,13 @@ ghost use Rattle.forms.specs.declared.form.Form.{Form as AnyForm};
 ghost use Rattle.forms.specs.Names.{cause_name, style_of};
 ghost use Rattle.forms.specs.TextReplies.{IsTextReply};
 
-use crate::answer::{push_answer, push_refusal};
+use crate::answer::{push_refusal, push_turned};
 use crate::cause::Cause;
 use crate::form::{Form, intervals};
+use crate::laws;
 use arrayvec::ArrayString;
 use pg_interval_2::Style;
+use scan_core::Looked;
 use std::str;
 
 /// Appends the reply to a text by its bytes, of at most 96 bytes, without a line feed, and answers whether it is a refusal: what
@@ -56,19 +58,21 @@ fn push_interval_reply<const CAP: usize>(
     ensures len { array_string_len out.new ≤ array_string_len out.old + 96 }
 {
     pg_interval_2::laws::texts_are_of_one_alphabet();
-    match intervals::read_interval(from, text) {
+    // by reference, so that the interval is written from where it was read
+    let read = pg_interval_2::read(from, &Looked::of_bytes(text));
+    match &read {
         Ok(interval) => {
             interval.push_text(to, out);
             false
         }
-        Err(cause) => {
-            push_refusal(refusal(text, cause), out);
+        Err(error) => {
+            push_refusal(refusal(text, intervals::cause_of(error)), out);
             true
         }
     }
 }
 
-/// The word behind `refused` for a text that is read as no interval. Texts with a shape are ASCII, so one without it alone may be no
+/// The word behind `refused` for a text that has no answer. Texts with a form's shape are ASCII, so one without it alone may be no
 /// UTF-8.
 fn refusal(text: &[u8], cause: Cause) -> &'static str
     requires { cause ≢ Cause.Syntax → IsUtf8 text.now }
@@ -95,10 +99,12 @@ fn push_value_reply<const CAP: usize>(
         × (out.new.bytes ≡ out.old.bytes ++ reply) }
     ensures len { array_string_len out.new ≤ array_string_len out.old + 96 }
 {
-    match str::from_utf8(text) {
-        Ok(text) => push_answer(from, to, text, out),
-        Err(_) => {
-            push_refusal("Line", out);
+    laws::texts_are_ascii();
+    laws::answers_are_readings_written();
+    match push_turned(from, to, text, out) {
+        Ok(()) => false,
+        Err(cause) => {
+            push_refusal(refusal(text, cause), out);
             true
         }
     }

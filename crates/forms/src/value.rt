@@ -21,6 +21,12 @@ use scan_core::{Looked, Steps};
 use std::marker::Brand;
 use std::sync::ledger::{Blank, Ledger};
 
+/// How many nanoseconds a second has.
+pub(crate) const NANOSECONDS_A_SECOND: u128 = 1_000_000_000;
+
+/// How many nanoseconds a day of 86,400 seconds has.
+pub(crate) const NANOSECONDS_A_DAY: u128 = 86_400_000_000_000;
+
 /// What a text stands for. Moments and days count from 1970-01-01 in the Gregorian calendar, which is taken to go on before 1582.
 #[derive(Clone, Copy, Debug, PartialEq, Eq)]
 pub enum Value {
@@ -44,6 +50,15 @@ pub enum Value {
 /// fields name no day or no time of day, or an offset of a day or more, `Range` where its numbers or its day leave the value's bounds.
 /// It takes no memory.
 pub fn read_value(form: Form, text: &str) -> Result<Value, Cause>
+    ensures answer { (answer : AnyResult AnyValue AnyCause)
+        → (result ≡ answer) ↔ Reads form text.now answer }
+    ensures within { IfOk result IsWithinBounds }
+{
+    read_bytes(form, text.as_bytes())
+}
+
+/// What `read_value` answers to a text by its bytes, which may be no UTF-8: then it has no form's shape.
+pub(crate) fn read_bytes(form: Form, text: &[u8]) -> Result<Value, Cause>
     ensures answer { (answer : AnyResult AnyValue AnyCause)
         → (result ≡ answer) ↔ Reads form text.now answer }
     ensures within { IfOk result IsWithinBounds }
@@ -73,7 +88,7 @@ pub fn write_value(form: Form, value: Value) -> Result<Short, Cause>
 }
 
 /// What the form's reader answers.
-fn read(form: Form, text: &str) -> Result<Value, Cause>
+fn read(form: Form, text: &[u8]) -> Result<Value, Cause>
     ensures { Reads form text.now result }
 {
     match form {
@@ -87,7 +102,7 @@ fn read(form: Form, text: &str) -> Result<Value, Cause>
         Form::HttpDate => http_mail::read_http(text),
         Form::MailDate => http_mail::read_mail(text),
         Form::XsdDuration => xml_durations::read(text),
-        _ => read_alone::<Brand>(form, &Looked::new(text), Blank::new(1)),
+        _ => read_alone::<Brand>(form, &Looked::of_bytes(text), Blank::new(1)),
     }
 }
 

@@ -1,6 +1,5 @@
 -- File times: the raw count of ticks of 100 nanoseconds since 1601-01-01 00:00:00 UTC, as Microsoft's `FILETIME` has it, in decimal.
-use Rattle.std.specs.Prelude.{ℕ, ◌-◌, ◌*◌, ◌/◌, ◌%◌, ◌^◌, ◌==◌, List, ℤ, pos, negsuc, ◌-ℤ◌, Result, Ok, Err, nat_lt, if◌then◌else◌}
-use Rattle.nt_time.specs.Text.{IsTextOf}
+use Rattle.std.specs.Prelude.{ℕ, ◌-◌, ◌*◌, ◌/◌, ◌%◌, ◌^◌, ◌==◌, ℤ, pos, negsuc, ◌-ℤ◌, Result, Ok, Err, nat_lt, if◌then◌else◌}
 use Rattle.nt_time.specs.FileTime.{unix_nanos}
 use Rattle.forms.specs.declared.cause.Cause.{Cause}
 use Rattle.forms.specs.declared.cause.Cause.TheVariants.{Range, Kind, Precision}

@@ -1,7 +1,6 @@
 -- Dates of ISO 8601-1:2019, 5.2: a day of the years -9999 to 9999, by month, by week or by its number in the year.
-use Rattle.std.specs.Prelude.{◌≡◌, ℕ, ◌≤◌, ℤ, unsigned_abs, List, Result, Ok, Err}
+use Rattle.std.specs.Prelude.{◌≡◌, ℕ, ◌≤◌, ℤ, unsigned_abs, Result, Ok, Err}
 use Rattle.iso8601.specs.Calendar.{day_of, Exists, IsCivilDay}
-use Rattle.iso8601.specs.Dates.{IsDate}
 use Rattle.iso8601.specs.declared.types.Date.{Date}
 use Rattle.iso8601.specs.declared.types.Date.TheVariants.{YMD}
 use Rattle.forms.specs.declared.cause.Cause.{Cause}

@@ -1,12 +1,10 @@
 -- Date-times of ISO 8601-1:2019, 5.4, to the millisecond; one without an offset is in UTC. The years are -9999 to 9999: at reading those
 -- of the date as it is written, at writing those of the day in UTC.
-use Rattle.std.specs.Prelude.{◌≡◌, ◌⊎◌, ℕ, ◌+◌, ◌*◌, ◌<◌, ◌≤◌, ◌==◌, List, ℤ, pos, ◌+ℤ◌, ◌-ℤ◌, ◌*ℤ◌, unsigned_abs, Result, Ok, Err}
+use Rattle.std.specs.Prelude.{◌≡◌, ◌⊎◌, ℕ, ◌+◌, ◌*◌, ◌<◌, ◌≤◌, ◌==◌, ℤ, pos, ◌+ℤ◌, ◌-ℤ◌, ◌*ℤ◌, unsigned_abs, Result, Ok, Err}
 use Rattle.std.specs.Prelude.{if◌then◌else◌}
 use Rattle.iso8601.specs.Calendar.{day_of, Exists, IsCivilDay}
-use Rattle.iso8601.specs.DateTimes.{IsDateTime}
 use Rattle.iso8601.specs.Moments.{IsOnClock, offset_of}
 use Rattle.iso8601.specs.declared.types.Date.TheVariants.{YMD}
-use Rattle.iso8601.specs.declared.types.Time.{Time}
 use Rattle.iso8601.specs.declared.types.DateTime.{DateTime}
 use Rattle.forms.specs.declared.cause.Cause.{Cause}
 use Rattle.forms.specs.declared.cause.Cause.TheVariants.{Range, Kind, Precision}

@@ -1,6 +1,5 @@
 -- Durations of ISO 8601-1:2019, 5.5.2, none of whose parts is negative: months, days and a time, or weeks of seven days.
-use Rattle.std.specs.Prelude.{ℕ, ◌+◌, ◌*◌, ◌/◌, ◌%◌, ◌^◌, ◌==◌, ◌&&◌, List, ℤ, pos, Result, Ok, Err, nat_lt, if◌then◌else◌}
-use Rattle.iso8601.specs.Durations.{IsDuration}
+use Rattle.std.specs.Prelude.{ℕ, ◌+◌, ◌*◌, ◌/◌, ◌%◌, ◌^◌, ◌==◌, ◌&&◌, ℤ, pos, Result, Ok, Err, nat_lt, if◌then◌else◌}
 use Rattle.iso8601.specs.declared.types.Duration.{Duration}
 use Rattle.iso8601.specs.declared.types.Duration.TheVariants.{YMDHMS, Weeks}
 use Rattle.forms.specs.declared.cause.Cause.{Cause}

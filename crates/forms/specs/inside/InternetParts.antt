@@ -1,5 +1,5 @@
 -- What the readers of dates of HTTP and of mail answer, as the forms hand it on: cited by private contracts alone.
-use Rattle.std.specs.Prelude.{◌≡◌, ℤ, pos, ◌*ℤ◌, Result, Ok, Err}
+use Rattle.std.specs.Prelude.{ℤ, pos, ◌*ℤ◌, Result, Ok, Err}
 use Rattle.internet_dates.specs.declared.error.DateError.{DateError}
 use Rattle.internet_dates.specs.declared.error.DateError.TheVariants as date
 use Rattle.forms.specs.declared.cause.Cause.{Cause}

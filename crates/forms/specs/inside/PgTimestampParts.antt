@@ -1,5 +1,5 @@
 -- What is held of a value in whole microseconds: cited by private contracts alone.
-use Rattle.std.specs.Prelude.{◌≡◌, ℤ, List, ℕ, Result, Ok, Err}
+use Rattle.std.specs.Prelude.{List, ℕ, Result, Ok, Err}
 use Rattle.pg_timestamp.specs.Values.{IsWithinBounds}
 use Rattle.pg_timestamp.specs.Written.{IsValueText}
 use Rattle.pg_timestamp.specs.declared.value.Value.{Value as TimestampValue}

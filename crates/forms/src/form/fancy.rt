@@ -11,29 +11,25 @@ ghost use Rattle.forms.specs.inside.FancyParts.{length_of_triple};
 ghost use Rattle.forms.specs.inside.Lawful.{Lawful};
 
 use crate::cause::Cause;
-use crate::value::Value;
+use crate::value::{NANOSECONDS_A_SECOND, Value};
 use arrayvec::ArrayString;
-use fancy_duration::FancyDuration;
+use fancy_duration::{FancyDuration, StrictError};
 use std::time::Duration;
-
-const NANOSECONDS_A_SECOND: u128 = 1_000_000_000;
 
 /// Nanoseconds of 2^64 seconds: no duration is as long.
 const TOO_LONG: u128 = 18_446_744_073_709_551_616_000_000_000;
 
 /// The length of a strict text.
-pub fn read(text: &str) -> Result<Value, Cause>
+pub fn read(text: &[u8]) -> Result<Value, Cause>
     ensures { Reads AnyForm.Fancy text.now result }
 {
     fancy_duration::laws::strict_texts_spell_their_sums();
-    if !FancyDuration::<Duration>::is_fancy_text(text) {
-        return Err(Cause::Syntax);
-    }
-    match FancyDuration::<Duration>::parse_to_ns(text) {
+    match fancy_duration::strict_to_ns(text) {
         Ok((seconds, nanos)) => Ok(Value::Length(
             seconds as u128 * NANOSECONDS_A_SECOND + nanos as u128,
         )),
-        Err(_) => Err(Cause::Range),
+        Err(StrictError::NotStrict) => Err(Cause::Syntax),
+        Err(StrictError::TooBig) => Err(Cause::Range),
     }
 }
 
@@ -123,6 +119,7 @@ fn duration(nanos: u128) -> FancyDuration<Duration>
 pub fn lawful()
     ensures { Lawful AnyForm.Fancy }
 {
+    fancy_duration::laws::texts_are_ascii();
     fancy_duration::laws::texts_have_one_sum();
     fancy_duration::laws::strict_texts_spell_their_sums();
     fancy_duration::laws::written_texts_are_strict();

@@ -1,5 +1,5 @@
 //! File times as a form.
-ghost use Rattle.std.specs.Prelude.{◌≡◌, ◌+◌, ◌≤◌, ◌++◌, ◌-ℤ◌, decimal};
+ghost use Rattle.std.specs.Prelude.{◌≡◌, ◌≢◌, ℕ, ◌+◌, ◌^◌, ◌<◌, ◌≤◌, ◌++◌, ◌-ℤ◌, Err, decimal};
 ghost use Rattle.arrayvec.specs.ArrayString.{array_string_len};
 ghost use Rattle.nt_time.specs.FileTime.{unix_nanos};
 ghost use Rattle.forms.specs.declared.form.Form.{Form as AnyForm};
@@ -15,13 +15,15 @@ use arrayvec::ArrayString;
 use nt_time::FileTime;
 use nt_time::error::ParseFileTimeCause;
 use scan_core::push_num;
-use std::str::FromStr;
+
+/// The nanoseconds from tick 0, 1601-01-01 00:00:00 UTC, to 1970.
+const NANOSECONDS_TO_1970: u128 = 11_644_473_600_000_000_000;
 
 /// The value of a raw count in decimal.
-pub fn read(text: &str) -> Result<Value, Cause>
+pub fn read(text: &[u8]) -> Result<Value, Cause>
     ensures { Reads AnyForm.FileTime text.now result }
 {
-    match FileTime::from_str(text) {
+    match FileTime::from_ascii(text) {
         Ok(time) => Ok(Value::Instant(time.to_unix_time_nanos())),
         Err(error) => match error.cause() {
             ParseFileTimeCause::Empty | ParseFileTimeCause::InvalidDigit => Err(Cause::Syntax),
@@ -73,19 +75,39 @@ fn push_ticks<const CAP: usize>(out: &mut ArrayString<CAP>, ticks: u64)
 fn ticks_at(nanos: i128) -> Result<u64, Cause>
     ensures { result ≡ ticks_after (nanos -ℤ unix_nanos 0) }
 {
-    let Ok(time) = FileTime::from_unix_time_nanos(nanos) else {
-        return Err(Cause::Range);
-    };
-    if time.to_unix_time_nanos() == nanos {
-        Ok(time.to_raw())
+    let ticks = only_ticks(nanos);
+    if FileTime::new(ticks).to_unix_time_nanos() == nanos {
+        Ok(ticks)
     } else {
-        Err(Cause::Precision)
+        Err(off_ticks(nanos))
     }
+}
+
+/// Why no count of ticks lies at an instant.
+#[inline(never)]
+fn off_ticks(nanos: i128) -> Cause
+    requires { (ticks : ℕ) → ticks < 2 ^ 64 → unix_nanos ticks ≢ nanos }
+    ensures { Err result ≡ ticks_after (nanos -ℤ unix_nanos 0) }
+{
+    match FileTime::from_unix_time_nanos(nanos) {
+        Ok(_) => Cause::Precision,
+        Err(_) => Cause::Range,
+    }
+}
+
+/// The only count of ticks that may lie at an instant.
+fn only_ticks(nanos: i128) -> u64
+    ensures { (ticks : ℕ) → ticks < 2 ^ 64 → nanos ≡ unix_nanos ticks → result ≡ ticks }
+{
+    // A product with the inverse of 25 modulo 2^64 divides a multiple of 25, without a quotient of 128 bits.
+    let since = nanos.cast_unsigned().wrapping_add(NANOSECONDS_TO_1970);
+    ((since / 4 % (1 << 64)) as u64).wrapping_mul(0x8f5c_28f5_c28f_5c29)
 }
 
 /// File times are a lawful form.
 pub fn lawful()
     ensures { Lawful AnyForm.FileTime }
 {
+    nt_time::laws::texts_are_ascii();
     nt_time::laws::texts_write_one_number();
 }

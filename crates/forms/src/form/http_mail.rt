@@ -24,17 +24,17 @@ const FIRST_HTTP_YEAR: u16 = 0;
 const FIRST_MAIL_YEAR: u16 = 1900;
 
 /// The moment of a date of HTTP.
-pub fn read_http(text: &str) -> Result<Value, Cause>
+pub fn read_http(text: &[u8]) -> Result<Value, Cause>
     ensures { Reads AnyForm.HttpDate text.now result }
 {
-    answered(http_date::read(text.as_bytes()))
+    answered(http_date::read(text))
 }
 
 /// The moment of a date of mail.
-pub fn read_mail(text: &str) -> Result<Value, Cause>
+pub fn read_mail(text: &[u8]) -> Result<Value, Cause>
     ensures { Reads AnyForm.MailDate text.now result }
 {
-    answered(mail_date::read(text.as_bytes()))
+    answered(mail_date::read(text))
 }
 
 /// The moment in nanoseconds, or the cause.
@@ -50,6 +50,7 @@ fn answered(read: Result<i64, DateError>) -> Result<Value, Cause>
 }
 
 /// Appends the date of HTTP of a moment, an IMF-fixdate.
+#[inline(never)]
 pub fn push_http<const CAP: usize>(value: Value, out: &mut ArrayString<CAP>) -> Result<(), Cause>
     requires within { IsWithinBounds value }
     requires room { array_string_len out.old + 96 ≤ CAP }
@@ -66,6 +67,7 @@ pub fn push_http<const CAP: usize>(value: Value, out: &mut ArrayString<CAP>) -> 
 }
 
 /// Appends the date of mail of a moment.
+#[inline(never)]
 pub fn push_mail<const CAP: usize>(value: Value, out: &mut ArrayString<CAP>) -> Result<(), Cause>
     requires within { IsWithinBounds value }
     requires room { array_string_len out.old + 96 ≤ CAP }
@@ -82,6 +84,7 @@ pub fn push_mail<const CAP: usize>(value: Value, out: &mut ArrayString<CAP>) -> 
 }
 
 /// The date and the time in UTC of a value.
+#[inline(always)]
 fn date_for(value: Value, first: u16) -> Result<DateTime, Cause>
     requires { IsWithinBounds value }
     ensures held { Holds first value result }
@@ -95,6 +98,7 @@ fn date_for(value: Value, first: u16) -> Result<DateTime, Cause>
 }
 
 /// The date and the time in UTC of a moment.
+#[inline(always)]
 fn date_at(nanos: i128, first: u16) -> Result<DateTime, Cause>
     requires { IsWithin (10 ^ 22) nanos }
     ensures held { Holds first (AnyValue.Instant nanos) result }
@@ -106,6 +110,7 @@ fn date_at(nanos: i128, first: u16) -> Result<DateTime, Cause>
 }
 
 /// The date and the time in UTC of a second, where the moment lies no nanoseconds behind it.
+#[inline(always)]
 fn date_in_second(seconds: i64, nanos: u32, first: u16) -> Result<DateTime, Cause>
     ensures held { HoldsSecond first seconds (pos nanos) result }
     ensures real { IfOk result (λ t. IsRealMoment t) }
@@ -125,6 +130,7 @@ pub fn lawful()
     ensures http { Lawful AnyForm.HttpDate }
     ensures mail { Lawful AnyForm.MailDate }
 {
+    internet_dates::laws::texts_are_ascii();
     internet_dates::laws::a_text_has_one_reading();
     internet_dates::laws::a_moment_has_one_date();
     internet_dates::laws::a_written_text_spells_its_date();

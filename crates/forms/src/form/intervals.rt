@@ -1,7 +1,9 @@
 //! The interval forms, each a style of intervals.
-ghost use Rattle.std.specs.Prelude.{◌≡◌, ◌+◌, ◌*◌, ◌<◌, ◌≤◌, IfOk, length};
+ghost use Rattle.std.specs.Prelude.{◌≡◌, ◌+◌, ◌*◌, ◌<◌, ◌≤◌, List, ℕ, Err, IfOk, length};
 ghost use Rattle.arrayvec.specs.ArrayString.{array_string_len};
-ghost use Rattle.pg_interval_2.specs.Styles.{Shape, style_text};
+ghost use Rattle.pg_interval_2.specs.Denotes.{Refuses};
+ghost use Rattle.pg_interval_2.specs.Styles.{IsBadPlace, Shape, not_in, style_text};
+ghost use Rattle.pg_interval_2.specs.declared.style.Style.{Style as AnyStyle};
 ghost use Rattle.forms.specs.Answers.{Is, ReadsBy, WritesBy};
 ghost use Rattle.forms.specs.Putting.{Puts};
 ghost use Rattle.forms.specs.Values.{IsWithinBounds};
@@ -10,14 +12,11 @@ ghost use Rattle.forms.specs.inside.Lawful.{Lawful};
 ghost use Rattle.forms.specs.declared.form.Form.{Form as AnyForm};
 
 use crate::cause::Cause;
-use crate::value::Value;
+use crate::value::{NANOSECONDS_A_DAY, Value};
 use arrayvec::ArrayString;
-use pg_interval_2::{Interval, Style};
+use pg_interval_2::{Interval, ParseError, Style};
 use scan_core::{Looked, Steps};
-use std::marker::Brand;
-use std::sync::ledger::{Blank, Ledger};
-
-const NANOSECONDS_A_DAY: u128 = 86_400_000_000_000;
+use std::sync::ledger::Ledger;
 
 /// The triple that a counted text denotes in the style: of n bytes with at most 2n + 4 looks, and with n at least where it is Ok.
 pub fn read_counted<L: Ledger>(
@@ -30,13 +29,13 @@ pub fn read_counted<L: Ledger>(
     ensures least { IfOk result (λ _. steps.old + length text.now ≤ steps.new) }
 {
     pg_interval_2::laws::denoted_interval_is_in_range();
-    match interval_counted(style, text, steps) {
+    match pg_interval_2::read_counted(style, text, steps) {
         Ok(interval) => Ok(Value::Triple {
             months: interval.months as i64,
             days: interval.days as i64,
             micros: interval.microseconds,
         }),
-        Err(cause) => Err(cause),
+        Err(error) => Err(cause_of(&error)),
     }
 }
 
@@ -47,39 +46,22 @@ pub fn read_counted<L: Ledger>(
 pub fn read_interval(style: Style, text: &[u8]) -> Result<Interval, Cause>
     ensures { FindsInterval style text.now result }
 {
-    interval_alone::<Brand>(style, &Looked::of_bytes(text), Blank::new(1))
-}
-
-/// The same of a counted text, with a counter of its own.
-#[inline(always)]
-fn interval_alone<L: Ledger>(
-    style: Style,
-    text: &Looked<'_>,
-    blank: Blank,
-) -> Result<Interval, Cause>
-    requires name { blank.name ≡ L.name }
-    requires parts { blank.parts ≡ L.parts }
-    requires some { 0 < L.parts }
-    ensures { FindsInterval style text.now result }
-{
-    interval_counted(style, text, &mut Steps::<L>::new(blank))
-}
-
-/// The interval that a counted text denotes in the style: of n bytes with at most 2n + 4 looks, and with n at least where it is Ok.
-#[inline(always)]
-fn interval_counted<L: Ledger>(
-    style: Style,
-    text: &Looked<'_>,
-    steps: &mut Steps<L>,
-) -> Result<Interval, Cause>
-    ensures found { FindsInterval style text.now result }
-    ensures most { steps.new ≤ steps.old + (2 * length text.now + 4) }
-    ensures least { IfOk result (λ _. steps.old + length text.now ≤ steps.new) }
-{
-    match pg_interval_2::read_counted(style, text, steps) {
+    match pg_interval_2::read(style, &Looked::of_bytes(text)) {
         Ok(interval) => Ok(interval),
-        Err(error) if error.is_range() => Err(Cause::Range),
-        Err(_) => Err(Cause::Syntax),
+        Err(error) => Err(cause_of(&error)),
+    }
+}
+
+/// The cause of a refusal.
+pub fn cause_of(error: &ParseError) -> Cause
+    ensures { (style : AnyStyle) (text : List ℕ)
+        → Refuses (Shape style) (IsBadPlace style) (not_in style) text error.now
+        → FindsInterval style text (Err result) }
+{
+    if error.is_range() {
+        Cause::Range
+    } else {
+        Cause::Syntax
     }
 }
 
@@ -154,6 +136,7 @@ pub fn lawful()
     ensures pg_sql { Lawful AnyForm.PgSql }
     ensures iso_strict { Lawful AnyForm.IsoStrict }
 {
+    pg_interval_2::laws::texts_are_of_one_alphabet();
     pg_interval_2::laws::text_has_one_list_of_counts();
     pg_interval_2::laws::denoted_interval_is_in_range();
     pg_interval_2::laws::written_text_is_read_back();

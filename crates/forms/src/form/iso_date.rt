@@ -1,8 +1,10 @@
 //! Dates of ISO 8601 as a form.
-ghost use Rattle.std.specs.Prelude.{◌≡◌, ◌+◌, ◌≤◌};
+ghost use Rattle.std.specs.Prelude.{◌≡◌, ◌⊎◌, ◌+◌, ◌≤◌};
 ghost use Rattle.arrayvec.specs.ArrayString.{array_string_len};
 ghost use Rattle.jiff.specs.Words.{IsEpochDay};
 ghost use Rattle.jiff_core.specs.Date.{epoch_day};
+ghost use Rattle.iso8601.specs.Calendar.{Exists};
+ghost use Rattle.forms.specs.declared.cause.Cause.{Cause as AnyCause};
 ghost use Rattle.forms.specs.declared.form.Form.{Form as AnyForm};
 ghost use Rattle.forms.specs.Forms.{Reads, Writes};
 ghost use Rattle.forms.specs.Putting.{Puts};
@@ -19,10 +21,10 @@ use iso8601::parsers::parse_date;
 use jiff_core::civil;
 
 /// The day of a date.
-pub fn read(text: &str) -> Result<Value, Cause>
+pub fn read(text: &[u8]) -> Result<Value, Cause>
     ensures { Reads AnyForm.IsoDate text.now result }
 {
-    match parse_date(text.as_bytes()) {
+    match parse_date(text) {
         Ok((rest, date)) => {
             if rest.is_empty() {
                 day_of(date)
@@ -38,15 +40,22 @@ pub fn read(text: &str) -> Result<Value, Cause>
 fn day_of(date: Date) -> Result<Value, Cause>
     ensures { Worth date result }
 {
-    match date.into_naive() {
-        Some(civil) => Ok(Value::Day(civil.to_plain().to_unix_epoch_day())),
-        None => {
-            if date.exists() {
-                Err(Cause::Range)
-            } else {
-                Err(Cause::NoSuchMoment)
-            }
-        }
+    match date.unix_day() {
+        Some(day) => Ok(Value::Day(day)),
+        None => Err(why_none(date)),
+    }
+}
+
+/// Why a date without a civil day has no value.
+#[cold]
+fn why_none(date: Date) -> Cause
+    ensures { (Exists date × (result ≡ AnyCause.Range))
+        ⊎ ((Exists date → ⊥) × (result ≡ AnyCause.NoSuchMoment)) }
+{
+    if date.exists() {
+        Cause::Range
+    } else {
+        Cause::NoSuchMoment
     }
 }
 
@@ -102,6 +111,7 @@ pub(crate) fn date_of(date: civil::Date) -> Date
 pub fn lawful()
     ensures { Lawful AnyForm.IsoDate }
 {
+    iso8601::laws::texts_are_ascii();
     iso8601::laws::a_text_has_one_value();
     iso8601::laws::a_written_text_spells_its_value();
     iso8601::laws::civil_dates_are_calendar_dates();

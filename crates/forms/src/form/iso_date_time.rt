@@ -1,9 +1,9 @@
 //! Date-times of ISO 8601 as a form.
-ghost use Rattle.std.specs.Prelude.{◌≡◌, ◌↔◌, ◌+◌, ◌<◌, ◌≤◌, ◌++◌, pos, ◌-ℤ◌, ◌*ℤ◌, length, unsigned_abs, IsTrue, IfOk};
+ghost use Rattle.std.specs.Prelude.{◌≡◌, ◌⊎◌, ◌↔◌, ◌+◌, ◌<◌, ◌≤◌, ◌++◌, pos, ◌*ℤ◌, length, unsigned_abs, IsTrue, IfOk};
 ghost use Rattle.arrayvec.specs.ArrayString.{array_string_len};
-ghost use Rattle.jiff_core.specs.DateTime.{civil_nanos};
 ghost use Rattle.iso8601.specs.Moments.{offset_of};
 ghost use Rattle.iso8601.specs.Written.{date_text, date_time_text};
+ghost use Rattle.forms.specs.declared.cause.Cause.{Cause as AnyCause};
 ghost use Rattle.forms.specs.declared.form.Form.{Form as AnyForm};
 ghost use Rattle.forms.specs.declared.value.Value.{Value as AnyValue};
 ghost use Rattle.forms.specs.Forms.{Reads, Writes};
@@ -18,15 +18,15 @@ use crate::form::iso_date::date_of;
 use crate::value::Value;
 use arrayvec::ArrayString;
 use iso8601::parsers::parse_datetime;
-use iso8601::{Date, DateTime, FixedMoment, Time};
+use iso8601::{Date, DateTime, Time};
 use jiff_core::civil;
 use scan_core::push_text;
 
 /// The moment of a date-time.
-pub fn read(text: &str) -> Result<Value, Cause>
+pub fn read(text: &[u8]) -> Result<Value, Cause>
     ensures { Reads AnyForm.IsoDateTime text.now result }
 {
-    match parse_datetime(text.as_bytes()) {
+    match parse_datetime(text) {
         Ok((rest, datetime)) => {
             if rest.is_empty() {
                 moment_of(datetime)
@@ -42,25 +42,30 @@ pub fn read(text: &str) -> Result<Value, Cause>
 fn moment_of(datetime: DateTime) -> Result<Value, Cause>
     ensures { Worth datetime result }
 {
-    match datetime.into_fixed_offset() {
-        Some(moment) => Ok(Value::Instant(instant_of(moment))),
-        None => {
-            if is_real(datetime) {
-                Err(Cause::Range)
-            } else {
-                Err(Cause::NoSuchMoment)
-            }
-        }
+    match datetime.unix_millis() {
+        Some(millis) => Ok(Value::Instant(nanos_of(millis))),
+        None => Err(why_none(datetime)),
     }
 }
 
-/// Nanoseconds since 1970 in UTC.
-fn instant_of(moment: FixedMoment) -> i128
-    requires { unsigned_abs moment.offset_seconds < 86_400 }
-    ensures { result ≡ civil_nanos moment.local -ℤ moment.offset_seconds *ℤ pos 1_000_000_000 }
+/// Milliseconds in nanoseconds.
+fn nanos_of(millis: i64) -> i128
+    ensures { result ≡ millis *ℤ pos 1_000_000 }
 {
-    let local = moment.local.to_plain().to_nanosecond();
-    local - moment.offset_seconds as i128 * 1_000_000_000
+    i128::from(millis) * 1_000_000
+}
+
+/// Why a date-time without a civil moment has no value.
+#[cold]
+fn why_none(datetime: DateTime) -> Cause
+    ensures { (IsReal datetime × (result ≡ AnyCause.Range))
+        ⊎ ((IsReal datetime → ⊥) × (result ≡ AnyCause.NoSuchMoment)) }
+{
+    if is_real(datetime) {
+        Cause::Range
+    } else {
+        Cause::NoSuchMoment
+    }
 }
 
 /// Whether there is such a day, a clock shows the time, and the offset is less than a day.
@@ -184,6 +189,7 @@ fn utc(civil: civil::DateTime) -> DateTime
 pub fn lawful()
     ensures { Lawful AnyForm.IsoDateTime }
 {
+    iso8601::laws::texts_are_ascii();
     iso8601::laws::a_text_has_one_value();
     iso8601::laws::a_written_text_spells_its_value();
     iso8601::laws::civil_dates_are_calendar_dates();

@@ -10,13 +10,11 @@ ghost use Rattle.forms.specs.inside.IsoParts.{micros_of};
 ghost use Rattle.forms.specs.inside.Lawful.{Lawful};
 
 use crate::cause::Cause;
-use crate::value::Value;
+use crate::value::{NANOSECONDS_A_DAY, Value};
 use arrayvec::ArrayString;
 use iso8601::{Duration, duration_counted};
 use scan_core::{Looked, Steps};
 use std::sync::ledger::Ledger;
-
-const NANOSECONDS_A_DAY: u128 = 86_400_000_000_000;
 
 /// The triple of a duration in a counted text: of n bytes with at most 2n looks, and with n at least where it is Ok.
 pub fn read_counted<L: Ledger>(text: &Looked<'_>, steps: &mut Steps<L>) -> Result<Value, Cause>
@@ -184,6 +182,7 @@ fn duration_of(months: u64, days: u32, millis: u64) -> Duration
 pub fn lawful()
     ensures { Lawful AnyForm.IsoDuration }
 {
+    iso8601::laws::texts_are_ascii();
     iso8601::laws::a_text_has_one_value();
     iso8601::laws::a_written_text_spells_its_value();
 }

@@ -1,6 +1,7 @@
 //! PostgreSQL's timestamps as a form.
 ghost use Rattle.std.specs.Prelude.{◌≡◌, ◌+◌, ◌^◌, ◌≤◌, pos};
 ghost use Rattle.arrayvec.specs.ArrayString.{array_string_len};
+ghost use Rattle.std.specs.Int.{int_div_euclid, int_rem_euclid};
 ghost use Rattle.jiff.specs.Words.{IsWithin};
 ghost use Rattle.pg_timestamp.specs.Values.{IsWithinBounds as IsTimestampValue};
 ghost use Rattle.forms.specs.declared.form.Form.{Form as AnyForm};
@@ -18,10 +19,10 @@ use arrayvec::ArrayString;
 use pg_timestamp::{NoValue, Timestamp, Value as TimestampValue};
 
 /// The value of a timestamp.
-pub fn read(text: &str) -> Result<Value, Cause>
+pub fn read(text: &[u8]) -> Result<Value, Cause>
     ensures { Reads AnyForm.PgTimestamp text.now result }
 {
-    match pg_timestamp::read(text.as_bytes()) {
+    match pg_timestamp::read(text) {
         Some(timestamp) => value_of(&timestamp),
         None => Err(Cause::Syntax),
     }
@@ -90,10 +91,16 @@ fn moment_at(nanos: i128) -> Result<TimestampValue, Cause>
     let Ok(micros) = i64::try_from(nanos.div_euclid(1000)) else {
         return Err(Cause::Range);
     };
-    whole(
-        TimestampValue::Moment(micros),
-        nanos.rem_euclid(1000) as u32,
-    )
+    whole(TimestampValue::Moment(micros), behind(nanos, micros))
+}
+
+/// The nanoseconds behind a whole microsecond.
+fn behind(nanos: i128, micros: i64) -> u32
+    requires { micros ≡ int_div_euclid nanos (pos 1000) }
+    ensures { pos result ≡ int_rem_euclid nanos (pos 1000) }
+{
+    // The product takes fewer instructions than a second quotient.
+    (nanos - micros as i128 * 1000) as u32
 }
 
 /// A local date-time in whole microseconds.
@@ -123,6 +130,7 @@ fn whole(value: TimestampValue, nanos: u32) -> Result<TimestampValue, Cause>
 pub fn lawful()
     ensures { Lawful AnyForm.PgTimestamp }
 {
+    pg_timestamp::laws::texts_are_ascii();
     pg_timestamp::laws::a_text_is_one_timestamp();
     pg_timestamp::laws::a_value_has_one_text();
     pg_timestamp::laws::texts_are_read_back();

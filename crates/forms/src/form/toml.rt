@@ -14,22 +14,19 @@ ghost use Rattle.forms.specs.inside.TomlParts.{day_of};
 ghost use Rattle.forms.specs.inside.Lawful.{Lawful};
 
 use crate::cause::Cause;
-use crate::value::Value;
+use crate::value::{NANOSECONDS_A_DAY, Value};
 use arrayvec::ArrayString;
 use jiff_core::civil;
 use port_toml_datetime::{Date, Datetime, Offset, Time};
-use std::str::FromStr;
-
-const NANOSECONDS_A_DAY: i128 = 86_400_000_000_000;
 
 const NANOSECONDS_A_MINUTE: i128 = 60_000_000_000;
 
 /// The value of a date-time of any of the four kinds.
-pub fn read(text: &str) -> Result<Value, Cause>
+pub fn read(text: &[u8]) -> Result<Value, Cause>
     ensures { Reads AnyForm.Toml text.now result }
 {
     port_toml_datetime::laws::values_are_well_formed();
-    match Datetime::from_str(text) {
+    match Datetime::from_ascii(text) {
         Ok(datetime) => value_of(datetime.date, datetime.time, datetime.offset),
         Err(_) => Err(Cause::Syntax),
     }
@@ -126,7 +123,7 @@ fn minutes_of(offset: Offset) -> i16
 fn instant_of(day: i32, minutes: i16, nanos: i64) -> i128
     ensures { result ≡ (day *ℤ pos 86_400_000_000_000 +ℤ nanos) -ℤ minutes *ℤ pos 60_000_000_000 }
 {
-    day as i128 * NANOSECONDS_A_DAY + nanos as i128 - minutes as i128 * NANOSECONDS_A_MINUTE
+    day as i128 * NANOSECONDS_A_DAY as i128 + nanos as i128 - minutes as i128 * NANOSECONDS_A_MINUTE
 }
 
 /// Appends the written text: with seconds, with a fraction where it isn't 0, and of a moment in UTC.
@@ -164,8 +161,8 @@ fn utc(nanos: i128) -> Result<Datetime, Cause>
     requires { IsWithin (10 ^ 22) nanos }
     ensures { Holds (AnyValue.Instant nanos) result }
 {
-    let day = nanos.div_euclid(NANOSECONDS_A_DAY) as i64;
-    let clock = nanos.rem_euclid(NANOSECONDS_A_DAY).unsigned_abs() as u64;
+    let day = nanos.div_euclid(NANOSECONDS_A_DAY as i128) as i64;
+    let clock = nanos.rem_euclid(NANOSECONDS_A_DAY as i128).unsigned_abs() as u64;
     dated(day, Some(time_of(clock)), Some(Offset::Z))
 }
 
@@ -232,6 +229,7 @@ fn fraction_of(nanos: u64) -> Option<u32>
 pub fn lawful()
     ensures { Lawful AnyForm.Toml }
 {
+    port_toml_datetime::laws::texts_are_ascii();
     iso8601::laws::civil_dates_are_calendar_dates();
     port_toml_datetime::laws::one_value();
     port_toml_datetime::laws::values_are_well_formed();

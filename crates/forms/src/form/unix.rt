@@ -14,20 +14,18 @@ ghost use Rattle.forms.specs.inside.Lawful.{Lawful};
 ghost use Rattle.forms.specs.inside.UnixParts.{behind_minus, minus_of};
 
 use crate::cause::Cause;
-use crate::value::Value;
+use crate::value::{NANOSECONDS_A_SECOND, Value};
 use arrayvec::ArrayString;
 use scan_core::{digits_u32, digits_u64, push_num, push_text, push_trimmed, split_digits};
-
-const NANOSECONDS_A_SECOND: u128 = 1_000_000_000;
 
 /// The nanoseconds of 10^13 seconds, the most that an instant has to either side.
 const MOST_NANOSECONDS: u128 = 10_000_000_000_000_000_000_000;
 
 /// The instant of seconds since the epoch.
-pub fn read(text: &str) -> Result<Value, Cause>
+pub fn read(text: &[u8]) -> Result<Value, Cause>
     ensures { Reads AnyForm.Unix text.now result }
 {
-    let (negative, number) = split_minus(text.as_bytes());
+    let (negative, number) = split_minus(text);
     let (whole, tail) = split_digits(number);
     if whole.is_empty() {
         return Err(Cause::Syntax);

@@ -18,7 +18,7 @@ use pg_interval_2::Interval;
 use xsd_duration::{DurationError, has_one_sign, push_text};
 
 /// The triple of a duration.
-pub fn read(text: &str) -> Result<Value, Cause>
+pub fn read(text: &[u8]) -> Result<Value, Cause>
     ensures { Reads AnyForm.XsdDuration text.now result }
 {
     xsd_duration::laws::a_denoted_interval_is_in_range();
@@ -87,6 +87,7 @@ fn of_one_sign(interval: Interval) -> Result<Interval, Cause>
 pub fn lawful()
     ensures { Lawful AnyForm.XsdDuration }
 {
+    xsd_duration::laws::texts_are_ascii();
     xsd_duration::laws::a_text_has_one_reading();
     xsd_duration::laws::a_denoted_interval_is_in_range();
     xsd_duration::laws::a_written_text_is_read_back();

@@ -1,5 +1,5 @@
 -- Answers to the goals of `decimal::number_in_decimal`.
-use Rattle.std.proofs.Common.{◌≡◌, ◌^◌, ◌<◌, ℕ, true, false, decimal, Some, None, Option, sym, ◌∙◌, ap, subst, rules, arith}
+use Rattle.std.proofs.Common.{◌≡◌, ◌^◌, ◌<◌, ℕ, true, false, decimal, Some, None, sym, ◌∙◌, ap, subst, rules, arith}
 use Rattle.std.specs.Result.{result_ok}
 use Rattle.std.proofs.lemmas.Fmt.{parse-decimal}
 use Rattle.forms.proofs.decimal.number_in_decimal.Goals as goal

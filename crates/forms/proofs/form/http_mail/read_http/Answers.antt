@@ -1,5 +1,5 @@
 -- Answers to the goals of `form::http_mail::read_http`.
-use Rattle.std.proofs.Common.{ℕ, List, Result, subst, sym}
+use Rattle.std.proofs.Common.{Result, subst, sym}
 use Rattle.internet_dates.specs.HttpDate.{IsHttpDate}
 use Rattle.forms.specs.declared.cause.Cause.{Cause}
 use Rattle.forms.specs.declared.value.Value.{Value}
@@ -10,6 +10,5 @@ use Rattle.forms.proofs.form.http_mail.read_http.Goals as goal
 
 pub returns : goal.returns
 returns c =
-    let read = reads IsHttpDate 0 c.as_bytes.result.now c.read.result c.read.ensures in
-    let same = subst (λ (a : Result Value Cause). ReadsBy IsHttpDate (Worth 0) c.as_bytes.result.now a) (sym c.answered.ensures) read in
-    subst (λ (text : List ℕ). ReadsBy IsHttpDate (Worth 0) text c.answered.result) c.as_bytes.ensures.value same
+    subst (λ (a : Result Value Cause). ReadsBy IsHttpDate (Worth 0) c.args.text.now a) (sym c.answered.ensures)
+    (reads IsHttpDate 0 c.args.text.now c.read.result c.read.ensures)

@@ -7,12 +7,13 @@ use Rattle.forms.proofs.form.intervals.read_counted.Goals as goal
 
 pub returns-in-Ok-clause-read : goal.returns-in-Ok-clause-read
 returns-in-Ok-clause-read g c =
-    let range = c.denoted_interval_is_in_range.ensures c.args.style c.args.text.now c.in-Ok.interval c.in-Ok.ensures.found in
+    let range = c.denoted_interval_is_in_range.ensures c.args.style c.args.text.now c.in-Ok.interval c.in-Ok.ensures.answers.ok in
     let months = range.months in
     let days = range.days in
     let micros = range.microseconds in
-    reads_as (Shape c.args.style) c.args.text.now c.in-Ok.interval _ _ _ c.in-Ok.ensures.found (omega (arith, ints)) (omega (arith, ints))
+    reads_as (Shape c.args.style) c.args.text.now c.in-Ok.interval _ _ _ c.in-Ok.ensures.answers.ok (omega (arith, ints)) (omega (arith, ints))
     (omega (arith, ints))
 
 pub returns-in-Err-clause-read : goal.returns-in-Err-clause-read
-returns-in-Err-clause-read g c = reads_refused c.args.style c.args.text.now c.in-Err.cause c.in-Err.ensures.found
+returns-in-Err-clause-read g c = reads_refused c.args.style c.args.text.now c.cause_of.result
+    (c.cause_of.ensures c.args.style c.args.text.now c.in-Err.ensures.answers.err)

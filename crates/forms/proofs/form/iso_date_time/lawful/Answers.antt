@@ -10,3 +10,4 @@ returns c =
       day = c.civil_dates_are_calendar_dates.ensures.day;
       civil = c.years_and_weeks_follow_each_other.ensures.civil;
     })
+    c.texts_are_ascii.ensures.date_time

@@ -1,9 +1,9 @@
--- Answers to the goals of `value::read_value`.
+-- Answers to the goals of `value::read_bytes`.
 use Rattle.std.proofs.Common.{subst}
 use Rattle.forms.specs.Forms.{Reads}
 use Rattle.forms.specs.Values.{IsWithinBounds}
 use Rattle.forms.proofs.Lawful.{exactly_read, if_ok}
-use Rattle.forms.proofs.value.read_value.Goals as goal
+use Rattle.forms.proofs.value.read_bytes.Goals as goal
 
 pub returns-clause-answer : goal.returns-clause-answer
 returns-clause-answer c = exactly_read c.args.form (c.all_lawful.ensures c.args.form) c.args.text.now c.read.result c.read.ensures
