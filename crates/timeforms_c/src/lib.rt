@@ -20,7 +20,5 @@ pub mod reply;
 mod room;
 pub mod schedule;
 #[cfg(test)]
-mod schedule_tests;
-#[cfg(test)]
 mod tests;
 pub mod version;
