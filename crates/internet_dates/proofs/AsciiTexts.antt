@@ -1,15 +1,15 @@
 -- Texts of dates of HTTP and of mail are ASCII.
-use Rattle.std.proofs.Common.{◌≡◌, ◌⊎◌, ℕ, zero, suc, ◌-◌, ◌<◌, Bool, true, false, ℤ, List, [], ◌∷◌, ◌++◌, codes, Option}
-use Rattle.std.proofs.Common.{refl, sym, subst, inl, inr, arith}
-use Rattle.std.specs.Prelude.{nat_lt, get_or}
+use Rattle.std.proofs.Common.{◌≡◌, ◌⊎◌, ℕ, zero, suc, ◌-◌, true, ℤ, List, [], ◌∷◌, ◌++◌, codes, Option}
+use Rattle.std.proofs.Common.{refl, inl, inr, arith}
+use Rattle.std.specs.Prelude.{get_or}
 use Rattle.std.specs.List.{list_all}
 use Rattle.std.specs.Str.{IsAscii}
 use Rattle.std.proofs.lemmas.Bool.{and_parts}
 use Rattle.std.proofs.lemmas.Bool.Decides.{nat_tests}
-use Rattle.std.proofs.lemmas.Fmt.{IsAscii-from_digits}
 use Rattle.std.proofs.lemmas.Str.{IsAscii-append}
 use Rattle.scan_core.specs.Fields.{IsField}
 use Rattle.scan_core.specs.Number.{sign_text}
+use Rattle.scan_core.proofs.AsciiFacts.{field, is_small, joined, same, sign_written, small}
 use Rattle.internet_dates.specs.Fields.{IsFullClock, IsShortClock}
 use Rattle.internet_dates.specs.HttpDate.{IsAsctimeDate, IsFixdate, IsHttpDate, IsPaddedDay}
 use Rattle.internet_dates.specs.MailDate.{IsComment, IsMailDate, IsNamedFront, IsNumericZone, IsZone, is_comment_byte}
@@ -17,23 +17,6 @@ use Rattle.internet_dates.specs.Names.{IsDayName, IsMonthName, IsZoneName, day_n
 use Rattle.internet_dates.specs.declared.date_time.DateTime.{DateTime}
 
 -- ---- bytes and joins
-
-abbrev is_small : ℕ → Bool
-is_small b = nat_lt b 128
-
-small_below : (b : ℕ) → is_small b ≡ true → b < 128
-small_below b h = grind (arith, nat_tests)
-
-small : (bytes : List ℕ) → list_all is_small bytes ≡ true → IsAscii bytes
-small [] h i = omega arith
-small (b ∷ bs) h zero = small_below b (and_parts (is_small b) (list_all is_small bs) h).0
-small (b ∷ bs) h (suc i) = small bs (and_parts (is_small b) (list_all is_small bs) h).1 i
-
-same : (text piece : List ℕ) → text ≡ piece → IsAscii piece → IsAscii text
-same text piece is h = subst IsAscii (sym is) h
-
-joined : (text a b : List ℕ) → text ≡ a ++ b → IsAscii a → IsAscii b → IsAscii text
-joined text a b is h k = same text (a ++ b) is (IsAscii-append a b h k)
 
 -- a mark, and more behind it
 marked : (mark rest : List ℕ) → list_all is_small mark ≡ true → IsAscii rest → IsAscii (mark ++ rest)
@@ -59,9 +42,6 @@ zone_name_ascii : (text : List ℕ) (minutes : ℤ) → IsZoneName text minutes 
 zone_name_ascii text minutes h = same text (get_or zone_names h.0 []) h.2 (small_name zone_names refl h.0)
 
 -- ---- fields and clocks
-
-field : (count lo hi : ℕ) (text : List ℕ) (value : ℕ) → IsField count lo hi text value → IsAscii text
-field count lo hi text value h = IsAscii-from_digits text h.digits
 
 short_clock : (text : List ℕ) (hour minute second : ℕ) → IsShortClock text hour minute second → IsAscii text
 short_clock text hour minute second h =
@@ -121,13 +101,9 @@ named_front : (text : List ℕ) (named : Option ℕ) → IsNamedFront text named
 named_front text named (inl none) = same text [] none.0 (small [] refl)
 named_front text named (inr h) = joined text h.0 (codes ", ") h.4 (day_name_ascii h.0 h.1 h.2) (small (codes ", ") refl)
 
-sign : (negative : Bool) → IsAscii (sign_text negative)
-sign true = small (codes "-") refl
-sign false = small (codes "+") refl
-
 numeric_zone : (text : List ℕ) (offset : ℤ) → IsNumericZone text offset → IsAscii text
 numeric_zone text offset h =
-    joined text (sign_text h.negative) (h.hour_text ++ h.minute_text) h.joined (sign h.negative)
+    joined text (sign_text h.negative) (h.hour_text ++ h.minute_text) h.joined (sign_written h.negative)
     (IsAscii-append h.hour_text h.minute_text (field 2 0 24 h.hour_text h.hour h.hours)
     (field 2 0 59 h.minute_text h.minute h.minutes))
 

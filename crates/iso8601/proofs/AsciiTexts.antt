@@ -1,15 +1,12 @@
 -- Texts of dates, times, date-times and durations are ASCII.
-use Rattle.std.proofs.Common.{◌≡◌, ◌⊎◌, ℕ, zero, suc, ◌<◌, Bool, true, false, ℤ, List, [], ◌∷◌, ◌++◌, codes}
-use Rattle.std.proofs.Common.{refl, sym, subst, inl, inr, arith}
-use Rattle.std.specs.Prelude.{nat_lt}
+use Rattle.std.proofs.Common.{◌≡◌, ◌⊎◌, ℕ, Bool, true, false, ℤ, List, [], ◌++◌, codes}
+use Rattle.std.proofs.Common.{refl, inl, inr}
 use Rattle.std.specs.List.{list_all}
 use Rattle.std.specs.Str.{IsAscii}
-use Rattle.std.proofs.lemmas.Bool.{and_parts}
-use Rattle.std.proofs.lemmas.Bool.Decides.{nat_tests}
 use Rattle.std.proofs.lemmas.Fmt.{IsAscii-from_digits}
 use Rattle.std.proofs.lemmas.Str.{IsAscii-append}
-use Rattle.scan_core.specs.Fields.{IsField}
 use Rattle.scan_core.specs.Number.{IsSign, sign_text}
+use Rattle.scan_core.proofs.AsciiFacts.{field, is_small, joined, same, sign_written, small}
 use Rattle.iso8601.specs.Dates.{IsDate, IsMonthDay, IsWeekDay}
 use Rattle.iso8601.specs.DateTimes.{IsDateTime}
 use Rattle.iso8601.specs.Durations.{IsCount, IsCounted, IsDated, IsDecimal, IsDuration, IsDurationClock}
@@ -23,23 +20,6 @@ use Rattle.iso8601.specs.inside.GrammarParts.{IsBody, IsDayOf, IsPerhapsClock, I
 
 -- ---- bytes and joins
 
-abbrev is_small : ℕ → Bool
-is_small b = nat_lt b 128
-
-small_below : (b : ℕ) → is_small b ≡ true → b < 128
-small_below b h = grind (arith, nat_tests)
-
-small : (bytes : List ℕ) → list_all is_small bytes ≡ true → IsAscii bytes
-small [] h i = omega arith
-small (b ∷ bs) h zero = small_below b (and_parts (is_small b) (list_all is_small bs) h).0
-small (b ∷ bs) h (suc i) = small bs (and_parts (is_small b) (list_all is_small bs) h).1 i
-
-same : (text piece : List ℕ) → text ≡ piece → IsAscii piece → IsAscii text
-same text piece is h = subst IsAscii (sym is) h
-
-joined : (text a b : List ℕ) → text ≡ a ++ b → IsAscii a → IsAscii b → IsAscii text
-joined text a b is h k = same text (a ++ b) is (IsAscii-append a b h k)
-
 perhaps : (text mark : List ℕ) → list_all is_small mark ≡ true → (text ≡ []) ⊎ (text ≡ mark) → IsAscii text
 perhaps text mark h (inl none) = same text [] none (small [] refl)
 perhaps text mark h (inr is) = same text mark is (small mark h)
@@ -50,9 +30,6 @@ perhaps_zero Is all text value (inl none) = same text [] none.0 (small [] refl)
 perhaps_zero Is all text value (inr is) = all text value is
 
 -- ---- fields
-
-field : (count lo hi : ℕ) (text : List ℕ) (value : ℕ) → IsField count lo hi text value → IsAscii text
-field count lo hi text value h = IsAscii-from_digits text h.digits
 
 marked : (mark : List ℕ) (count lo hi : ℕ) → list_all is_small mark ≡ true
     → (text : List ℕ) (value : ℕ) → IsMarked mark count lo hi text value → IsAscii text
@@ -99,10 +76,6 @@ point text (inr h) = same text (codes ",") h (small (codes ",") refl)
 
 millis : (text : List ℕ) (value : ℕ) → IsMilliseconds text value → IsAscii text
 millis text value h = joined text h.point h.digits h.joined (point h.point h.mark) (IsAscii-from_digits h.digits h.all_digits)
-
-sign_written : (negative : Bool) → IsAscii (sign_text negative)
-sign_written true = small (codes "-") refl
-sign_written false = small (codes "+") refl
 
 signed_offset : (text : List ℕ) (offset : ℤ × ℤ) → IsSignedOffset text offset → IsAscii text
 signed_offset text offset h =

@@ -1,13 +1,11 @@
 -- Texts of timestamps are ASCII.
-use Rattle.std.proofs.Common.{◌≡◌, ℕ, zero, suc, ◌<◌, Bool, true, false, ℤ, List, [], ◌∷◌, ◌++◌, codes, Option, Some, None}
-use Rattle.std.proofs.Common.{refl, sym, subst, inl, inr, arith}
-use Rattle.std.specs.Prelude.{nat_lt}
+use Rattle.std.proofs.Common.{◌≡◌, ℕ, Bool, true, false, ℤ, List, [], ◌∷◌, ◌++◌, codes, Option, Some, None}
+use Rattle.std.proofs.Common.{refl, inl, inr}
 use Rattle.std.specs.List.{list_all}
 use Rattle.std.specs.Str.{IsAscii}
-use Rattle.std.proofs.lemmas.Bool.{and_parts}
-use Rattle.std.proofs.lemmas.Bool.Decides.{nat_tests}
 use Rattle.std.proofs.lemmas.Fmt.{IsAscii-from_digits}
 use Rattle.std.proofs.lemmas.Str.{IsAscii-append}
+use Rattle.scan_core.proofs.AsciiFacts.{is_small, joined, same, small}
 use Rattle.pg_timestamp.specs.Pieces.{IsMarkedPair, era_text}
 use Rattle.pg_timestamp.specs.Timestamps.{IsMicrosFraction, IsMore, IsPerhapsOffset, IsPerhapsTime, IsTimeOfDay, IsTimestampText}
 use Rattle.pg_timestamp.specs.Timestamps.{IsZoneOffset, sign_of}
@@ -15,23 +13,6 @@ use Rattle.pg_timestamp.specs.declared.time.Time.{Time}
 use Rattle.pg_timestamp.specs.declared.timestamp.Timestamp.{Timestamp}
 
 -- ---- bytes and joins
-
-abbrev is_small : ℕ → Bool
-is_small b = nat_lt b 128
-
-small_below : (b : ℕ) → is_small b ≡ true → b < 128
-small_below b h = grind (arith, nat_tests)
-
-small : (bytes : List ℕ) → list_all is_small bytes ≡ true → IsAscii bytes
-small [] h i = omega arith
-small (b ∷ bs) h zero = small_below b (and_parts (is_small b) (list_all is_small bs) h).0
-small (b ∷ bs) h (suc i) = small bs (and_parts (is_small b) (list_all is_small bs) h).1 i
-
-same : (text piece : List ℕ) → text ≡ piece → IsAscii piece → IsAscii text
-same text piece is h = subst IsAscii (sym is) h
-
-joined : (text a b : List ℕ) → text ≡ a ++ b → IsAscii a → IsAscii b → IsAscii text
-joined text a b is h k = same text (a ++ b) is (IsAscii-append a b h k)
 
 -- ---- pieces
 

@@ -1,14 +1,9 @@
 -- A text that is a date, a time or both is made of digits, letters, signs, colons, points and spaces, so it is ASCII.
-use Rattle.std.proofs.Common.{◌≡◌, ◌⊎◌, ℕ, Bool, true, false, nat_lt, List, [], ◌∷◌, ◌++◌, codes}
+use Rattle.std.proofs.Common.{◌≡◌, ◌⊎◌, ℕ, true, List, [], codes}
 use Rattle.std.proofs.Common.{Option, None, Some, refl, sym, subst, inl, inr}
 use Rattle.std.specs.List.{list_all}
 use Rattle.std.specs.Str.{IsAscii}
-use Rattle.std.proofs.lemmas.Bool.{and_parts, ltb-true}
-use Rattle.std.proofs.lemmas.Fmt.{IsAscii-from_digits}
-use Rattle.std.proofs.lemmas.Str.{IsAscii-append}
-use Rattle.std.proofs.lemmas.Str.Ascii.{IsAscii-nil, IsAscii-cons}
-use Rattle.scan_core.specs.Digits.{AreDigits}
-use Rattle.scan_core.specs.Number.{sign_text}
+use Rattle.scan_core.proofs.AsciiFacts.{Ascii, append, digits, is_small, known, sign_written}
 use Rattle.port_toml_datetime.specs.Dates.{IsFullDate}
 use Rattle.port_toml_datetime.specs.Datetimes.{IsDateAndTime, IsDatetime}
 use Rattle.port_toml_datetime.specs.Offsets.{IsTimeOffset}
@@ -18,27 +13,8 @@ use Rattle.port_toml_datetime.specs.declared.time.Time.{Time}
 use Rattle.port_toml_datetime.specs.declared.offset.Offset.{Offset}
 use Rattle.port_toml_datetime.specs.declared.datetime.Datetime.{Datetime}
 
--- the bytes are ASCII, as a record, from which the bytes can be told
-record Ascii (bytes : List ℕ) : Type 0 where
-  pub each : IsAscii bytes
-
-append : {a b : List ℕ} → Ascii a → Ascii b → Ascii (a ++ b)
-append {a} {b} h k = record { each = IsAscii-append a b h.each k.each }
-
-from_test : (bytes : List ℕ) → list_all (λ b. nat_lt b 128) bytes ≡ true → IsAscii bytes
-from_test [] h = IsAscii-nil
-from_test (b ∷ bs) h =
-    let parts = and_parts (nat_lt b 128) (list_all (λ b. nat_lt b 128) bs) h in
-    IsAscii-cons b bs (ltb-true b 128 parts.0) (from_test bs parts.1)
-
-known : (bytes : List ℕ) → list_all (λ b. nat_lt b 128) bytes ≡ true → Ascii bytes
-known bytes h = record { each = from_test bytes h }
-
-same : (text bytes : List ℕ) → text ≡ bytes → list_all (λ b. nat_lt b 128) bytes ≡ true → Ascii text
+same : (text bytes : List ℕ) → text ≡ bytes → list_all is_small bytes ≡ true → Ascii text
 same text bytes is h = subst Ascii (sym is) (known bytes h)
-
-digits : (bytes : List ℕ) → AreDigits bytes → Ascii bytes
-digits bytes h = record { each = IsAscii-from_digits bytes h }
 
 -- ---- the parts of a date-time
 
@@ -66,16 +42,12 @@ time_is text time h =
     let minutes = append (digits h.minute_text h.minutes.digits) seconds in
     subst Ascii (sym h.joined) (append (digits h.hour_text h.hours.digits) (append (known (codes ":") refl) minutes))
 
-sign_is : (negative : Bool) → Ascii (sign_text negative)
-sign_is true = known (codes "-") refl
-sign_is false = known (codes "+") refl
-
 offset_is : (text : List ℕ) (offset : Offset) → IsTimeOffset text offset → Ascii text
 offset_is text offset (inl (inl h, is)) = same text (codes "Z") h refl
 offset_is text offset (inl (inr h, is)) = same text (codes "z") h refl
 offset_is text offset (inr h) =
     let behind = append (known (codes ":") refl) (digits h.minute_text h.minutes.digits) in
-    subst Ascii (sym h.joined) (append (sign_is h.negative) (append (digits h.hour_text h.hours.digits) behind))
+    subst Ascii (sym h.joined) (append (record { each = sign_written h.negative }) (append (digits h.hour_text h.hours.digits) behind))
 
 delimiter_is : (text : List ℕ) → (text ≡ codes "T") ⊎ ((text ≡ codes "t") ⊎ (text ≡ codes " ")) → Ascii text
 delimiter_is text (inl h) = same text (codes "T") h refl

@@ -1,5 +1,6 @@
 -- Lemmas by subject.
 pub mod Joins
+pub mod AsciiFacts
 pub mod DigitFacts
 pub mod FrontFacts
 pub mod RoundingFacts

@@ -1,35 +1,11 @@
 -- A text that is a duration is made of digits, letters, points and minuses, so it is ASCII.
-use Rattle.std.proofs.Common.{◌≡◌, ℕ, Bool, true, false, nat_lt, List, [], ◌∷◌, ◌++◌, codes, refl, sym, subst}
-use Rattle.std.specs.List.{list_all}
+use Rattle.std.proofs.Common.{ℕ, Bool, true, false, List, [], ◌∷◌, ◌++◌, codes, refl, sym, subst}
 use Rattle.std.specs.Str.{IsAscii}
-use Rattle.std.proofs.lemmas.Bool.{and_parts, ltb-true}
-use Rattle.std.proofs.lemmas.Fmt.{IsAscii-from_digits}
-use Rattle.std.proofs.lemmas.Str.{IsAscii-append}
-use Rattle.std.proofs.lemmas.Str.Ascii.{IsAscii-nil, IsAscii-cons}
 use Rattle.scan_core.specs.Count.{Count}
-use Rattle.scan_core.specs.Digits.{AreDigits}
 use Rattle.scan_core.specs.Number.{minus}
+use Rattle.scan_core.proofs.AsciiFacts.{Ascii, append, digits, known}
 use Rattle.xsd_duration.specs.Durations.{Spelling, IsSpelling, SpellsDuration, spelling_text}
 use Rattle.xsd_duration.specs.Durations.{lettered_text, marked_text, date_counts_text, time_counts_text}
-
--- the bytes are ASCII, as a record, from which the bytes can be told
-record Ascii (bytes : List ℕ) : Type 0 where
-  pub each : IsAscii bytes
-
-append : {a b : List ℕ} → Ascii a → Ascii b → Ascii (a ++ b)
-append {a} {b} h k = record { each = IsAscii-append a b h.each k.each }
-
-from_test : (bytes : List ℕ) → list_all (λ b. nat_lt b 128) bytes ≡ true → IsAscii bytes
-from_test [] h = IsAscii-nil
-from_test (b ∷ bs) h =
-    let parts = and_parts (nat_lt b 128) (list_all (λ b. nat_lt b 128) bs) h in
-    IsAscii-cons b bs (ltb-true b 128 parts.0) (from_test bs parts.1)
-
-known : (bytes : List ℕ) → list_all (λ b. nat_lt b 128) bytes ≡ true → Ascii bytes
-known bytes h = record { each = from_test bytes h }
-
-digits : (bytes : List ℕ) → AreDigits bytes → Ascii bytes
-digits bytes h = record { each = IsAscii-from_digits bytes h }
 
 -- ---- the parts of a duration
 
