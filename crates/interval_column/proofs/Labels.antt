@@ -1,7 +1,6 @@
 -- Names in front of texts. Names have no space, so a whole has one name and one text at most.
 use Rattle.std.proofs.Common.{◌≡◌, ◌==◌, ◌&&◌, ℕ, Bool, true, false, not, List, [], ◌∷◌, ◌++◌, codes, Some, None, Option, cond, refl, sym}
-use Rattle.std.proofs.Common.{◌∙◌, ap, subst, inl, inr, true≢false, arith, append-nil}
-use Rattle.std.specs.List.{list_all}
+use Rattle.std.proofs.Common.{◌∙◌, ap, subst, inl, inr, true≢false, arith}
 use Rattle.std.specs.Str.{bytes_eq}
 use Rattle.std.specs.Option.{IfNone}
 use Rattle.std.proofs.lemmas.Bool.Decides.{nat_tests}
@@ -10,7 +9,7 @@ use Rattle.pg_interval_2.specs.declared.style.Style.TheVariants as style
 use Rattle.forms.specs.Names.{name_of, style_of}
 use Rattle.forms.specs.declared.form.Form.{Form}
 use Rattle.forms.specs.declared.form.Form.TheVariants.{FileTime, PgIso, Postgres, PgVerbose, PgSql, IsoStrict}
-use Rattle.whole_input.specs.Parts.{HasNo, IsSplitAt}
+use Rattle.whole_input.specs.Parts.{HasNo}
 use Rattle.interval_column.specs.Lines.{IsEntry, IsLabelled}
 use Rattle.interval_column.specs.inside.Labels.{IsStyled, IsNotStyled, IsNoEntry}
 

@@ -1,5 +1,5 @@
 -- Lines that are read one by one have one list of intervals, or one first fault.
-use Rattle.std.proofs.Common.{◌≡◌, ℕ, suc, ◌+◌, List, [], ◌∷◌, ◌++◌, length, Result, Ok, Err, refl, sym, ◌∙◌, ap, subst, inl, inr, arith}
+use Rattle.std.proofs.Common.{◌≡◌, ℕ, suc, ◌+◌, List, [], ◌∷◌, ◌++◌, length, Result, Ok, Err, refl, sym, ◌∙◌, ap, subst, arith}
 use Rattle.whole_input.specs.Numbered.{AreRead, IsFirstFault}
 use Rattle.pg_interval_2.specs.declared.interval.Interval.{Interval}
 use Rattle.interval_column.specs.declared.fault.LineFault.{LineFault}

@@ -1,6 +1,6 @@
 -- Intervals have one order.
-use Rattle.std.proofs.Common.{◌≡◌, ℕ, zero, suc, ◌+◌, ◌<◌, ◌≤◌, cond, true, false, true≢false, List, [], ◌∷◌, length, get_or, sum_by}
-use Rattle.std.proofs.Common.{Ordering, is_lt, Less, Equal, Greater, IsPermutation, IsSorted, refl, sym, ◌∙◌, ap, subst, arith}
+use Rattle.std.proofs.Common.{◌≡◌, ℕ, suc, ◌<◌, ◌≤◌, cond, false, true≢false, List, [], ◌∷◌, length, get_or, sum_by}
+use Rattle.std.proofs.Common.{Ordering, is_lt, Less, Equal, Greater, IsSorted, refl, sym, ◌∙◌, ap, arith}
 use Rattle.std.specs.Ordering.{is_eq, ordering_reverse}
 use Rattle.std.proofs.lemmas.List.Sums.{sum_by-cons}
 use Rattle.std.proofs.lemmas.List.Sorted.{sorted_far, ranks_by, sum_by-IsPermutation}

@@ -1,6 +1,6 @@
 -- Intervals with their keys, and the intervals alone.
-use Rattle.std.proofs.Common.{◌≡◌, ◌⊎◌, ℕ, zero, suc, ◌+◌, ◌<◌, List, [], ◌∷◌, ◌++◌, length, map, get_or, is_lt, false, IsPermutation}
-use Rattle.std.proofs.Common.{IsSorted, Result, Ok, Err, refl, sym, ◌∙◌, ap, subst, arith}
+use Rattle.std.proofs.Common.{ℕ, ◌+◌, List, [], ◌∷◌, is_lt, IsPermutation}
+use Rattle.std.proofs.Common.{IsSorted, refl, ap, arith}
 use Rattle.std.specs.List.Sorted.{IsSortedBy}
 use Rattle.std.specs.declared.cmp.Ordering.{Ordering}
 use Rattle.std.proofs.lemmas.List.{get_or-map, length-map}
@@ -12,7 +12,7 @@ use Rattle.interval_column.specs.declared.ranked.Ranked.{Ranked}
 use Rattle.forms.specs.Lines.{lines}
 use Rattle.interval_column.specs.Columns.{IsColumn}
 use Rattle.interval_column.specs.Readings.{IsColumnOf}
-use Rattle.interval_column.specs.Lines.{IsRead, IsLineRead}
+use Rattle.interval_column.specs.Lines.{IsRead}
 use Rattle.interval_column.specs.Order.{order_of, key_of}
 use Rattle.interval_column.specs.inside.Ranks.{intervals_of, IsRankRead}
 

@@ -1,5 +1,5 @@
 -- Two conditions hold together exactly where what they stand for does.
-use Rattle.std.proofs.Common.{◌≡◌, ◌&&◌, Bool, true, false, refl}
+use Rattle.std.proofs.Common.{◌&&◌, Bool, true, false, refl}
 use Rattle.std.specs.Prelude.{◌↔◌, IsTrue}
 
 both_true : (x y : Bool) → IsTrue (x && y) → IsTrue x × IsTrue y

@@ -9,7 +9,6 @@ use Rattle.scan_core.proofs.PaddedFacts.{padded_field}
 use Rattle.iso8601.specs.Fields.{IsYear, IsMarked}
 use Rattle.iso8601.specs.Times.{IsMilliseconds}
 use Rattle.iso8601.specs.Written.{year_text}
-use Rattle.scan_core.specs.Number.{minus}
 use Rattle.scan_core.proofs.Signs.{is_negative-pos}
 
 pub marked_spelled : (mark : List ℕ) (count lo hi n : ℕ) → 0 < count → n < 10 ^ count → n < 2 ^ 64 → lo ≤ n → n ≤ hi

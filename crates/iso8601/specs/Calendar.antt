@@ -1,6 +1,6 @@
 -- The days of dates in the proleptic Gregorian calendar and in its weeks (ISO 8601-1:2019, 4.2 and 5.2; RFC 3339,
 -- appendix C), numbered from 1970-01-01. Years are whole numbers without bounds; the year before 1 is 0.
-use Rattle.std.specs.Prelude.{◌≡◌, ℕ, zero, suc, ◌+◌, ◌-◌, ◌≤◌, ℤ, pos, neg_ℤ, unsigned_abs, ◌+ℤ◌, ◌-ℤ◌, ◌*ℤ◌, ◌<ℤ◌, ◌≤ℤ◌, if◌then◌else◌}
+use Rattle.std.specs.Prelude.{◌≡◌, ℕ, zero, suc, ◌+◌, ◌-◌, ◌≤◌, ℤ, pos, neg_ℤ, ◌+ℤ◌, ◌-ℤ◌, ◌*ℤ◌, ◌<ℤ◌, ◌≤ℤ◌, if◌then◌else◌}
 use Rattle.std.specs.Int.{int_div_euclid, int_rem_euclid}
 use Rattle.scan_core.specs.Calendar.{is_leap_year, days_in_month}
 use Rattle.iso8601.specs.declared.types.Date.{Date}

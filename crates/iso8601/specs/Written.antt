@@ -1,7 +1,7 @@
 -- The texts that are written of dates, times and date-times, in the extended format of ISO 8601-1:2019, 5.2 to 5.4:
 -- `2015-06-26T16:43:16.123+02:00`. Every value of the fields has one; fields that a clock or a calendar lacks are
 -- written with as many digits as they have.
-use Rattle.std.specs.Prelude.{ℕ, ℤ, neg_ℤ, unsigned_abs, Bool, ◌||◌, List, [], ◌++◌, codes, if◌then◌else◌}
+use Rattle.std.specs.Prelude.{ℕ, ℤ, neg_ℤ, unsigned_abs, ◌||◌, List, ◌++◌, codes, if◌then◌else◌}
 use Rattle.std.specs.Int.{is_negative}
 use Rattle.scan_core.specs.Number.{minus}
 use Rattle.scan_core.specs.Padded.{padded_digits}

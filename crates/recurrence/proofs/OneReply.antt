@@ -1,19 +1,15 @@
 -- A line has one reply.
-use Rattle.std.proofs.Common.{◌≡◌, ◌⊎◌, inl, inr, ℕ, ◌<◌, ◌≤◌, true, List, [], ◌++◌, codes, ℤ, Option, Some, None, Result, Ok, Err, IsTrue}
-use Rattle.std.proofs.Common.{refl, sym, ◌∙◌, ap, ap₂, subst, true≢false, arith}
-use Rattle.std.specs.Result.{is_ok}
+use Rattle.std.proofs.Common.{◌≡◌, inl, inr, ℕ, List, [], ◌++◌, codes, ℤ, Option, Result, Ok, Err}
+use Rattle.std.proofs.Common.{sym, ◌∙◌, ap, ap₂, subst, arith}
 use Rattle.scan_core.specs.Digits.{number_of}
 use Rattle.scan_core.specs.Join.{IsJoin}
 use Rattle.pg_interval_2.specs.declared.interval.Interval.{Interval}
 use Rattle.pg_interval_2.specs.declared.style.Style.TheVariants.{Iso}
-use Rattle.forms.specs.Forms.{Reads, Writes}
-use Rattle.forms.specs.Names.{cause_name}
 use Rattle.forms.specs.declared.cause.Cause.{Cause}
 use Rattle.forms.specs.declared.form.Form.TheVariants.{IsoDateTime}
 use Rattle.forms.specs.declared.value.Value.{Value}
 use Rattle.forms.specs.declared.value.Value.TheVariants.{Instant, Day, Local, Clock, Triple, Length}
-use Rattle.recurrence.specs.Requests.{IsRequest}
-use Rattle.recurrence.specs.Replies.{refusal, stop_text, IsInstantLine, IsSeriesReply, IsWholeMillis, IsStepReply, IsLengthReply}
+use Rattle.recurrence.specs.Replies.{stop_text, IsInstantLine, IsSeriesReply, IsStepReply, IsLengthReply}
 use Rattle.recurrence.specs.Replies.{IsStartReply, IsCountReply, IsReply, AreReplies}
 use Rattle.recurrence.specs.inside.OneReply.{AreOne}
 use Rattle.recurrence.proofs.Asking.{one_request}

@@ -1,11 +1,11 @@
 -- The output of all lines, from what was put of it.
-use Rattle.std.proofs.Common.{◌≡◌, ℕ, List, [], Option, refl}
+use Rattle.std.proofs.Common.{ℕ, List, [], Option, refl}
 use Rattle.std.specs.Io.KnownBytes.{Appends}
 use Rattle.scan_core.specs.Join.{IsJoin}
 use Rattle.forms.specs.Lines.{lines}
 use Rattle.forms.specs.Outside.{AppendsFront}
 use Rattle.whole_input.specs.Outcomes.{GainsAll, GainsPart}
-use Rattle.recurrence.specs.Replies.{AreReplies, Expands, IsReply}
+use Rattle.recurrence.specs.Replies.{Expands, IsReply}
 use Rattle.recurrence.specs.inside.Waiting.{KeepOrder, Puts, Fails}
 
 -- all was put, and what waits is written

@@ -1,5 +1,5 @@
 -- The instant that the code computes is the one of the definition, and there is no other.
-use Rattle.std.proofs.Common.{◌≡◌, inl, inr, ℕ, ◌+◌, ◌-◌, ◌<◌, ◌≤◌, min, Bool, true, false, ℤ, pos, ◌+ℤ◌, ◌*ℤ◌, unsigned_abs, Option, Some}
+use Rattle.std.proofs.Common.{◌≡◌, inl, inr, ℕ, ◌-◌, ◌≤◌, Bool, true, false, ℤ, pos, ◌+ℤ◌, ◌*ℤ◌, Option, Some}
 use Rattle.std.proofs.Common.{None, refl, sym, ap, subst, true≢false, ◌∙◌, arith}
 use Rattle.std.specs.Prelude.{IsSome, IfSome, ◌↔◌}
 use Rattle.std.proofs.lemmas.Int.{ints}

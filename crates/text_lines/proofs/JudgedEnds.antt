@@ -1,13 +1,13 @@
 -- How runs over lines that are answered or refused end.
-use Rattle.std.proofs.Common.{◌≡◌, ◌⊎◌, ◌||◌, ℕ, ◌+◌, ◌<◌, ◌≤◌, Bool, true, false, List, [], ◌∷◌, ◌++◌, length, take, drop, Option, Some}
+use Rattle.std.proofs.Common.{◌≡◌, ◌⊎◌, ◌||◌, ℕ, ◌+◌, ◌≤◌, Bool, true, false, List, [], ◌++◌, length, take, drop, Option, Some}
 use Rattle.std.proofs.Common.{None, IfSome, refl, sym, ◌∙◌, ap, subst, inl, inr, ⊎_elim, append_assoc, take-append-drop, arith}
 use Rattle.std.proofs.KnownBytes.{Consumes-whole, Consumes-nil}
 use Rattle.std.proofs.lemmas.List.{length-append}
-use Rattle.std.specs.Io.KnownBytes.{Consumes, IsAtEnd}
+use Rattle.std.specs.Io.KnownBytes.{Consumes}
 use Rattle.forms.specs.Lines.{lines, whole_lines}
-use Rattle.forms.specs.Outside.{Rose, Gives}
+use Rattle.forms.specs.Outside.{Rose}
 use Rattle.forms.specs.Ends.{Streams}
-use Rattle.forms.specs.Outputs.{cut, AreOutputs, GainsOutputs, GainsOutputsFront, StandsBy, EndedBy}
+use Rattle.forms.specs.Outputs.{cut, GainsOutputs, GainsOutputsFront, StandsBy, EndedBy}
 use Rattle.forms.specs.declared.form.Form.{Form}
 use Rattle.forms.specs.declared.run_end.RunEnd.{RunEnd}
 use Rattle.forms.specs.declared.run_end.RunEnd.TheVariants.{Done, ReadFault, WriteFault, TooLong, NoMemory}
@@ -16,7 +16,7 @@ use Rattle.text_lines.specs.declared.columns.Columns.{Columns}
 use Rattle.text_lines.specs.declared.place.Place.{Place}
 use Rattle.text_lines.specs.declared.place.Place.TheVariants.{Whole}
 use Rattle.text_lines.specs.Outputs.{line_limit, IsOutput}
-use Rattle.text_lines.specs.Ends.{no_limit, AreJudged, GainsJudged, GainsJudgedFront, IsFrontOfJudged, JudgedStand, JudgedEnded}
+use Rattle.text_lines.specs.Ends.{no_limit, AreJudged, GainsJudged, GainsJudgedFront, JudgedStand, JudgedEnded}
 use Rattle.text_lines.specs.Ends.{judged_status, AnswersAll, MeansLines}
 use Rattle.text_lines.specs.Answering.{SaysText, SaysColumn}
 use Rattle.text_lines.proofs.WeakerOutputs.{ended_weaker}

@@ -1,11 +1,10 @@
 -- The parts of a line, and its output by them.
-use Rattle.std.proofs.Common.{◌≡◌, ◌⊎◌, ℕ, zero, suc, ◌+◌, ◌<◌, ◌≤◌, Bool, true, false, List, [], ◌∷◌, ◌++◌, codes, length, take, drop}
-use Rattle.std.proofs.Common.{refl, sym, ◌∙◌, ap, subst, inl, inr, length-append, append_assoc, append-nil, arith}
+use Rattle.std.proofs.Common.{◌≡◌, ℕ, zero, suc, ◌+◌, ◌<◌, ◌≤◌, Bool, true, false, List, [], ◌++◌, codes, length, take, drop}
+use Rattle.std.proofs.Common.{refl, sym, ◌∙◌, ap, inl, inr, length-append, append_assoc, append-nil, arith}
 use Rattle.std.proofs.lemmas.List.{take_at, drop_at}
 use Rattle.forms.specs.declared.form.Form.{Form}
 use Rattle.text_lines.specs.declared.place.Place.{Place}
 use Rattle.text_lines.specs.declared.place.Place.TheVariants.{Whole, Field, Word}
-use Rattle.text_lines.specs.Fields.{IsField}
 use Rattle.text_lines.specs.Spaced.{IsFirstWord, IsWord}
 use Rattle.text_lines.specs.Places.{IsPlace, HasNoPlace}
 use Rattle.forms.specs.TextReplies.{IsTextReply}

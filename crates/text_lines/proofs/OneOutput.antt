@@ -1,19 +1,18 @@
 -- A line has one output: one body, one text at a place, and one reply to it.
-use Rattle.std.proofs.Common.{◌≡◌, ◌⊎◌, ◌||◌, ℕ, zero, suc, ◌+◌, ◌<◌, ◌≤◌, Bool, true, false, List, [], ◌∷◌, ◌++◌, codes, length, Result}
+use Rattle.std.proofs.Common.{◌≡◌, ◌⊎◌, ◌||◌, ℕ, zero, suc, Bool, true, false, List, [], ◌∷◌, ◌++◌, codes, Result}
 use Rattle.std.proofs.Common.{refl, sym, ◌∙◌, ap, subst, inl, inr, append_assoc, append-nil, arith}
 use Rattle.std.proofs.lemmas.List.{append_cancel_left, append_cancel_right}
-use Rattle.std.specs.Prelude.{IsUtf8}
-use Rattle.whole_input.specs.Parts.{HasNo, IsSplitAt}
+use Rattle.whole_input.specs.Parts.{HasNo}
 use Rattle.forms.specs.declared.form.Form.{Form}
 use Rattle.forms.specs.declared.cause.Cause.{Cause}
 use Rattle.forms.specs.Replies.{IsAnswer, answer_text, is_refusal}
 use Rattle.text_lines.specs.declared.place.Place.{Place}
 use Rattle.text_lines.specs.declared.place.Place.TheVariants.{Whole, Field, Word}
 use Rattle.text_lines.specs.Fields.{AreTabbed, IsTabEnd, IsField}
-use Rattle.text_lines.specs.Spaced.{IsFirstWord, IsWord}
-use Rattle.text_lines.specs.Places.{IsPlace, HasNoPlace}
+use Rattle.text_lines.specs.Spaced.{IsWord}
+use Rattle.text_lines.specs.Places.{IsPlace}
 use Rattle.forms.specs.TextReplies.{IsTextReply}
-use Rattle.text_lines.specs.Outputs.{line_limit, mark, IsBehindMark, IsBeforeEnd, HasBody, RefusesLine, AnswersInPlace, AnswersLine}
+use Rattle.text_lines.specs.Outputs.{mark, IsBehindMark, IsBeforeEnd, HasBody, RefusesLine, AnswersInPlace, AnswersLine}
 use Rattle.text_lines.specs.Outputs.{IsOutput}
 use Rattle.text_lines.specs.Ends.{AreJudged}
 use Rattle.text_lines.proofs.FieldPlaces.{no_split, split_same, split_front}

@@ -1,5 +1,5 @@
 -- Outputs by one relation are outputs by a weaker one.
-use Rattle.std.proofs.Common.{◌≡◌, ◌⊎◌, ℕ, List, [], ◌∷◌, ◌++◌, Option, inl, inr, ⊎_elim}
+use Rattle.std.proofs.Common.{ℕ, List, [], ◌∷◌, ◌++◌, Option, inl, inr, ⊎_elim}
 use Rattle.forms.specs.Ends.{Streams}
 use Rattle.forms.specs.Outputs.{AreOutputs, GainsOutputs, GainsOutputsFront, StandsBy, EndedBy}
 use Rattle.forms.specs.declared.run_end.RunEnd.{RunEnd}

@@ -1,11 +1,9 @@
 -- What the words of a command line ask for: two names of forms, and then nothing, a place of lines, or a text.
-use Rattle.std.specs.Prelude.{◌≡◌, ◌⊎◌, ℕ, ◌+◌, ◌^◌, ◌<◌, List, [], ◌∷◌, ◌++◌, codes, decimal, drop}
+use Rattle.std.specs.Prelude.{◌≡◌, ◌⊎◌, ℕ, ◌+◌, ◌^◌, ◌<◌, List, ◌∷◌, ◌++◌, codes, decimal}
 use Rattle.forms.specs.declared.form.Form.{Form}
 use Rattle.forms.specs.Names.{name_of}
 use Rattle.text_lines.specs.declared.place.Place.{Place}
 use Rattle.text_lines.specs.declared.place.Place.TheVariants.{Whole, Field, Word}
-use Rattle.text_lines.specs.declared.asked.Asked.{Asked}
-use Rattle.text_lines.specs.declared.asked.Asked.TheVariants.{Lines, Text, Nothing}
 
 -- two names of forms
 abbrev pub names : Form → Form → List ℕ

@@ -1,5 +1,5 @@
 -- Parts of the grammars by names that private contracts alone cite.
-use Rattle.std.specs.Prelude.{◌≡◌, ℕ, ℤ, ◌⊎◌, List, [], ◌++◌, codes}
+use Rattle.std.specs.Prelude.{◌≡◌, ℕ, ℤ, ◌⊎◌, List, [], codes}
 use Rattle.scan_core.specs.Fields.{IsField}
 use Rattle.iso8601.specs.Dates.{IsMonthDay, IsWeekDay}
 use Rattle.iso8601.specs.Durations.{IsDurationClock, IsCount, IsCounted, IsDated, IsDecimal}

@@ -1,5 +1,5 @@
 -- Answers to the goals of `output::put_column`.
-use Rattle.std.proofs.Common.{◌++◌, List, ℕ, sym, ◌∙◌, ap}
+use Rattle.std.proofs.Common.{sym, ◌∙◌}
 use Rattle.std.proofs.lemmas.Result.{on_ok_weaker, on_err_weaker}
 use Rattle.interval_column.specs.inside.Ranks.{intervals_of}
 use Rattle.interval_column.proofs.Putting.{on_err, front_of_longer, moves_as, fails_as}

@@ -1,7 +1,6 @@
 -- The invariant of the loop of `output::put_intervals`.
 use Rattle.std.proofs.Common.{◌≤◌, []}
 use Rattle.interval_column.specs.Output.{interval_line}
-use Rattle.interval_column.specs.inside.Ranks.{intervals_of}
 use Rattle.interval_column.specs.declared.ranked.Ranked.{Ranked}
 use Rattle.interval_column.proofs.Putting.{ArePut}
 use Rattle.interval_column.proofs.output.put_intervals.Given as goal

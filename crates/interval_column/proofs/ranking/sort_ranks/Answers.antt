@@ -1,7 +1,6 @@
 -- Answers to the goals of `ranking::sort_ranks`.
 use Rattle.std.proofs.Common.{rules}
 use Rattle.std.proofs.lemmas.List.Sorted.{answers_always, ranks_by}
-use Rattle.interval_column.specs.declared.ranked.Ranked.{Ranked}
 use Rattle.interval_column.proofs.Total.{order_total}
 use Rattle.interval_column.proofs.Ranks.{interval_of, ranks_column}
 use Rattle.interval_column.proofs.ranking.sort_ranks.Goals as goal

@@ -1,5 +1,5 @@
 -- Answers to the goals of `summary::summary`.
-use Rattle.std.proofs.Common.{◌++◌, List, ℕ, length, sym, ◌∙◌, ap}
+use Rattle.std.proofs.Common.{◌++◌, List, ℕ, sym, ◌∙◌, ap}
 use Rattle.std.specs.Prelude.{Option}
 use Rattle.pg_interval_2.specs.declared.interval.Interval.{Interval}
 use Rattle.interval_column.specs.Output.{sum_line}

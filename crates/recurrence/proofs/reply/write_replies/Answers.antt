@@ -1,9 +1,9 @@
 -- Answers to the goals of `reply::write_replies`.
-use Rattle.std.proofs.Common.{◌≡◌, List, ℕ, [], refl, sym, ap, subst, arith}
+use Rattle.std.proofs.Common.{[], ap, arith}
 use Rattle.std.proofs.lemmas.Result.{on_ok_weaker, on_err_weaker}
 use Rattle.forms.specs.Lines.{lines}
 use Rattle.recurrence.specs.Replies.{IsReply}
-use Rattle.recurrence.proofs.Joined.{IsSoFar, none_yet, one_more, all_put, fails_at}
+use Rattle.recurrence.proofs.Joined.{none_yet, one_more, all_put, fails_at}
 use Rattle.recurrence.proofs.Outputs.{all_written, front_written, part_written}
 use Rattle.recurrence.proofs.reply.write_replies.Goals as goal
 

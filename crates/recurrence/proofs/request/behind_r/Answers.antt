@@ -1,5 +1,5 @@
 -- Answers to the goals of `request::behind_r`.
-use Rattle.std.proofs.Common.{List, ℕ, arith}
+use Rattle.std.proofs.Common.{arith}
 use Rattle.std.specs.Option.{MatchOption, IfNone}
 use Rattle.std.proofs.lemmas.Str.Pattern.{strip_prefix_char}
 use Rattle.std.specs.Prelude.{Option, Some, None}

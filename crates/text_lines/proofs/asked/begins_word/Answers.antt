@@ -1,5 +1,5 @@
 -- Answers to the goals of `asked::begins_word`.
-use Rattle.std.proofs.Common.{◌≡◌, ◌++◌, ◌∷◌, List, ℕ, inl, inr, sym, ◌∙◌, ap}
+use Rattle.std.proofs.Common.{◌++◌, ◌∷◌, List, ℕ, inl, inr, ◌∙◌, ap}
 use Rattle.text_lines.proofs.AskedWords.{word_before, word_alone}
 use Rattle.text_lines.proofs.asked.begins_word.Goals as goal
 

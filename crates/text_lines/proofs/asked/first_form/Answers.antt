@@ -1,6 +1,5 @@
 -- Answers to the goals of `asked::first_form`.
-use Rattle.std.proofs.Common.{◌≡◌, None, Some, Option, sym, ◌∙◌}
-use Rattle.forms.specs.declared.form.Form.{Form}
+use Rattle.std.proofs.Common.{◌≡◌, None, Some, sym}
 use Rattle.text_lines.proofs.AskedWords.{form_before}
 use Rattle.text_lines.proofs.asked.first_form.Goals as goal
 

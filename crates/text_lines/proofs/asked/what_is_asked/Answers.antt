@@ -1,12 +1,6 @@
 -- Answers to the goals of `asked::what_is_asked`.
-use Rattle.std.proofs.Common.{◌≡◌, ◌≤◌, List, ℕ, Some, None, Option, length, drop, sym, ◌∙◌, ap, subst, refl}
-use Rattle.forms.specs.declared.form.Form.{Form}
-use Rattle.text_lines.specs.declared.place.Place.{Place}
+use Rattle.std.proofs.Common.{refl}
 use Rattle.text_lines.specs.declared.place.Place.TheVariants.{Whole}
-use Rattle.text_lines.specs.declared.asked.Asked.{Asked}
-use Rattle.text_lines.specs.declared.asked.Asked.TheVariants.{Lines, Text, Nothing}
-use Rattle.text_lines.specs.Asked.{AskLines, AskText}
-use Rattle.text_lines.specs.inside.Words.{AreForms, IsPlaceText}
 use Rattle.text_lines.proofs.AskedWords.{read_lines_are, read_text_is, read_text_only, read_nothing, alone_lines_are, alone_text_only}
 use Rattle.text_lines.proofs.AskedWords.{lines_no_text, text_not_nothing, alone_nothing, none_lines_are, none_text_only, none_nothing}
 use Rattle.text_lines.proofs.asked.what_is_asked.Goals as goal

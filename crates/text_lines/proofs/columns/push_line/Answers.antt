@@ -1,8 +1,7 @@
 -- Answers to the goals of `columns::push_line`.
-use Rattle.std.proofs.Common.{◌≡◌, ◌+◌, ◌≤◌, ◌++◌, List, ℕ, codes, length, take, drop, refl, sym, ◌∙◌, ap, subst, rules, arith}
-use Rattle.std.proofs.Common.{append_assoc}
-use Rattle.std.proofs.lemmas.List.{length-take-le, take_rest}
-use Rattle.text_lines.specs.Outputs.{line_limit, IsBeforeEnd}
+use Rattle.std.proofs.Common.{◌≡◌, ◌+◌, ◌++◌, List, ℕ, codes, length, sym, ◌∙◌, ap, subst, rules}
+use Rattle.std.proofs.lemmas.List.{length-take-le}
+use Rattle.text_lines.specs.Outputs.{IsBeforeEnd}
 use Rattle.text_lines.proofs.LineParts.{refused_whole, answered_there, around, around_sizes, front_there, back_there, put_around}
 use Rattle.text_lines.proofs.OneOutput.{one_end}
 use Rattle.text_lines.proofs.columns.push_line.Goals as goal

@@ -1,7 +1,6 @@
 -- Answers to the goals of `command::top`.
 use Rattle.std.proofs.Common.{◌≡◌, ℕ, List, drop, sym, ◌∙◌, ap, subst}
 use Rattle.forms.specs.declared.form.Form.{Form}
-use Rattle.text_lines.specs.declared.asked.Asked.{Asked}
 use Rattle.text_lines.specs.declared.asked.Asked.TheVariants.{Text}
 use Rattle.text_lines.specs.Ends.{TextEnded}
 use Rattle.text_lines.proofs.command.top.Goals as goal

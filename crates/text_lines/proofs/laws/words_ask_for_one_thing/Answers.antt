@@ -1,6 +1,5 @@
 -- Answers to the goals of `laws::words_ask_for_one_thing`.
-use Rattle.std.proofs.Common.{◌≡◌, ℕ, List, drop, sym, ◌∙◌, ap}
-use Rattle.text_lines.specs.declared.asked.Asked.{Asked}
+use Rattle.std.proofs.Common.{◌≡◌, ℕ, drop, sym, ◌∙◌, ap}
 use Rattle.text_lines.specs.declared.asked.Asked.TheVariants.{Lines, Text}
 use Rattle.text_lines.proofs.laws.words_ask_for_one_thing.Goals as goal
 

@@ -1,10 +1,10 @@
 -- Answers to the goals of `spaced::word_at`.
-use Rattle.std.proofs.Common.{◌≡◌, ◌+◌, ◌^◌, ◌<◌, ◌≤◌, ◌++◌, ℕ, List, [], length, take, drop, refl, sym, ◌∙◌, ap, subst, length-append}
+use Rattle.std.proofs.Common.{◌≡◌, ◌+◌, ◌^◌, ◌<◌, ◌≤◌, ◌++◌, ℕ, List, length, refl, sym, ◌∙◌, ap, subst, length-append}
 use Rattle.std.proofs.Common.{length-drop, rules, arith}
 use Rattle.std.proofs.lemmas.List.{length-take-le}
 use Rattle.std.proofs.lemmas.Bool.Decides.{nat_tests}
 use Rattle.text_lines.specs.Spaced.{IsWord}
-use Rattle.text_lines.proofs.SpacedPlaces.{Leads, Comes, leads_on, comes_on, dropped_so, taken_gap, no_word}
+use Rattle.text_lines.proofs.SpacedPlaces.{leads_on, comes_on, dropped_so, taken_gap, no_word}
 use Rattle.text_lines.proofs.spaced.word_at.Goals as goal
 
 pub loop-gap-init : goal.loop-gap-init

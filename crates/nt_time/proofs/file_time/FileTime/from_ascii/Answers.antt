@@ -1,5 +1,5 @@
 -- Answers to the goals of `file_time::FileTime::from_ascii`.
-use Rattle.std.proofs.Common.{◌≡◌, ◌^◌, ◌<◌, ◌≤◌, true, false, ap, refl, sym, subst, ◌∙◌, ⊎_elim}
+use Rattle.std.proofs.Common.{◌≡◌, ◌^◌, ◌≤◌, true, false, ap, refl, subst, ◌∙◌, ⊎_elim}
 use Rattle.std.proofs.lemmas.Bool.{cases_lt}
 use Rattle.std.specs.Str.Parse.{IsNumeral, digits_value, without_leading_plus}
 use Rattle.nt_time.proofs.TextLemmas.{read_ok, read_overflow}
